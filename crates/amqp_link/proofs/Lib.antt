@@ -1,0 +1,6 @@
+pub mod DeliveryLemmas
+pub mod ProgressLemmas
+pub mod RunLemmas
+pub mod SendLemmas
+pub mod WireLemmas
+pub mod WorldLemmas

@@ -1,0 +1,64 @@
+-- The world of a pair: a sender's end, what the receiver's end holds of each delivery, and the wire
+-- from the one to the other (OASIS AMQP 1.0 core, 2.6.12 and 2.7.5).
+use Rattle.std.specs.Prelude.{◌≡◌, ℕ, Bool, true, false, List, [], ◌∷◌, ◌++◌, filter, flat_map, map, Option, Some, None, option_and_then, IfSome, IsSomeAnd}
+use Rattle.std.specs.Str.{bytes_eq}
+use Rattle.amqp_link_types.specs.Entries.{Tag, Entries, entry_at}
+use Rattle.amqp_link_types.specs.Frames.{payload_of, performative_of}
+use Rattle.amqp_link_core.specs.Held.{Held, bytes_of}
+use Rattle.amqp_link_ends.specs.Senders.{Sender}
+use Rattle.amqp_link.specs.Wires.{OnWire}
+use Rattle.amqp_link_types.specs.declared.frame.LinkFrame.{LinkFrame}
+use Rattle.amqp_link.specs.declared.pair.progress.Progress.{Progress}
+
+pub record World : Type 0 where
+  -- the frame limit, where the ends are attached
+  pub limit : Option ℕ
+  -- the receiver's count, which stays the initial one as long as nothing is handed out
+  pub initial : ℕ
+  pub sender : Sender
+  -- what has come of each delivery, from its send on
+  pub deliveries : Entries Progress
+  pub wire : List OnWire
+
+-- ---- one delivery
+
+-- what the receiver holds of it
+abbrev pub held_at : World → Tag → Option Held
+held_at w tag = option_and_then (λ progress. progress.held) (entry_at w.deliveries tag)
+
+-- the bytes that are held: none where nothing has come
+abbrev pub bytes_in : Option Held → List ℕ
+bytes_in None = []
+bytes_in (Some held) = bytes_of held
+
+-- its transfers under way, in order
+abbrev pub frames_of : Tag → List OnWire → List LinkFrame
+frames_of tag wire = map (λ next. next.frame) (filter (λ next. bytes_eq tag next.tag) wire)
+
+-- their payloads joined
+abbrev pub joined : List LinkFrame → List ℕ
+joined frames = flat_map payload_of frames
+
+-- some bytes more make the whole
+abbrev pub IsFront : List ℕ → List ℕ → Type 0
+IsFront front whole = (rest : List ℕ) × (front ++ rest ≡ whole)
+
+-- of the transfers under way the last alone has no more after it, and none is under way only where
+-- the last has come
+abbrev pub EndsInTime : Bool → List LinkFrame → Type 0
+EndsInTime whole [] = whole ≡ true
+EndsInTime whole (f ∷ []) = (performative_of f).more ≡ false
+EndsInTime whole (f ∷ g ∷ frames) = ((performative_of f).more ≡ true) × EndsInTime whole (g ∷ frames)
+
+-- What is held of a delivery is a front of its payload, what is under way is the rest, the last
+-- transfer ends it, and where that has come the whole payload is held.
+pub record IsGood (payload : List ℕ) (p : Progress) (frames : List LinkFrame) : Type 0 where
+  pub front : IsFront (bytes_in p.held) payload
+  pub all : bytes_in p.held ++ joined frames ≡ payload
+  pub ends : EndsInTime p.whole frames
+  pub complete : p.whole ≡ true → bytes_in p.held ≡ payload
+
+-- each delivery that the sender has registered is good
+abbrev pub Good : World → Type 0
+Good w = (tag : Tag) → IfSome (entry_at w.sender.unsettled tag) (λ entry.
+    IsSomeAnd (entry_at w.deliveries tag) (λ p. IsGood entry.payload p (frames_of tag w.wire)))

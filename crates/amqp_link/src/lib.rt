@@ -1,0 +1,28 @@
+//! Links and deliveries of AMQP 1.0 (OASIS AMQP 1.0 core, 2.6, 2.7 and 3.4), without IO.
+//!
+//! Payloads and incoming frames go in; outgoing frames, deliveries and resolved outcomes come out;
+//! no call waits. Names follow fe2o3-amqp 0.18.4. What takes memory answers a `Result`, and a call
+//! that answers want of memory has changed nothing.
+//!
+//! The crates below hold the modules; this one joins the two ends and passes their names on.
+#![tactic(auto)]
+
+pub mod pair;
+
+pub use amqp_link_core::incomplete_transfer::IncompleteTransfer;
+pub use amqp_link_ends::sender_link::{LinkParts, SenderLink, Sending, Waiting};
+pub use amqp_link_types::delivery::{Settlement, UnsettledMessage};
+pub use amqp_link_types::frame::{LinkFrame, LinkTransfer, clear_continuation_fields};
+pub use amqp_link_types::position::position_of;
+pub use amqp_link_types::role::{IntoRole, ReceiverMarker, SenderMarker};
+pub use amqp_link_types::size::EncodedLen;
+pub use amqp_link_types::state::{
+    DEFAULT_CREDIT, InsufficientCredit, LinkFlowState, LinkFlowStateInner, LinkState,
+};
+pub use amqp_link_types::types::{
+    DeliveryNumber, DeliveryState, DeliveryTag, Descriptor, Error, Fields, FilterSet, Handle,
+    InputHandle, LinkStateError, MessageFormat, Outcome, OutputHandle, Payload, ReceiverSettleMode,
+    ReceiverTransferError, Role, SenderSettleMode, SequenceNo, Symbol, Text, Transfer,
+    UnsettledMap, Value,
+};
+pub use pair::{Arrived, Pair, PairError, Sent};

@@ -1,0 +1,232 @@
+//! Two ends of a link and the wire from the sender to the receiver.
+//!
+//! A pair shows both ends at work: payloads go in at the sender, transfers come off the wire one by
+//! one, and the receiver holds of each delivery exactly the bytes that came. All deliveries are
+//! unsettled and of format 0.
+ghost use Rattle.std.specs.Prelude.{◌≡◌, ◌<◌, [], None, Some, IfOk, OnErr, option_copied};
+ghost use Rattle.amqp_link.specs.Worlds.{Good, held_at};
+ghost use Rattle.amqp_link.specs.Steps.{Attaches, Grants, Sends, Arrives, Answers, AnswersExactly};
+ghost use Rattle.amqp_link.specs.Steps.{new_world, attach_tests, grant_tests, send_tests, arrive_tests};
+
+mod credit;
+mod error;
+mod progress;
+#[cfg(test)]
+mod runs;
+mod sending;
+#[cfg(test)]
+mod tests;
+mod wire;
+
+use crate::pair::credit::granted;
+use crate::pair::progress::{close, open, receive};
+use crate::pair::sending::{new_sender, next_tag, send_unsettled};
+use crate::pair::wire::Wire;
+use amqp_link_core::incomplete_transfer::IncompleteTransfer;
+use amqp_link_ends::sender_link::SenderLink;
+use amqp_link_types::types::{DeliveryNumber, DeliveryTag, Payload, SequenceNo, UnsettledMap};
+pub use error::PairError;
+pub use progress::Progress;
+use std::alloc::Global;
+use std::marker::Model;
+
+/// A delivery that was sent.
+#[derive(Debug, PartialEq, Eq, Drop)]
+pub struct Sent {
+    /// The delivery's tag.
+    pub tag: DeliveryTag,
+    /// The number of its transfers.
+    pub frames: usize,
+}
+
+/// A transfer that came.
+#[derive(Debug, PartialEq, Eq, Drop)]
+pub struct Arrived {
+    /// The tag of its delivery.
+    pub tag: DeliveryTag,
+    /// The section in which what is held of the delivery ends, counted from 0.
+    pub section_number: u32,
+    /// The bytes that are held since that section's start.
+    pub section_offset: u64,
+    /// Whether it was the delivery's last transfer.
+    pub whole: bool,
+}
+
+/// Two ends of a link and the wire between them.
+///
+/// A contract sees the frame limit where the ends are attached, the sender's end, what has come of
+/// each delivery, and the transfers under way.
+#[derive(Drop)]
+pub struct Pair {
+    alloc: Global,
+    limit: Option<u32>,
+    initial: SequenceNo,
+    sender: SenderLink,
+    deliveries: UnsettledMap<Progress>,
+    wire: Wire,
+}
+
+impl Model for Pair {
+    ghost use Rattle.amqp_link.specs.Worlds.{World};
+
+    ghost Value = { World };
+
+    ghost use Rattle.std.specs.Coded.{codes};
+    ghost use Rattle.amqp_link_types.specs.contracts.types.fields.Fields as fields;
+
+    ghost coded = { Prim.hlevel (codes, fields.the_row.coded) };
+
+    ghost use Rattle.amqp_link.specs.PairViews.{world_of, IsPair};
+
+    ghost view = { world_of };
+
+    ghost invariant = { IsPair };
+}
+
+impl Pair {
+    /// Two ends that are not attached, with this count at both and no credit.
+    ///
+    /// Refused where memory is wanting.
+    pub fn new(alloc: Global, initial_delivery_count: SequenceNo) -> Result<Pair, PairError>
+        ensures done { IfOk result (λ pair. pair ≡ new_world initial_delivery_count) }
+        ensures refused { Answers result [] }
+        ensures good { IfOk result (λ pair. Good pair) }
+    {
+        Ok(Pair {
+            alloc,
+            limit: None,
+            initial: initial_delivery_count,
+            sender: new_sender(alloc, initial_delivery_count)?,
+            deliveries: UnsettledMap::new(alloc),
+            wire: Wire::new(alloc),
+        })
+    }
+
+    /// Attaches both ends at a frame limit in bytes (a header of four bytes and the body), and
+    /// answers the number of deliveries to resume: none.
+    ///
+    /// Refused in this order, with nothing changed: `AlreadyAttached`, `LimitTooSmall` (under 29).
+    /// Takes no memory.
+    pub fn attach(&mut self, limit: u32) -> Result<usize, PairError>
+        ensures done { IfOk result (λ count. Attaches self.old limit count self.new) }
+        ensures refused { AnswersExactly result (attach_tests self.old limit) }
+        ensures left { OnErr result (self.new ≡ self.old) }
+        ensures good { Good self.new }
+    {
+        if self.limit.is_some() {
+            return Err(PairError::AlreadyAttached);
+        }
+        if limit < 29 {
+            return Err(PairError::LimitTooSmall);
+        }
+        self.limit = Some(limit);
+        self.sender.set_max_frame_size(limit);
+        self.sender.ready();
+        Ok(0)
+    }
+
+    /// The receiver grants credit for so many deliveries; answers the sender's credit, from which
+    /// those are taken off that were sent since the receiver's count (2.6.7).
+    ///
+    /// Refused, with nothing changed: `NotAttached`. Takes no memory.
+    pub fn grant(&mut self, credit: u32) -> Result<u32, PairError>
+        ensures done { IfOk result (λ own. Grants self.old credit own self.new) }
+        ensures refused { AnswersExactly result (grant_tests self.old) }
+        ensures left { OnErr result (self.new ≡ self.old) }
+        ensures good { Good self.new }
+    {
+        if self.limit.is_none() {
+            return Err(PairError::NotAttached);
+        }
+        let own = granted(
+            self.initial,
+            credit,
+            self.sender.flow_state().delivery_count(),
+        );
+        self.sender.set_credit(own);
+        Ok(own)
+    }
+
+    /// Sends a payload as an unsettled delivery, for one credit; answers its tag and the number of
+    /// its transfers.
+    ///
+    /// Refused in this order, with nothing changed: `NotAttached`, `PayloadTooLong` (2^32 bytes or
+    /// more), `CreditMissing`, `TagPending`, want of memory.
+    pub fn send(&mut self, payload: &Payload) -> Result<Sent, PairError>
+        ensures done { IfOk result (λ sent. Sends self.old payload.now sent.tag sent.frames self.new) }
+        ensures refused { Answers result (send_tests self.old payload.now) }
+        ensures left { OnErr result (self.new ≡ self.old) }
+        ensures good { Good self.new }
+    {
+        if self.limit.is_none() {
+            return Err(PairError::NotAttached);
+        }
+        if payload.len() > u32::MAX as usize {
+            return Err(PairError::PayloadTooLong);
+        }
+        if self.sender.flow_state().link_credit() == 0 {
+            return Err(PairError::CreditMissing);
+        }
+        let tag = next_tag(self.alloc, &self.sender)?;
+        if self.sender.unsettled().contains(&tag) {
+            return Err(PairError::TagPending);
+        }
+        // Room for all but the sender's entry, which is the last growth.
+        self.wire.reserve()?;
+        open(&mut self.deliveries, &tag)?;
+        let Ok((sent, frames)) = send_unsettled(&mut self.sender, payload) else {
+            close(&mut self.deliveries, &tag);
+            return Err(PairError::OutOfMemory);
+        };
+        let count = frames.len();
+        self.wire.push(tag, frames);
+        Ok(Sent {
+            tag: sent,
+            frames: count,
+        })
+    }
+
+    /// The next transfer arrives, with this delivery id where it is its delivery's first. Its payload
+    /// is added to what is held.
+    ///
+    /// Refused in this order, with nothing changed, so that it stays on the wire: `NotAttached`,
+    /// `WireEmpty`, want of memory.
+    pub fn arrive(&mut self, id: DeliveryNumber) -> Result<Arrived, PairError>
+        ensures done { IfOk result (λ came. Arrives self.old id came.tag
+            (came.section_number, came.section_offset) came.whole self.new) }
+        ensures refused { Answers result (arrive_tests self.old) }
+        ensures left { OnErr result (self.new ≡ self.old) }
+        ensures good { Good self.new }
+    {
+        if self.limit.is_none() {
+            return Err(PairError::NotAttached);
+        }
+        let Some((tag, frame)) = self.wire.first() else {
+            return Err(PairError::WireEmpty);
+        };
+        let tag = tag.clone()?;
+        let whole = !frame.as_transfer().performative.more;
+        let (section_number, section_offset) = receive(
+            &mut self.deliveries,
+            self.alloc,
+            &tag,
+            frame,
+            id,
+        )?;
+        // Nothing can fail from here on.
+        self.wire.drop_first();
+        Ok(Arrived {
+            tag,
+            section_number,
+            section_offset,
+            whole,
+        })
+    }
+
+    /// What the receiver holds of a delivery, once its first transfer came.
+    pub fn held(&self, tag: &DeliveryTag) -> Option<&IncompleteTransfer>
+        ensures { option_copied result ≡ held_at self.now tag.now }
+    {
+        self.deliveries.get(tag)?.held.as_ref()
+    }
+}

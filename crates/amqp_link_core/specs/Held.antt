@@ -1,0 +1,20 @@
+-- A delivery of which not all has come, or been taken.
+use Rattle.std.specs.Prelude.{◌≡◌, ◌<◌, ◌^◌, ℕ, List, length}
+use Rattle.std.specs.List.{concat}
+use Rattle.amqp_link_types.specs.declared.types.transfer.Transfer.{Transfer}
+use Rattle.amqp_link_types.specs.Position.{position}
+
+-- the merged transfer, and the payloads in the order in which they came
+pub record Held : Type 0 where
+  pub performative : Transfer
+  pub pieces : List (List ℕ)
+
+-- its bytes so far
+abbrev pub bytes_of : Held → List ℕ
+bytes_of held = concat held.pieces
+
+-- they can be counted: n is their length
+pub record IsCountable (bytes : List ℕ) (n : ℕ) : Type 0 where
+  pub size : n ≡ length bytes
+  pub fits : length bytes < 2 ^ 64
+  pub sections : (position bytes).0 < 2 ^ 32

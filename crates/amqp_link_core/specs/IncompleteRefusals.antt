@@ -1,0 +1,52 @@
+-- Why a transfer of a delivery is refused (OASIS AMQP 1.0 core, 2.7.5).
+use Rattle.std.specs.Prelude.{◌≡◌, ◌^◌, ℕ, Bool, false, not, ◌||◌, List, [], ◌∷◌, ◌++◌, length, nat_eq, nat_le, Option, Some, None, is_none, Result, Ok, Err}
+use Rattle.std.specs.Str.{bytes_eq}
+use Rattle.amqp_link_types.specs.declared.types.transfer.Transfer.{Transfer}
+use Rattle.amqp_link_types.specs.declared.types.errors.ReceiverTransferError.{ReceiverTransferError}
+use Rattle.amqp_link_types.specs.declared.types.errors.ReceiverTransferError.TheVariants.{DeliveryIdIsNone, DeliveryTagIsNone, InconsistentFieldInMultiFrameDelivery, PayloadTooLong, OutOfMemory}
+use Rattle.amqp_link_types.specs.Position.{position}
+use Rattle.amqp_link_core.specs.Held.{Held, bytes_of}
+use Rattle.amqp_link_types.specs.Refusals.{refusal}
+
+-- both are there, and not the same
+abbrev pub differs : {A : Type 0} → (A → A → Bool) → Option A → Option A → Bool
+differs same (Some a) (Some b) = not (same a b)
+differs same _ _ = false
+
+-- more bytes than a u64 counts, or more sections past the first than a u32
+abbrev pub is_too_long : List ℕ → Bool
+is_too_long bytes = nat_le (2 ^ 64) (length bytes) || nat_le (2 ^ 32) (position bytes).0
+
+-- a test, and the error where it holds
+abbrev pub Test : Type 0
+Test = Bool × ReceiverTransferError
+
+-- of the bytes of a delivery
+abbrev pub long_test : List ℕ → List Test
+long_test bytes = (is_too_long bytes, PayloadTooLong) ∷ []
+
+-- of a delivery's first transfer
+abbrev pub start_tests : Transfer → List ℕ → List Test
+start_tests t payload =
+    (is_none t.delivery_id, DeliveryIdIsNone)
+    ∷ (is_none t.delivery_tag, DeliveryTagIsNone)
+    ∷ long_test payload
+
+-- whether a transfer names another tag, id or format than the delivery's
+abbrev pub is_inconsistent : Transfer → Transfer → Bool
+is_inconsistent old t =
+    differs bytes_eq old.delivery_tag t.delivery_tag
+    || differs nat_eq old.delivery_id t.delivery_id
+    || differs nat_eq old.message_format t.message_format
+
+-- of a continuation
+abbrev pub append_tests : Held → Transfer → List ℕ → List Test
+append_tests held t payload =
+    (is_inconsistent held.performative t, InconsistentFieldInMultiFrameDelivery)
+    ∷ long_test (bytes_of held ++ payload)
+
+-- A result by the first test that holds. Want of memory may come before each of them.
+abbrev pub Answers : {A : Type 0} → Result A ReceiverTransferError → List Test → Type 0
+Answers (Ok a) tests = refusal tests ≡ None
+Answers (Err OutOfMemory) tests = Unit {0}
+Answers (Err e) tests = refusal tests ≡ Some e

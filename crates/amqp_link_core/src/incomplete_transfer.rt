@@ -1,0 +1,229 @@
+//! A delivery that comes in several transfers (2.7.5).
+//!
+//! The fields of all its transfers are merged as they come; its bytes are kept in the pieces in
+//! which they came. The first transfer names the delivery; a continuation may leave its tag, id and
+//! format out, and is refused where it names another.
+ghost use Rattle.std.specs.Prelude.{◌≡◌, ◌++◌, [], ◌∷◌, List, Some, not, nat_eq, length, IfOk, OnOk, OnErr};
+ghost use Rattle.std.specs.Str.{bytes_eq};
+ghost use Rattle.std.specs.Option.{option_or};
+ghost use Rattle.amqp_link_types.specs.Position.{position};
+ghost use Rattle.amqp_link_core.specs.Merging.{Came, Merged, IsSilent, opening, following};
+ghost use Rattle.amqp_link_core.specs.Held.{bytes_of};
+ghost use Rattle.amqp_link_core.specs.IncompleteRefusals.{Answers, differs as fields_differ, is_inconsistent, start_tests, append_tests};
+
+mod merging;
+mod pieces;
+#[cfg(test)]
+mod tests;
+
+use crate::incomplete_transfer::merging::merge;
+use crate::incomplete_transfer::pieces::push_piece;
+use amqp_link_types::position::position_of;
+use amqp_link_types::types::{DeliveryTag, Payload, ReceiverTransferError, Transfer};
+use std::alloc::{AllocError, Global};
+use std::marker::Model;
+
+/// A delivery of which not all has come, or been taken.
+///
+/// A contract sees the merged transfer and the pieces. The delivery always has a tag, and as many
+/// bytes and sections as can be counted.
+#[derive(Debug, Drop)]
+pub struct IncompleteTransfer {
+    performative: Transfer,
+    pieces: Vec<Payload>,
+    size: u64,
+}
+
+impl Model for IncompleteTransfer {
+    ghost use Rattle.std.specs.Prelude.{◌≡◌, is_some, IsTrue};
+    ghost use Rattle.std.specs.List.{concat};
+    ghost use Rattle.std.specs.Coded.{codes};
+    ghost use Rattle.amqp_link_types.specs.contracts.types.fields.Fields as fields;
+    ghost use Rattle.amqp_link_core.specs.Held.{Held, IsCountable};
+
+    ghost Value = { Held };
+
+    ghost coded = { Prim.hlevel (codes, fields.the_row.coded) };
+
+    ghost view = { λ a. record { performative = a.performative; pieces = a.pieces.items } };
+
+    ghost invariant = { λ a. IsTrue (is_some a.performative.delivery_tag)
+        × IsCountable (concat a.pieces.items) a.size };
+}
+
+impl IncompleteTransfer {
+    /// Begins a delivery with its first transfer, which it keeps as it is.
+    ///
+    /// Refused in this order: `DeliveryIdIsNone`, `DeliveryTagIsNone`, `PayloadTooLong`. Takes
+    /// memory, which may be refused before the last of them.
+    pub fn start(
+        alloc: Global,
+        transfer: Transfer,
+        payload: Payload,
+    ) -> Result<IncompleteTransfer, ReceiverTransferError>
+        ensures ok { IfOk result (λ held.
+            held ≡ record { performative = transfer; pieces = payload ∷ [] }) }
+        ensures merged { IfOk result (λ held. Merged (opening transfer ∷ []) held.performative) }
+        ensures bytes { IfOk result (λ held. bytes_of held ≡ payload) }
+        ensures refused { Answers result (start_tests transfer payload) }
+    {
+        if transfer.delivery_id.is_none() {
+            return Err(ReceiverTransferError::DeliveryIdIsNone); // asked of a first transfer (2.7.5)
+        }
+        if transfer.delivery_tag.is_none() {
+            return Err(ReceiverTransferError::DeliveryTagIsNone);
+        }
+        let mut pieces = Vec::new(alloc);
+        let size = push_piece(&mut pieces, 0, payload)?;
+        Ok(IncompleteTransfer {
+            performative: transfer,
+            pieces,
+            size,
+        })
+    }
+
+    /// Adds a continuation. The transfer may leave out its tag, id and format.
+    ///
+    /// Refused in this order, with nothing changed: `InconsistentFieldInMultiFrameDelivery`,
+    /// `PayloadTooLong`. Takes memory, which may be refused before the last of them.
+    pub fn try_append(
+        &mut self,
+        transfer: Transfer,
+        payload: Payload,
+    ) -> Result<(), ReceiverTransferError>
+        // Whatever came before, the fields are those of all of it and this transfer.
+        ensures merged { OnOk result ((came : List Came) → Merged came self.old.performative
+            → Merged (came ++ following transfer ∷ []) self.new.performative) }
+        ensures pieces { OnOk result (self.new.pieces ≡ self.old.pieces ++ payload ∷ []) }
+        ensures bytes { OnOk result (bytes_of self.new ≡ bytes_of self.old ++ payload) }
+
+        // What of it a caller needs most.
+        ensures tag { OnOk result
+            (self.new.performative.delivery_tag ≡ self.old.performative.delivery_tag) }
+        ensures id { OnOk result
+            (self.new.performative.delivery_id ≡ self.old.performative.delivery_id) }
+        ensures format { OnOk result (self.new.performative.message_format
+            ≡ option_or self.old.performative.message_format transfer.message_format) }
+        ensures silent { OnOk result (IsSilent transfer
+            → self.new.performative ≡ self.old.performative) }
+
+        ensures refused { Answers result (append_tests self.old transfer payload) }
+        ensures err { OnErr result (self.new ≡ self.old) }
+    {
+        if self.is_inconsistent_with(&transfer) {
+            return Err(ReceiverTransferError::InconsistentFieldInMultiFrameDelivery); // (2.7.5)
+        }
+        self.size = push_piece(&mut self.pieces, self.size, payload)?;
+        // All tests are behind, and all memory is taken.
+        merge(&mut self.performative, transfer);
+        Ok(())
+    }
+
+    // Whether a transfer names another tag, id or format than the delivery's.
+    fn is_inconsistent_with(&self, transfer: &Transfer) -> bool
+        ensures { result ≡ is_inconsistent self.now.performative transfer.now }
+    {
+        !self.is_same_delivery_as(transfer)
+            || differs(self.performative.delivery_id, transfer.delivery_id)
+            || differs(self.performative.message_format, transfer.message_format)
+    }
+
+    /// Whether a transfer can be of this delivery: it has the delivery's tag, or none.
+    pub fn is_same_delivery_as(&self, transfer: &Transfer) -> bool
+        ensures { result ≡ not (fields_differ bytes_eq
+            self.now.performative.delivery_tag transfer.now.delivery_tag) }
+    {
+        match &transfer.delivery_tag {
+            Some(tag) => tag == self.delivery_tag(),
+            None => true,
+        }
+    }
+
+    /// The tag of the delivery, that of its first transfer.
+    pub fn delivery_tag(&self) -> &DeliveryTag
+        ensures { self.now.performative.delivery_tag ≡ Some result.now }
+    {
+        match &self.performative.delivery_tag {
+            Some(tag) => tag,
+            None => unreachable!(),
+        }
+    }
+
+    /// The number of the section in which the bytes end, counted from 0. Reads all bytes.
+    pub fn section_number(&self) -> u32
+        ensures { result ≡ (position (bytes_of self.now)).0 }
+    {
+        self.position().0
+    }
+
+    /// The bytes since the start of that section. Reads all bytes.
+    pub fn section_offset(&self) -> u64
+        ensures { result ≡ (position (bytes_of self.now)).1 }
+    {
+        self.position().1
+    }
+
+    // Found by a scan of all pieces.
+    fn position(&self) -> (u32, u64)
+        ensures { result ≡ position (bytes_of self.now) }
+    {
+        match position_of(self.pieces.as_slice()) {
+            Some(position) => position,
+            None => unreachable!(),
+        }
+    }
+
+    /// The number of bytes that came.
+    pub fn accumulated_payload_size(&self) -> u64
+        ensures { result ≡ length (bytes_of self.now) }
+    {
+        self.size
+    }
+
+    /// The fields of all transfers that came, merged.
+    pub fn performative(&self) -> &Transfer
+        ensures { result.now ≡ self.now.performative }
+    {
+        &self.performative
+    }
+
+    /// The payloads as they came, in order; the empty ones too.
+    pub fn pieces(&self) -> &[Payload]
+        ensures { result.now ≡ self.now.pieces }
+    {
+        self.pieces.as_slice()
+    }
+
+    /// The merged transfer, the pieces, and the number and offset of the section in which they end.
+    /// Takes no memory.
+    pub fn into_parts(self) -> (Transfer, Vec<Payload>, u32, u64)
+        ensures performative { result.0 ≡ self.performative }
+        ensures pieces { result.1.items ≡ self.pieces }
+        ensures position { (result.2, result.3) ≡ position (bytes_of self) }
+    {
+        let (number, offset) = self.position();
+        (self.performative, self.pieces, number, offset)
+    }
+}
+
+impl Clone for IncompleteTransfer {
+    ghost is_clone = { λ held copy. copy ≡ held };
+
+    fn clone(&self) -> Result<IncompleteTransfer, AllocError> {
+        Ok(IncompleteTransfer {
+            performative: self.performative.clone()?,
+            pieces: self.pieces.clone()?,
+            size: self.size,
+        })
+    }
+}
+
+// Whether both are there, and not the same.
+fn differs(known: Option<u32>, told: Option<u32>) -> bool
+    ensures { result ≡ fields_differ nat_eq known told }
+{
+    match (known, told) {
+        (Some(known), Some(told)) => known != told,
+        _ => false,
+    }
+}

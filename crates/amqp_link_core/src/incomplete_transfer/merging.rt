@@ -1,0 +1,53 @@
+//! The fields that the transfers of one delivery make together (2.7.5).
+ghost use Rattle.std.specs.Prelude.{◌≡◌, ◌++◌, [], ◌∷◌, List, Option, Bool, false};
+ghost use Rattle.std.specs.Option.{option_map_or};
+ghost use Rattle.amqp_link_types.specs.declared.types.delivery_state.DeliveryState.{DeliveryState as State};
+ghost use Rattle.amqp_link_types.specs.DeliveryStates.{is_terminal};
+ghost use Rattle.amqp_link_core.specs.Merging.{Came, Merged, following, present, settled_by, state_by};
+
+use amqp_link_types::types::{DeliveryState, Transfer};
+
+fn has_ended(state: &Option<DeliveryState>) -> bool
+    ensures { result ≡ option_map_or is_terminal state.now false }
+{
+    match state {
+        Some(state) => state.is_terminal(),
+        None => false,
+    }
+}
+
+// The flag of a delivery, once a transfer has told of it.
+#[tactic(auto, using(crate::proofs::MergeLemmas::settled_steps))]
+fn settled_with(known: Option<bool>, told: Option<bool>) -> Option<bool>
+    ensures { (flags : List (Option Bool)) → known ≡ settled_by (present flags)
+        → result ≡ settled_by (present (flags ++ told ∷ [])) }
+{
+    if told.unwrap_or(false) {
+        told
+    } else {
+        known.or(told)
+    }
+}
+
+// The state of a delivery, once a transfer has told of it.
+#[tactic(auto, using(crate::proofs::MergeLemmas::state_steps))]
+fn state_with(known: Option<DeliveryState>, told: Option<DeliveryState>) -> Option<DeliveryState>
+    ensures { (states : List (Option State)) → known ≡ state_by (present states)
+        → result ≡ state_by (present (states ++ told ∷ [])) }
+{
+    if has_ended(&known) {
+        known.or(told)
+    } else {
+        told.or(known)
+    }
+}
+
+// Merges a continuation into the transfers of a delivery. Takes no memory.
+pub(crate) fn merge(held: &mut Transfer, transfer: Transfer)
+    ensures { (came : List Came) → Merged came held.old
+        → Merged (came ++ following transfer ∷ []) held.new }
+{
+    held.message_format = held.message_format.or(transfer.message_format);
+    held.settled = settled_with(held.settled, transfer.settled);
+    held.state = state_with(held.state.take(), transfer.state);
+}

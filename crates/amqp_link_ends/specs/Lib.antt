@@ -1,0 +1,9 @@
+pub use Rattle.amqp_link_types.specs.Counts
+pub use Rattle.amqp_link_types.specs.Entries
+pub use Rattle.amqp_link_types.specs.Frames
+pub use Rattle.amqp_link_types.specs.Length
+pub use Rattle.amqp_link_types.specs.Refusals
+pub use Rattle.amqp_link_types.specs.Size
+pub mod Room
+pub mod Senders
+pub mod Split

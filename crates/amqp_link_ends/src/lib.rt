@@ -1,0 +1,7 @@
+//! The ends of a link of AMQP 1.0 (OASIS AMQP 1.0 core, 2.6).
+#![tactic(auto)]
+
+pub mod laws;
+pub mod sender_link;
+
+pub use sender_link::{LinkParts, SenderLink, Sending, Waiting};

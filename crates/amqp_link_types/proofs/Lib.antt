@@ -1,0 +1,11 @@
+pub mod Entries
+pub mod EntriesLemmas
+pub mod HeaderLemmas
+pub mod MapLemmas
+pub mod PositionLemmas
+pub mod SameLevels
+pub mod ScanLemmas
+pub mod Sizes
+pub mod StartsLemmas
+pub mod TailLemmas
+pub mod Worked

@@ -1,0 +1,138 @@
+-- Values of the definitions that were worked out by hand: docs/DEFINITIONS.md lists them.
+use Rattle.std.proofs.Common.{◌≡◌, ℕ, pos, negsuc, true, false, List, [], ◌∷◌, ◌++◌, replicate, refl, Some, None, length}
+use Rattle.std.specs.Prelude.{codes}
+use Rattle.amqp_link_types.specs.Counts.{sdiff, granted, limit_of, after_consuming}
+use Rattle.amqp_link_types.specs.Data.{null, boolean, ubyte, uint, int, ulong, binary, list, map, symbol_array, described, no_items, item, no_pairs, pair}
+use Rattle.amqp_link_types.specs.DeliveryStates.{is_terminal}
+use Rattle.amqp_link_types.specs.Entries.{entry_at, with_entry, without_entry}
+use Rattle.amqp_link_types.specs.Frames.{cleared}
+use Rattle.amqp_link_types.specs.Header.{header_len}
+use Rattle.amqp_link_types.specs.Length.{encoded_len, fields_len}
+use Rattle.amqp_link_types.specs.Position.{starts, position}
+use Rattle.amqp_link_types.specs.Size.{transfer_len, before, list_of, state_len}
+use Rattle.amqp_link_types.specs.declared.state.LinkFlowStateInner.{LinkFlowStateInner}
+use Rattle.amqp_link_types.specs.declared.types.definitions.Error.{Error}
+use Rattle.amqp_link_types.specs.declared.types.delivery_state.DeliveryState.TheVariants.{Accepted, Rejected, Received}
+use Rattle.amqp_link_types.specs.declared.types.transfer.Transfer.{Transfer}
+use Rattle.amqp_link_types.specs.declared.types.value.Descriptor.TheVariants.{Code}
+
+-- ---- counts
+
+count_wraps : sdiff 2 4294967290 ≡ pos 8
+count_wraps = refl
+
+count_behind : sdiff 2147483648 0 ≡ negsuc 2147483647
+count_behind = refl
+
+grant_past_the_wrap : granted 4294967290 10 2 ≡ 2
+grant_past_the_wrap = refl
+
+grant_held_at_most : granted 5 4294967295 0 ≡ 4294967295
+grant_held_at_most = refl
+
+grant_of_none_left : granted 2147483648 10 0 ≡ 0
+grant_of_none_left = refl
+
+abbrev at_the_wrap : LinkFlowStateInner
+at_the_wrap = record {
+  initial_delivery_count = 0;
+  delivery_count = 4294967295;
+  link_credit = 3;
+  available = 0;
+  drain = false;
+  properties = None;
+}
+
+limit_at_the_wrap : limit_of at_the_wrap ≡ 2
+limit_at_the_wrap = refl
+
+limit_stays : limit_of (after_consuming 1 at_the_wrap) ≡ 2
+limit_stays = refl
+
+-- ---- maps
+
+put_in_place : with_entry {V = ℕ} ((1 ∷ [], 5) ∷ (2 ∷ [], 6) ∷ []) (1 ∷ []) 7 ≡ (1 ∷ [], 7) ∷ (2 ∷ [], 6) ∷ []
+put_in_place = refl
+
+put_last : with_entry {V = ℕ} ((1 ∷ [], 5) ∷ []) (2 ∷ []) 6 ≡ (1 ∷ [], 5) ∷ (2 ∷ [], 6) ∷ []
+put_last = refl
+
+last_takes_the_gap : without_entry {V = ℕ} ((1 ∷ [], 5) ∷ (2 ∷ [], 6) ∷ (3 ∷ [], 7) ∷ []) (1 ∷ []) ≡ (3 ∷ [], 7) ∷ (2 ∷ [], 6) ∷ []
+last_takes_the_gap = refl
+
+-- ---- positions
+
+abbrev eight : List ℕ
+eight = 0x00 ∷ 0x53 ∷ 0x70 ∷ 0xC0 ∷ 0x00 ∷ 0x53 ∷ 0x77 ∷ 0x41 ∷ []
+
+header_there : header_len (0x00 ∷ 0x80 ∷ 0x78 ∷ []) ≡ 3
+unfolding header_len
+header_there = refl
+
+no_header : header_len (0x00 ∷ 0x53 ∷ 0x79 ∷ []) ≡ 0
+unfolding header_len
+no_header = refl
+
+eight_starts : starts eight ≡ 0 ∷ 4 ∷ []
+unfolding starts header_len
+eight_starts = refl
+
+eight_ends : position eight ≡ (1, 4)
+unfolding starts header_len
+eight_ends = refl
+
+nothing_ends : position [] ≡ (0, 0)
+unfolding starts header_len
+nothing_ends = refl
+
+-- ---- lengths
+
+uint_at_255 : encoded_len (uint 255) ≡ 2
+uint_at_255 = refl
+
+uint_at_256 : encoded_len (uint 256) ≡ 5
+uint_at_256 = refl
+
+int_at_128 : encoded_len (int (pos 128)) ≡ 5
+int_at_128 = refl
+
+empty_map : encoded_len (map no_pairs) ≡ 3
+empty_map = refl
+
+one_pair : fields_len ((codes "k", uint 7) ∷ []) ≡ 8
+one_pair = refl
+
+described_null : encoded_len (described (Code 117) null) ≡ 4
+described_null = refl
+
+state_at_the_start : state_len (Received 0 0) ≡ 8
+unfolding before list_of
+state_at_the_start = refl
+
+-- a transfer at handle 0 with the longest delivery id, this tag, format 0, settled false, and more
+abbrev measured : List ℕ → Transfer
+measured tag = record {
+  handle = record { 0 = 0 };
+  delivery_id = Some 4294967295;
+  delivery_tag = Some tag;
+  message_format = Some 0;
+  settled = Some false;
+  more = true;
+  rcv_settle_mode = None;
+  state = None;
+  resume = false;
+  aborted = false;
+  batchable = false;
+}
+
+short_tag : transfer_len (measured (replicate 4 0)) ≡ 21
+unfolding transfer_len before list_of
+short_tag = refl
+
+tag_of_244 : transfer_len (measured (replicate 244 0)) ≡ 267
+unfolding transfer_len before list_of
+tag_of_244 = refl
+
+accepted : transfer_len (record (measured (replicate 4 0)) { state = Some Accepted }) ≡ 26
+unfolding transfer_len before list_of
+accepted = refl

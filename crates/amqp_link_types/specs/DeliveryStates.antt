@@ -1,0 +1,19 @@
+-- The states of a delivery (OASIS AMQP 1.0 core, 3.4).
+use Rattle.std.specs.Prelude.{Bool, true, false}
+use Rattle.amqp_link_types.specs.declared.types.delivery_state.DeliveryState.{DeliveryState}
+use Rattle.amqp_link_types.specs.declared.types.delivery_state.DeliveryState.TheVariants as state
+use Rattle.amqp_link_types.specs.declared.types.delivery_state.Outcome.{Outcome}
+use Rattle.amqp_link_types.specs.declared.types.delivery_state.Outcome.TheVariants as outcome
+
+-- all states but received are terminal
+abbrev pub is_terminal : DeliveryState → Bool
+is_terminal (state.Received number offset) = false
+is_terminal _ = true
+
+-- the state that an outcome is
+abbrev pub state_of : Outcome → DeliveryState
+state_of outcome.Accepted = state.Accepted
+state_of (outcome.Rejected error) = state.Rejected error
+state_of outcome.Released = state.Released
+state_of (outcome.Modified failed undeliverable annotations) =
+    state.Modified failed undeliverable annotations

@@ -1,0 +1,56 @@
+-- The frames of one delivery (OASIS AMQP 1.0 core, 2.7.5).
+use Rattle.std.specs.Prelude.{◌≡◌, ℕ, ◌+◌, ◌<◌, List, length, nat_lt, ◌==◌, if◌then◌else◌, None, slice_index_or}
+use Rattle.amqp_link_types.specs.declared.types.transfer.Transfer.{Transfer}
+use Rattle.amqp_link_types.specs.declared.types.definitions.InputHandle.{InputHandle}
+use Rattle.amqp_link_types.specs.declared.frame.LinkTransfer.{LinkTransfer}
+use Rattle.amqp_link_types.specs.declared.frame.LinkFrame.{LinkFrame}
+use Rattle.amqp_link_types.specs.declared.frame.LinkFrame.TheVariants.{RemoteTransfer, FirstTransfer, TransferContinuation}
+
+-- the transfer in a frame
+abbrev pub link_transfer : LinkFrame → LinkTransfer
+link_transfer (RemoteTransfer t) = t
+link_transfer (FirstTransfer t) = t
+link_transfer (TransferContinuation t) = t
+
+-- the payload of a frame
+abbrev pub payload_of : LinkFrame → List ℕ
+payload_of frame = (link_transfer frame).payload
+
+-- the fields of a frame's transfer
+abbrev pub performative_of : LinkFrame → Transfer
+performative_of frame = (link_transfer frame).performative
+
+-- without the five fields that only a first transfer has to state
+abbrev pub cleared : Transfer → Transfer
+cleared t = record t {
+  delivery_id = None;
+  delivery_tag = None;
+  message_format = None;
+  settled = None;
+  rcv_settle_mode = None;
+}
+
+-- Of n frames for the transfer t at a link's input handle, the frame at place i with this payload:
+-- the first has all fields, the others are cleared, and more follows all but the last.
+abbrev pub frame_of : InputHandle → Transfer → ℕ → ℕ → List ℕ → LinkFrame
+frame_of handle t i n payload =
+    let c = cleared t in
+    if i == 0
+    then FirstTransfer (record {
+      input_handle = handle;
+      performative = record t { more = nat_lt (i + 1) n };
+      payload = payload;
+    })
+    else TransferContinuation (record {
+      input_handle = handle;
+      performative = record c { more = nat_lt (i + 1) n };
+      payload = payload;
+    })
+
+-- P holds of each element and its place
+abbrev pub EachAt : {X : Type 0} → (ℕ → X → Type 0) → List X → Type 0
+EachAt {X} P xs = (i : ℕ) (d : X) → i < length xs → P i (slice_index_or xs i d)
+
+-- each frame is the one of its place, whatever its payload
+abbrev pub AreFramesOf : InputHandle → Transfer → List LinkFrame → Type 0
+AreFramesOf handle t frames = EachAt (λ i f. f ≡ frame_of handle t i (length frames) (payload_of f)) frames

@@ -1,0 +1,17 @@
+pub mod Code
+pub mod Counts
+pub mod Data
+pub mod DeliveryStates
+pub mod Entries
+pub mod Found
+pub mod Frames
+pub mod Header
+pub mod Length
+pub mod Position
+pub mod Refusals
+pub mod Same
+pub mod SameLaws
+pub mod Scan
+pub mod Size
+pub mod Tail
+pub mod View

@@ -1,0 +1,52 @@
+//! The frames of a link (2.7).
+ghost use Rattle.std.specs.Prelude.{◌≡◌};
+ghost use Rattle.amqp_link_types.specs.Frames.{cleared, link_transfer};
+
+use crate::types::{InputHandle, Payload, Transfer};
+
+/// A transfer with its payload, as it stands in one frame (2.7.5).
+#[derive(Debug, PartialEq, Eq, Drop)]
+pub struct LinkTransfer {
+    /// In a frame that is sent the link's input handle, in one that came the transfer's own handle.
+    pub input_handle: InputHandle,
+    /// The fields of the transfer.
+    pub performative: Transfer,
+    /// Its part of the delivery's payload.
+    pub payload: Payload,
+}
+
+/// A frame of a link.
+#[derive(Debug, PartialEq, Eq, Drop)]
+pub enum LinkFrame {
+    /// A transfer that came from the other end.
+    RemoteTransfer(LinkTransfer),
+    /// The first transfer of a delivery that is sent. The session gives it its delivery id.
+    FirstTransfer(LinkTransfer),
+    /// A further transfer of a delivery that is sent. It gets no delivery id.
+    TransferContinuation(LinkTransfer),
+}
+
+impl LinkFrame {
+    /// The transfer in the frame.
+    pub fn as_transfer(&self) -> &LinkTransfer
+        ensures { result.now ≡ link_transfer self.now }
+    {
+        match self {
+            LinkFrame::RemoteTransfer(transfer)
+            | LinkFrame::FirstTransfer(transfer)
+            | LinkFrame::TransferContinuation(transfer) => transfer,
+        }
+    }
+}
+
+/// Clears what only the first transfer of a delivery has to say (2.7.5): its delivery id, tag,
+/// format, settled flag and receiver settle mode. The rest stays.
+pub fn clear_continuation_fields(transfer: &mut Transfer)
+    ensures { transfer.new ≡ cleared transfer.old }
+{
+    transfer.delivery_id = None;
+    transfer.delivery_tag = None;
+    transfer.message_format = None;
+    transfer.settled = None;
+    transfer.rcv_settle_mode = None;
+}

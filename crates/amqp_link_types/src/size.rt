@@ -1,0 +1,243 @@
+//! How many bytes a performative and its parts take, each in its shortest code (1.6 and 2.7).
+//!
+//! A described list is measured from its last field to its first: a null takes a byte only where
+//! something follows it.
+#![tactic(auto, using(crate::proofs::Sizes::sizes))]
+
+ghost use Rattle.std.specs.Prelude.{ℕ, Some, option_map};
+ghost use Rattle.amqp_link_types.specs.Length.{IsU64Of, fields_len};
+ghost use Rattle.amqp_link_types.specs.Size.{before as slot, list_of, flag, bool_len, uint_len};
+ghost use Rattle.amqp_link_types.specs.Size.{ulong_len, bytes_len, mode_len, error_len, state_len};
+ghost use Rattle.amqp_link_types.specs.Size.{rejected_len as rejected_length, transfer_len};
+ghost use Rattle.amqp_link_types.specs.Size.{modified_len as modified_length};
+
+#[cfg(test)]
+mod tests;
+pub(crate) mod value;
+
+use crate::size::value::{compound_len, text_len, unsigned_len};
+use crate::types::{
+    DeliveryState, DeliveryTag, Error, Fields, ReceiverSettleMode, Symbol, Text, Transfer,
+};
+
+/// What has a length in bytes when it is written.
+pub trait EncodedLen {
+    // The length, which may pass u64.
+    ghost len_of: { Self → ℕ };
+
+    /// The number of bytes that this takes in its shortest code; none exactly where it passes u64.
+    /// Takes no memory.
+    fn encoded_len(&self) -> Option<u64>
+        ensures { IsU64Of (len_of self.now) result };
+}
+
+// ---- described lists
+
+// A field before others that take `rest` bytes; none is a null.
+#[tactic(auto, unfolding(crate::specs::Size::before))]
+fn before(len: Option<u64>, rest: u64) -> Option<u64>
+    ensures { IsU64Of (slot len rest) result }
+{
+    match len {
+        Some(len) => rest.checked_add(len),
+        None if rest == 0 => Some(0),
+        None => rest.checked_add(1),
+    }
+}
+
+// A field that is there.
+fn before_given<V: EncodedLen>(value: &V, rest: u64) -> Option<u64>
+    ensures { IsU64Of (slot (Some (V.len_of value.now)) rest) result }
+{
+    before(Some(value.encoded_len()?), rest)
+}
+
+// A field that may be absent.
+fn before_optional<V: EncodedLen>(value: &Option<V>, rest: u64) -> Option<u64>
+    ensures { IsU64Of (slot (option_map V.len_of value.now) rest) result }
+{
+    match value {
+        Some(value) => before_given(value, rest),
+        None => before(None, rest),
+    }
+}
+
+// A flag whose default is false.
+fn before_flag(set: bool, rest: u64) -> Option<u64>
+    ensures { IsU64Of (slot (flag set) rest) result }
+{
+    if set {
+        before(Some(1), rest)
+    } else {
+        before(None, rest)
+    }
+}
+
+// The descriptor and the list.
+#[tactic(auto, unfolding(crate::specs::Size::list_of))]
+fn described(content: u64) -> Option<u64>
+    ensures { IsU64Of (list_of content) result }
+{
+    if content == 0 {
+        Some(4)
+    } else {
+        compound_len(content)?.checked_add(3)
+    }
+}
+
+// ---- plain values
+
+impl EncodedLen for bool {
+    ghost len_of = { bool_len };
+
+    fn encoded_len(&self) -> Option<u64> {
+        Some(1)
+    }
+}
+
+impl EncodedLen for u32 {
+    ghost len_of = { uint_len };
+
+    fn encoded_len(&self) -> Option<u64> {
+        Some(unsigned_len(5, u64::from(*self)))
+    }
+}
+
+impl EncodedLen for u64 {
+    ghost len_of = { ulong_len };
+
+    fn encoded_len(&self) -> Option<u64> {
+        Some(unsigned_len(9, *self))
+    }
+}
+
+impl EncodedLen for Text {
+    ghost len_of = { bytes_len };
+
+    fn encoded_len(&self) -> Option<u64> {
+        let words = self.as_str();
+        text_len(words.len())
+    }
+}
+
+impl EncodedLen for Symbol {
+    ghost len_of = { bytes_len };
+
+    fn encoded_len(&self) -> Option<u64> {
+        let name = self.as_str();
+        text_len(name.len())
+    }
+}
+
+impl EncodedLen for DeliveryTag {
+    ghost len_of = { bytes_len };
+
+    fn encoded_len(&self) -> Option<u64> {
+        text_len(self.as_bytes().len())
+    }
+}
+
+impl EncodedLen for Fields {
+    ghost len_of = { fields_len };
+
+    fn encoded_len(&self) -> Option<u64> {
+        let mut content = 0u64;
+        for (name, value) in self.entries().iter() {
+            let name = name.encoded_len()?;
+            content = content
+                .checked_add(name)?
+                .checked_add(value.encoded_len()?)?;
+        }
+        compound_len(content)
+    }
+}
+
+impl EncodedLen for ReceiverSettleMode {
+    ghost len_of = { mode_len };
+
+    fn encoded_len(&self) -> Option<u64> {
+        Some(2)
+    }
+}
+
+// ---- errors and states
+
+impl EncodedLen for Error {
+    ghost len_of = { error_len };
+
+    fn encoded_len(&self) -> Option<u64> {
+        let rest = before_optional(&self.info, 0)?;
+        let rest = before_optional(&self.description, rest)?;
+        let rest = before_given(&self.condition, rest)?;
+        described(rest)
+    }
+}
+
+fn rejected_len(error: &Option<Error>) -> Option<u64>
+    ensures { IsU64Of (rejected_length error.now) result }
+{
+    described(before_optional(error, 0)?)
+}
+
+fn modified_len(
+    failed: &Option<bool>,
+    undeliverable: &Option<bool>,
+    annotations: &Option<Fields>,
+) -> Option<u64>
+    ensures { IsU64Of (modified_length failed.now undeliverable.now annotations.now) result }
+{
+    let rest = before_optional(annotations, 0)?;
+    let rest = before_optional(undeliverable, rest)?;
+    let rest = before_optional(failed, rest)?;
+    described(rest)
+}
+
+fn received_len(section_number: u32, section_offset: u64) -> Option<u64>
+    ensures { IsU64Of (state_len (DeliveryState.Received section_number section_offset)) result }
+{
+    let rest = before_given(&section_offset, 0)?;
+    let rest = before_given(&section_number, rest)?;
+    described(rest)
+}
+
+impl EncodedLen for DeliveryState {
+    ghost len_of = { state_len };
+
+    fn encoded_len(&self) -> Option<u64> {
+        match self {
+            DeliveryState::Accepted | DeliveryState::Released => described(0),
+            DeliveryState::Rejected { error } => rejected_len(error),
+            DeliveryState::Modified {
+                delivery_failed,
+                undeliverable_here,
+                message_annotations,
+            } => modified_len(delivery_failed, undeliverable_here, message_annotations),
+            DeliveryState::Received {
+                section_number,
+                section_offset,
+            } => received_len(*section_number, *section_offset),
+        }
+    }
+}
+
+// ---- performatives
+
+impl EncodedLen for Transfer {
+    ghost len_of = { transfer_len };
+
+    #[tactic(auto, using(crate::proofs::Sizes::sizes), unfolding(crate::specs::Size::transfer_len))]
+    fn encoded_len(&self) -> Option<u64> {
+        let rest = before_flag(self.batchable, 0)?;
+        let rest = before_flag(self.aborted, rest)?;
+        let rest = before_flag(self.resume, rest)?;
+        let rest = before_optional(&self.state, rest)?;
+        let rest = before_optional(&self.rcv_settle_mode, rest)?;
+        let rest = before_flag(self.more, rest)?;
+        let rest = before_optional(&self.settled, rest)?;
+        let rest = before_optional(&self.message_format, rest)?;
+        let rest = before_optional(&self.delivery_tag, rest)?;
+        let rest = before_optional(&self.delivery_id, rest)?;
+        let rest = before_given(&self.handle.0, rest)?;
+        described(rest)
+    }
+}

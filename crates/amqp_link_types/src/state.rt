@@ -1,0 +1,167 @@
+//! The state and the flow state of a link endpoint (2.6.7).
+//!
+//! Only the receiver grants credit; a sender spends it, one for each delivery. Counts are serial
+//! numbers that wrap, so no line here compares two of them by `<`.
+ghost use Rattle.std.specs.Prelude.{◌≡◌, ◌↔◌, ◌<◌, IfOk, IsErr, OnErr, OnOk};
+ghost use Rattle.std.specs.Int.{w32, to_be_bytes};
+ghost use Rattle.amqp_link_types.specs.Counts.{after_consuming, limit_of};
+
+#[cfg(test)]
+mod tests;
+
+use crate::role::SenderMarker;
+use crate::types::{Fields, SequenceNo};
+use std::marker::{Model, PhantomData};
+use thiserror::Error;
+
+/// The credit that a receiver grants where its user says nothing else.
+pub const DEFAULT_CREDIT: u32 = 200;
+
+/// Where a link endpoint stands between attach and detach (2.6.3 to 2.6.6).
+#[derive(Clone, Copy, Debug, Default, PartialEq, Eq)]
+pub enum LinkState {
+    /// Neither end has sent an attach.
+    #[default]
+    Unattached,
+    /// An attach was sent.
+    AttachSent,
+    /// An attach was sent whose unsettled map is incomplete.
+    IncompleteAttachSent,
+    /// An attach came.
+    AttachReceived,
+    /// An attach came whose unsettled map is incomplete.
+    IncompleteAttachReceived,
+    /// Both attaches were exchanged.
+    Attached,
+    /// Both attaches were exchanged, and the unsettled map of one of them is incomplete.
+    IncompleteAttachExchanged,
+    /// A detach that does not close was sent.
+    DetachSent,
+    /// The link is detached, and may be attached again.
+    Detached,
+    /// A detach that closes was sent.
+    CloseSent,
+    /// The link is closed for good.
+    Closed,
+}
+
+/// The counts, the credit and the flags of one end of a link (2.6.7).
+#[derive(Debug, Default, Drop)]
+pub struct LinkFlowStateInner {
+    /// The sender's count as the link was attached.
+    pub initial_delivery_count: SequenceNo,
+    /// How many deliveries were sent, from the initial count on; it wraps.
+    pub delivery_count: SequenceNo,
+    /// How many more deliveries may be sent.
+    pub link_credit: u32,
+    /// How many deliveries wait at the sender.
+    pub available: u32,
+    /// Whether the sender is to use up its credit at once.
+    pub drain: bool,
+    /// Further properties of the link.
+    pub properties: Option<Fields>,
+}
+
+/// There is less credit than was to be spent. Nothing was: try again after the receiver's next flow.
+#[derive(Clone, Copy, Debug, PartialEq, Eq, Error)]
+#[error("there is less link credit than was to be spent")]
+pub struct InsufficientCredit;
+
+/// The flow state of one end, whose role is `R`.
+///
+/// A contract sees the counts, the credit and the flags.
+#[derive(Debug, Drop)]
+pub struct LinkFlowState<R> {
+    inner: LinkFlowStateInner,
+    role: PhantomData<R>,
+}
+
+impl<R> Model for LinkFlowState<R> {
+    ghost use Rattle.std.specs.Coded.{codes};
+    ghost use Rattle.amqp_link_types.specs.contracts.types.fields.Fields as fields;
+    ghost use Rattle.amqp_link_types.specs.declared.state.LinkFlowStateInner.{LinkFlowStateInner as Inner};
+
+    ghost Value = { Inner };
+
+    ghost coded = { Prim.hlevel (codes, fields.the_row.coded) };
+
+    ghost view = { λ flow. flow.inner };
+}
+
+impl<R> LinkFlowState<R> {
+    /// The sender's count as the link was attached.
+    pub fn initial_delivery_count(&self) -> SequenceNo
+        ensures { result ≡ self.now.initial_delivery_count }
+    {
+        self.inner.initial_delivery_count
+    }
+
+    /// How many deliveries were sent, from the initial count on; it wraps.
+    pub fn delivery_count(&self) -> SequenceNo
+        ensures { result ≡ self.now.delivery_count }
+    {
+        self.inner.delivery_count
+    }
+
+    /// How many more deliveries may be sent.
+    pub fn link_credit(&self) -> u32
+        ensures { result ≡ self.now.link_credit }
+    {
+        self.inner.link_credit
+    }
+
+    /// Whether the sender is to use up its credit at once.
+    pub fn drain(&self) -> bool
+        ensures { result ≡ self.now.drain }
+    {
+        self.inner.drain
+    }
+
+    /// Further properties of the link.
+    pub fn properties(&self) -> &Option<Fields>
+        ensures { result.now ≡ self.now.properties }
+    {
+        &self.inner.properties
+    }
+}
+
+impl LinkFlowState<SenderMarker> {
+    /// A sender's flow state. Takes no memory.
+    pub fn sender(inner: LinkFlowStateInner) -> Self
+        ensures { result ≡ inner }
+    {
+        LinkFlowState {
+            inner,
+            role: PhantomData,
+        }
+    }
+
+    /// Moves `n` credits to the count, which wraps, and answers the count before as four bytes, the
+    /// highest first: the tag of the delivery that spends them. Takes no memory.
+    ///
+    /// Refused, with nothing changed, where there is less credit.
+    pub fn consume(&mut self, n: u32) -> Result<[u8; 4], InsufficientCredit>
+        ensures tag { IfOk result (λ tag. tag ≡ to_be_bytes w32 self.old.delivery_count) }
+        ensures spent { OnOk result (self.new ≡ after_consuming n self.old) }
+        ensures limit { OnOk result (limit_of self.new ≡ limit_of self.old) }
+        ensures refused { IsErr result ↔ (self.old.link_credit < n) }
+        ensures kept { OnErr result (self.new ≡ self.old) }
+    {
+        let flow = &mut self.inner;
+        if flow.link_credit < n {
+            return Err(InsufficientCredit);
+        }
+        let tag = flow.delivery_count.to_be_bytes();
+        flow.delivery_count = flow.delivery_count.wrapping_add(n);
+        flow.link_credit -= n;
+        Ok(tag)
+    }
+
+    /// Sets the credit. It stands in for an incoming flow until that is there.
+    pub fn set_link_credit(&mut self, credit: u32)
+        ensures { self.new ≡ record self.old { link_credit = credit } }
+    {
+        let flow = &mut self.inner;
+        flow.link_credit = credit;
+    }
+}

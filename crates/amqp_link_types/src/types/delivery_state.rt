@@ -1,0 +1,148 @@
+//! The state of a delivery (3.4).
+ghost use Rattle.std.specs.Prelude.{◌≡◌};
+ghost use Rattle.amqp_link_types.specs.DeliveryStates.{is_terminal, state_of};
+
+use crate::types::copy::copy_of;
+use crate::types::definitions::Error;
+use crate::types::fields::Fields;
+use std::alloc::AllocError;
+
+/// The state of a delivery at one end (3.4).
+///
+/// All but `Received` are terminal: once a delivery has such a state, it keeps it.
+#[derive(Debug, PartialEq, Eq, Drop)]
+pub enum DeliveryState {
+    /// The receiver took it (3.4.2).
+    Accepted,
+    /// The receiver found it invalid (3.4.3).
+    Rejected {
+        /// Why.
+        error: Option<Error>,
+    },
+    /// The receiver gave it back as it was (3.4.4).
+    Released,
+    /// The receiver gave it back changed (3.4.5).
+    Modified {
+        /// Whether the delivery counts as failed.
+        delivery_failed: Option<bool>,
+        /// Whether it is not to come to this link again.
+        undeliverable_here: Option<bool>,
+        /// What is to be added to the message's annotations.
+        message_annotations: Option<Fields>,
+    },
+    /// A front of it came (3.4.1): the bytes before this place.
+    Received {
+        /// The number of the section in which the front ends, counted from 0.
+        section_number: u32,
+        /// The bytes of the front since that section's start.
+        section_offset: u64,
+    },
+}
+
+/// How a delivery ended: one of the terminal states (3.4).
+#[derive(Debug, PartialEq, Eq, Drop)]
+pub enum Outcome {
+    /// The receiver took it (3.4.2).
+    Accepted,
+    /// The receiver found it invalid (3.4.3).
+    Rejected {
+        /// Why.
+        error: Option<Error>,
+    },
+    /// The receiver gave it back as it was (3.4.4).
+    Released,
+    /// The receiver gave it back changed (3.4.5).
+    Modified {
+        /// Whether the delivery counts as failed.
+        delivery_failed: Option<bool>,
+        /// Whether it is not to come to this link again.
+        undeliverable_here: Option<bool>,
+        /// What is to be added to the message's annotations.
+        message_annotations: Option<Fields>,
+    },
+}
+
+impl DeliveryState {
+    /// Whether the state is one that never changes again.
+    pub fn is_terminal(&self) -> bool
+        ensures { result ≡ is_terminal self.now }
+    {
+        !matches!(self, DeliveryState::Received { .. })
+    }
+}
+
+impl From<Outcome> for DeliveryState {
+    ghost from_gives = { λ outcome state. state ≡ state_of outcome };
+
+    fn from(outcome: Outcome) -> DeliveryState {
+        match outcome {
+            Outcome::Accepted => DeliveryState::Accepted,
+            Outcome::Rejected { error } => DeliveryState::Rejected { error },
+            Outcome::Released => DeliveryState::Released,
+            Outcome::Modified {
+                delivery_failed,
+                undeliverable_here,
+                message_annotations,
+            } => DeliveryState::Modified {
+                delivery_failed,
+                undeliverable_here,
+                message_annotations,
+            },
+        }
+    }
+}
+
+impl Clone for DeliveryState {
+    ghost is_clone = { λ state copy. copy ≡ state };
+
+    fn clone(&self) -> Result<DeliveryState, AllocError> {
+        let copy = match self {
+            DeliveryState::Accepted => DeliveryState::Accepted,
+            DeliveryState::Rejected { error } => DeliveryState::Rejected {
+                error: copy_of(error)?,
+            },
+            DeliveryState::Released => DeliveryState::Released,
+            DeliveryState::Modified {
+                delivery_failed,
+                undeliverable_here,
+                message_annotations,
+            } => DeliveryState::Modified {
+                delivery_failed: *delivery_failed,
+                undeliverable_here: *undeliverable_here,
+                message_annotations: copy_of(message_annotations)?,
+            },
+            DeliveryState::Received {
+                section_number,
+                section_offset,
+            } => DeliveryState::Received {
+                section_number: *section_number,
+                section_offset: *section_offset,
+            },
+        };
+        Ok(copy)
+    }
+}
+
+impl Clone for Outcome {
+    ghost is_clone = { λ outcome copy. copy ≡ outcome };
+
+    fn clone(&self) -> Result<Outcome, AllocError> {
+        let copy = match self {
+            Outcome::Accepted => Outcome::Accepted,
+            Outcome::Rejected { error } => Outcome::Rejected {
+                error: copy_of(error)?,
+            },
+            Outcome::Released => Outcome::Released,
+            Outcome::Modified {
+                delivery_failed,
+                undeliverable_here,
+                message_annotations,
+            } => Outcome::Modified {
+                delivery_failed: *delivery_failed,
+                undeliverable_here: *undeliverable_here,
+                message_annotations: copy_of(message_annotations)?,
+            },
+        };
+        Ok(copy)
+    }
+}

@@ -1,0 +1,141 @@
+//! The map of the deliveries that are not settled (2.6.13).
+//!
+//! It is kept as the list of its pairs, and contracts see it as that list: a put replaces in place
+//! or adds last, a removal moves the last pair into the gap.
+#![tactic(auto, using(crate::proofs::EntriesLemmas::map_steps))]
+
+ghost use Rattle.std.specs.Prelude.{◌≡◌, [], length, position, slice_get, is_some, None, Some};
+ghost use Rattle.std.specs.Prelude.{IfOk, IfErr, IfSome, IfNone, OnOk, OnErr};
+ghost use Rattle.std.specs.Map.Iter.{deref_pair};
+ghost use Rattle.std.specs.Option.{option_map, option_copied};
+ghost use Rattle.std.specs.Str.{bytes_eq};
+ghost use Rattle.amqp_link_types.specs.Found.{FoundAt, IsMissing};
+ghost use Rattle.amqp_link_types.specs.Entries.{entry_at, with_entry, without_entry, IsMap};
+
+use crate::types::delivery_tag::DeliveryTag;
+use std::alloc::{AllocFailed, Global};
+use std::marker::Model;
+use std::mem;
+
+/// What an end keeps of its unsettled deliveries, by tag (2.6.13).
+///
+/// A contract sees the list of the pairs, whose tags are distinct.
+#[derive(Drop)]
+pub struct UnsettledMap<V> {
+    pairs: Vec<(DeliveryTag, V)>,
+}
+
+impl<V> Model for UnsettledMap<V> {
+    ghost use Rattle.amqp_link_types.specs.Entries.{Entries, IsMap};
+
+    ghost Value = { Entries V };
+
+    ghost view = { λ map. map.pairs.items };
+
+    ghost invariant = { λ map. IsMap map.pairs.items };
+}
+
+impl<V> UnsettledMap<V> {
+    /// No deliveries. Takes no memory.
+    pub fn new(alloc: Global) -> Self
+        ensures { result ≡ [] }
+    {
+        UnsettledMap {
+            pairs: Vec::new(alloc),
+        }
+    }
+
+    /// How many deliveries there are.
+    pub fn len(&self) -> usize
+        ensures len { result ≡ length self.now }
+        ensures distinct { IsMap self.now }
+    {
+        self.pairs.len()
+    }
+
+    /// What is kept of a delivery.
+    pub fn get(&self, tag: &DeliveryTag) -> Option<&V>
+        ensures { option_copied result ≡ entry_at self.now tag.now }
+    {
+        let i = find(&self.pairs, tag)?;
+        Some(&self.pairs[i].1)
+    }
+
+    /// Whether the delivery is there.
+    pub fn contains(&self, tag: &DeliveryTag) -> bool
+        ensures { result ≡ is_some (entry_at self.now tag.now) }
+    {
+        self.get(tag).is_some()
+    }
+
+    /// The pair at a place, for a walk in order.
+    pub fn pair_at(&self, index: usize) -> Option<(&DeliveryTag, &V)>
+        ensures { option_map deref_pair result ≡ slice_get self.now index }
+    {
+        let pair = self.pairs.get(index)?;
+        Some((&pair.0, &pair.1))
+    }
+
+    /// Puts a delivery: in the place of the one that is there, which is answered, or last.
+    ///
+    /// Where memory is wanting nothing has changed and both come back; a tag that is there takes
+    /// none.
+    pub fn put(
+        &mut self,
+        tag: DeliveryTag,
+        value: V,
+    ) -> Result<Option<V>, AllocFailed<(DeliveryTag, V)>>
+        ensures old { IfOk result (λ old. old ≡ entry_at self.old tag) }
+        ensures put { OnOk result (self.new ≡ with_entry self.old tag value) }
+        ensures back { IfErr result (λ failed. failed.value ≡ (tag, value)) }
+        ensures kept { OnErr result (self.new ≡ self.old) }
+        ensures absent { OnErr result (entry_at self.old tag ≡ None) }
+    {
+        let Some(i) = find(&self.pairs, &tag) else {
+            self.pairs.push((tag, value))?;
+            return Ok(None);
+        };
+        let pair = &mut self.pairs[i];
+        Ok(Some(mem::replace(&mut pair.1, value)))
+    }
+
+    /// Takes a delivery out. The last pair moves into the gap. Takes no memory.
+    pub fn remove(&mut self, tag: &DeliveryTag) -> Option<V>
+        ensures value { result ≡ entry_at self.old tag.now }
+        ensures removed { self.new ≡ without_entry self.old tag.now }
+    {
+        let i = find(&self.pairs, tag)?;
+        let (_, value) = self.pairs.swap_remove(i);
+        Some(value)
+    }
+
+    /// Sets what is kept of a delivery that is there, and answers what was kept before; where it is
+    /// not there the value comes back. Takes no memory.
+    pub fn replace(&mut self, tag: &DeliveryTag, value: V) -> Result<V, V>
+        ensures old { IfOk result (λ old. entry_at self.old tag.now ≡ Some old) }
+        ensures put { OnOk result (self.new ≡ with_entry self.old tag.now value) }
+        ensures back { IfErr result (λ back. back ≡ value) }
+        ensures absent { OnErr result (entry_at self.old tag.now ≡ None) }
+        ensures kept { OnErr result (self.new ≡ self.old) }
+    {
+        let Some(i) = find(&self.pairs, tag) else {
+            return Err(value);
+        };
+        let pair = &mut self.pairs[i];
+        Ok(mem::replace(&mut pair.1, value))
+    }
+}
+
+// Where the pair with the tag stands.
+fn find<V>(pairs: &[(DeliveryTag, V)], tag: &DeliveryTag) -> Option<usize>
+    ensures found { IfSome result (FoundAt pairs.now tag.now) }
+    ensures missing { IfNone result (IsMissing pairs.now tag.now) }
+{
+    first_with(pairs, tag)
+}
+
+fn first_with<V>(pairs: &[(DeliveryTag, V)], tag: &DeliveryTag) -> Option<usize>
+    ensures { result ≡ position (λ pair. bytes_eq tag.now pair.0) pairs.now }
+{
+    pairs.iter().position(|pair| *tag == pair.0)
+}

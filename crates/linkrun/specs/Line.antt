@@ -1,0 +1,29 @@
+-- The lines of a script. An event is a word, one space, and the event's number or bytes.
+use Rattle.std.specs.Prelude.{◌≡◌, ℕ, ◌<◌, ◌^◌, ◌++◌, List, codes}
+use Rattle.std.specs.Str.Parse.{IsNumeral, digits_value}
+use Rattle.linkrun.specs.Hex.{IsHexText, bytes_of}
+use Rattle.linkrun.specs.declared.event.Event.{Event}
+use Rattle.linkrun.specs.declared.event.Event.TheVariants.{Attach, Grant, Send, Arrive, Show}
+
+-- the text writes n, in decimal digits and nothing else
+pub record IsNumber (text : List ℕ) (n : ℕ) : Type 0 where
+  pub digits : IsNumeral 10 text
+  pub value : digits_value 10 text ≡ n
+  pub fits : n < 2 ^ 32
+
+-- the text writes these bytes
+pub record IsBytes (text bytes : List ℕ) : Type 0 where
+  pub digits : IsHexText text
+  pub value : bytes ≡ bytes_of text
+
+-- the line begins with the word and its space, and P holds of the rest
+abbrev pub Begins : List ℕ → (List ℕ → Type 0) → List ℕ → Type 0
+Begins word P line = (rest : List ℕ) × (line ≡ word ++ rest) × P rest
+
+-- the line says the event
+abbrev pub Says : List ℕ → Event → Type 0
+Says line (Attach limit) = Begins (codes "attach ") (λ text. IsNumber text limit) line
+Says line (Grant credit) = Begins (codes "grant ") (λ text. IsNumber text credit) line
+Says line (Send payload) = Begins (codes "send ") (λ text. IsBytes text payload) line
+Says line (Arrive id) = Begins (codes "arrive ") (λ text. IsNumber text id) line
+Says line (Show tag) = Begins (codes "show ") (λ text. IsBytes text tag) line

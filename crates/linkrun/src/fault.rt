@@ -1,0 +1,41 @@
+//! What ends a run before its script does, as it is told.
+ghost use Rattle.std.specs.Prelude.{◌≡◌};
+
+use std::fmt;
+
+/// Why a run ended early.
+#[derive(Clone, Copy, Debug, PartialEq, Eq)]
+pub enum Fault {
+    /// This line, counted from 1, says no event.
+    NotAnEvent(u64),
+    /// A read failed, or there is no memory for a line.
+    InputFailed,
+}
+
+impl Fault {
+    ghost use Rattle.linkrun.specs.Fault.{status_of};
+
+    /// The exit status.
+    pub fn status(self) -> u8
+        ensures { result ≡ status_of self }
+    {
+        match self {
+            Fault::NotAnEvent(_) => 2,
+            Fault::InputFailed => 1,
+        }
+    }
+}
+
+impl fmt::Display for Fault {
+    ghost use Rattle.std.specs.Prelude.{Some};
+    ghost use Rattle.linkrun.specs.Fault.{fault_text};
+
+    ghost output = { λ fault. Some (fault_text fault) };
+
+    fn fmt<W: fmt::Write>(&self, f: &mut fmt::Formatter<W>) -> fmt::Result {
+        match self {
+            Fault::NotAnEvent(number) => write!(f, "line {number}: not an event"),
+            Fault::InputFailed => f.write_str("input failed"),
+        }
+    }
+}

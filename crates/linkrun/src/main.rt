@@ -1,0 +1,30 @@
+//! Runs a script of link events, one a line, on a pair of link endpoints over one wire.
+//!
+//! The script comes from standard input, the answers go to standard output, and what ends a run
+//! early is said on standard error. The exit status is 0 at the end of the script, 2 at a line that
+//! is no event, and 1 where reading, writing or memory fails.
+#![tactic(auto)]
+
+mod answer;
+mod digits;
+mod event;
+mod fault;
+mod hex;
+mod number;
+mod script;
+
+pub use script::run_script;
+use std::io::{BufReader, BufWriter, Lock};
+use std::process::ExitCode;
+
+fn main(rt: HostRuntime) -> ExitCode {
+    let alloc = rt.alloc();
+    let (Ok(mut input), Ok(mut output)) = (
+        BufReader::new(alloc, rt.reader()),
+        BufWriter::new(alloc, rt.stdout().lock()),
+    ) else {
+        return ExitCode::FAILURE;
+    };
+    let mut faults = rt.stderr().lock();
+    ExitCode::from(run_script(alloc, &mut input, &mut output, &mut faults))
+}

@@ -1,0 +1,108 @@
+//! A run of a script: its lines in order, an answer a line.
+ghost use Rattle.std.specs.Prelude.{◌≡◌, ◌≤◌, ◌↔◌, [], false, IfOk, IfSome, OnOk};
+ghost use Rattle.std.specs.Io.BufRead.{DropsThrough, first_line};
+
+use crate::answer::perform;
+use crate::event::parse_event;
+use crate::fault::Fault;
+use amqp_link::Pair;
+use std::alloc::Global;
+use std::io;
+use std::io::{BufRead, Write};
+
+#[cfg(test)]
+mod tests;
+
+/// Runs the script that `input` holds on a new pair: an answer a line goes to `output`, what ends
+/// the run early to `faults`, both flushed. What the pair refuses is answered too, and the run goes
+/// on.
+///
+/// Answers 0 at the end of the script; 2 at a line that is no event, after which nothing is read;
+/// 1 where a read fails or there is no memory for a line; and 1, with nothing said, where a write
+/// fails or there is no memory for the pair.
+pub fn run_script<R: BufRead, O: Write, F: Write>(
+    alloc: Global,
+    input: &mut R,
+    output: &mut O,
+    faults: &mut F,
+) -> u8
+    ensures { result ≤ 2 }
+{
+    let Ok(mut pair) = Pair::new(alloc, 0) else {
+        return 1;
+    };
+    run_to_end(alloc, &mut pair, input, output, faults).unwrap_or(1)
+}
+
+// Runs the script and tells how it ended. The error is a failed write.
+fn run_to_end<R: BufRead, O: Write, F: Write>(
+    alloc: Global,
+    pair: &mut Pair,
+    input: &mut R,
+    output: &mut O,
+    faults: &mut F,
+) -> io::Result<u8>
+    ensures { IfOk result (λ status. status ≤ 2) }
+{
+    let ended = run_lines(alloc, pair, input, output)?;
+    // What was answered is out before anything is said of how the run ended.
+    output.flush()?;
+    let Some(fault) = ended else {
+        return Ok(0);
+    };
+    writeln!(faults, "{fault}")?;
+    faults.flush()?;
+    Ok(fault.status())
+}
+
+// Answers the lines in order, up to the end or to the first that is at fault. The error is a
+// failed write.
+fn run_lines<R: BufRead, O: Write>(
+    alloc: Global,
+    pair: &mut Pair,
+    input: &mut R,
+    output: &mut O,
+) -> io::Result<Option<Fault>> {
+    let mut line = Vec::new(alloc);
+    for number in 1..u64::MAX {
+        match read_line(input, &mut line) {
+            Ok(true) => {}
+            Ok(false) => return Ok(None),
+            Err(_) => return Ok(Some(Fault::InputFailed)),
+        }
+        if line.is_empty() {
+            continue;
+        }
+        let event = match parse_event(alloc, line.as_slice()) {
+            Ok(Some(event)) => event,
+            Ok(None) => return Ok(Some(Fault::NotAnEvent(number))),
+            Err(_) => return Ok(Some(Fault::InputFailed)),
+        };
+        match perform(pair, &event) {
+            Ok(answer) => writeln!(output, "{answer}")?,
+            Err(refusal) => writeln!(output, "refused {refusal:?}")?,
+        }
+    }
+    Ok(Some(Fault::InputFailed))
+}
+
+// Reads the next line without its end, a line feed and a carriage return before it, and answers
+// whether there was one.
+fn read_line<R: BufRead>(input: &mut R, line: &mut Vec<u8>) -> io::Result<bool>
+    ensures line { OnOk result (IfSome (R.remaining input.old) (λ bytes. line.new.items ≡ first_line bytes)) }
+    ensures rest { OnOk result (DropsThrough (R.remaining input.old) (R.remaining input.new) 10) }
+    ensures end { IfOk result (λ is_line.
+        IfSome (R.remaining input.old) (λ bytes. (is_line ≡ false) ↔ (bytes ≡ []))) }
+{
+    line.clear();
+    if input.read_until(b'\n', line)? == 0 {
+        return Ok(false);
+    }
+    if line.last() == Some(&b'\n') {
+        let _ = line.pop();
+        if line.last() == Some(&b'\r') {
+            let _ = line.pop();
+        }
+    }
+    Ok(true)
+}
