@@ -3,13 +3,15 @@
 //! The fields of all its transfers are merged as they come; its bytes are kept in the pieces in
 //! which they came. The first transfer names the delivery; a continuation may leave its tag, id and
 //! format out, and is refused where it names another.
-ghost use Rattle.std.specs.Prelude.{◌≡◌, ◌++◌, [], ◌∷◌, List, Some, not, nat_eq, length, IfOk, OnOk, OnErr};
+ghost use Rattle.std.specs.Prelude.{◌≡◌, ◌++◌, [], ◌∷◌};
+ghost use Rattle.std.specs.Prelude.{List, Some, not, nat_eq, length, IfOk, OnOk, OnErr};
 ghost use Rattle.std.specs.Str.{bytes_eq};
 ghost use Rattle.std.specs.Option.{option_or};
 ghost use Rattle.amqp_link_types.specs.Position.{position};
 ghost use Rattle.amqp_link_core.specs.Merging.{Came, Merged, IsSilent, opening, following};
 ghost use Rattle.amqp_link_core.specs.Held.{bytes_of};
-ghost use Rattle.amqp_link_core.specs.IncompleteRefusals.{Answers, differs as fields_differ, is_inconsistent, start_tests, append_tests};
+ghost use Rattle.amqp_link_core.specs.IncompleteRefusals.{Answers, start_tests, append_tests};
+ghost use Rattle.amqp_link_core.specs.IncompleteRefusals.{differs as fields_differ, is_inconsistent};
 
 mod merging;
 mod pieces;

@@ -2,9 +2,9 @@
 ghost use Rattle.amqp_link.specs.Runs.{Follows};
 ghost use Rattle.amqp_link.specs.Worlds.{Good};
 
-use crate::pair::Pair;
+use crate::pair::{Pair, PairError};
 use amqp_link_types::types::Payload;
-use std::test::Fail;
+use std::alloc::{AllocError, Global};
 
 // What is done with a pair.
 #[derive(Debug, Drop)]
@@ -44,23 +44,27 @@ fn run(pair: &mut Pair, events: &[Event])
     }
 }
 
-#[test]
-fn two_deliveries_come_whole(rt: HostRuntime) -> Result<(), Fail> {
-    let alloc = rt.alloc();
-    let mut pair = Pair::new(alloc, 4294967295)?;
-    assert_eq!(rt; pair.attach(31), Ok(0));
+// Two sends with an arrival between them, and as many arrivals as are left.
+fn two_deliveries(alloc: Global) -> Result<Vec<Event>, AllocError> {
     let mut events = Vec::new(alloc);
+    let seven = Payload::copy_from_slice(alloc, &[1, 2, 3, 4, 5, 6, 7])?;
+    let two = Payload::copy_from_slice(alloc, &[8, 9])?;
     events.push(Event::Grant(2))?;
-    events.push(Event::Send(Payload::copy_from_slice(alloc, &[1, 2, 3, 4, 5, 6, 7])?))?;
+    events.push(Event::Send(seven))?;
     events.push(Event::Arrive(3))?;
-    events.push(Event::Send(Payload::copy_from_slice(alloc, &[8, 9])?))?;
-    for id in 0..4 {
-        events.push(Event::Arrive(id))?;
-    }
+    events.push(Event::Send(two))?;
+    events.push(Event::Arrive(4))?;
+    events.push(Event::Arrive(5))?;
+    Ok(events)
+}
+
+// At a limit of 31, seven bytes go as six and one, and the count wraps between the deliveries.
+#[test]
+fn two_deliveries_come_whole(rt: HostRuntime) {
+    let mut pair = Pair::new(rt.alloc(), 4294967295).expect(&rt, "memory");
+    let events = two_deliveries(rt.alloc()).expect(&rt, "memory");
+    assert_eq!(rt; pair.attach(31), Ok(0));
     run(&mut pair, &events);
-    assert_eq!(rt;
-        pair.arrive(0).err(),
-        Some(crate::pair::PairError::WireEmpty)
-    );
-    Ok(())
+    let empty = matches!(pair.arrive(0), Err(PairError::WireEmpty));
+    assert!(rt; empty, "all came");
 }

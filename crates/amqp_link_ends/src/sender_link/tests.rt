@@ -7,8 +7,7 @@ use amqp_link_types::types::{
     DeliveryState, DeliveryTag, Handle, InputHandle, LinkStateError, OutputHandle, Payload,
     ReceiverSettleMode, SenderSettleMode, Text, Transfer,
 };
-use std::alloc::Global;
-use std::test::Fail;
+use std::alloc::{AllocError, Global};
 
 // The link "l" with handles 0 and count 0, in this mode, with this frame limit and credit.
 fn link(
@@ -16,11 +15,12 @@ fn link(
     mode: SenderSettleMode,
     limit: u32,
     credit: u32,
-) -> Result<SenderLink, Fail> {
+) -> Result<SenderLink, AllocError> {
+    let name = Text::from(String::from_str(alloc, "l")?);
     let mut link = SenderLink::new(
         alloc,
         LinkParts {
-            name: Text::from(String::from_str(alloc, "l")?),
+            name,
             snd_settle_mode: mode,
             rcv_settle_mode: ReceiverSettleMode::First,
             flow_state: LinkFlowStateInner::default(),
@@ -36,115 +36,163 @@ fn send(link: &mut SenderLink, payload: &Payload) -> Result<Sending, LinkStateEr
     link.send_payload(Waiting::Nothing, payload, 0, None, None, false)
 }
 
-fn count_tag(alloc: Global, last: u8) -> Result<DeliveryTag, Fail> {
+// The frames of a send that went.
+fn frames_of(sending: Sending) -> Option<Vec<LinkFrame>> {
+    match sending {
+        Sending::Sent { frames, .. } => Some(frames),
+        Sending::CreditMissing => None,
+    }
+}
+
+// The settlement of a send that went.
+fn settlement_of(sending: Sending) -> Option<Settlement> {
+    match sending {
+        Sending::Sent { settlement, .. } => Some(settlement),
+        Sending::CreditMissing => None,
+    }
+}
+
+fn count_tag(alloc: Global, last: u8) -> Result<DeliveryTag, AllocError> {
     Ok(DeliveryTag::from([0, 0, 0, last].to_vec(alloc)?))
+}
+
+// What a frame shows: whether it is a first one, its payload's length, and what its transfer says.
+#[derive(Clone, Copy, Debug, PartialEq, Eq)]
+struct Shown {
+    first: bool,
+    payload: usize,
+    more: bool,
+    tagged: bool,
+    message_format: Option<u32>,
+    settled: Option<bool>,
+    delivery_id: Option<u32>,
+}
+
+fn shown_by(frame: &LinkFrame) -> Shown {
+    let transfer = frame.as_transfer();
+    Shown {
+        first: matches!(frame, LinkFrame::FirstTransfer(_)),
+        payload: transfer.payload.len(),
+        more: transfer.performative.more,
+        tagged: transfer.performative.delivery_tag.is_some(),
+        message_format: transfer.performative.message_format,
+        settled: transfer.performative.settled,
+        delivery_id: transfer.performative.delivery_id,
+    }
 }
 
 // Twelve bytes at 30 go as five, five and two; only the first frame names the delivery.
 #[test]
-fn twelve_bytes_are_three_frames(rt: HostRuntime) -> Result<(), Fail> {
+fn twelve_bytes_are_three_frames(rt: HostRuntime) {
     let alloc = rt.alloc();
-    let mut link = link(alloc, SenderSettleMode::Mixed, 30, 1)?;
-    let bytes = Payload::copy_from_slice(alloc, &[1, 2, 3, 4, 5, 6, 7, 8, 9, 10, 11, 12])?;
-    let Sending::Sent { settlement, frames } = send(&mut link, &bytes)? else {
-        assert!(rt; false, "there was credit");
-        return Ok(());
+    let mut link = link(alloc, SenderSettleMode::Mixed, 30, 1).expect(&rt, "memory");
+    let bytes = Payload::copy_from_slice(alloc, &[1, 2, 3, 4, 5, 6, 7, 8, 9, 10, 11, 12]).expect(
+        &rt, "memory",
+    );
+    let sending = send(&mut link, &bytes).expect(&rt, "it goes");
+    let frames = frames_of(sending).expect(&rt, "there is credit");
+    let rest = Shown {
+        first: false,
+        payload: 5,
+        more: true,
+        tagged: false,
+        message_format: None,
+        settled: None,
+        delivery_id: None,
     };
-    let tag = count_tag(alloc, 0)?;
-    assert_eq!(rt; settlement, Settlement::Unsettled(tag.clone()?));
+    let first = Shown {
+        first: true,
+        tagged: true,
+        message_format: Some(0),
+        settled: Some(false),
+        ..rest
+    };
+    let last = Shown {
+        payload: 2,
+        more: false,
+        ..rest
+    };
     assert_eq!(rt; frames.len(), 3);
-    for (i, frame) in frames.iter().enumerate() {
-        let transfer = frame.as_transfer();
-        let first = i == 0;
-        assert_eq!(rt;
-            matches!(frame, LinkFrame::FirstTransfer(_)),
-            first,
-            "frame {i}"
-        );
-        assert_eq!(rt;
-            transfer.payload.len(),
-            if i == 2 { 2 } else { 5 },
-            "frame {i}"
-        );
-        assert_eq!(rt; transfer.performative.more, i < 2, "frame {i}");
-        assert_eq!(rt; transfer.performative.delivery_id, None, "frame {i}");
-        assert_eq!(rt;
-            transfer.performative.delivery_tag.is_some(),
-            first,
-            "frame {i}"
-        );
-        assert_eq!(rt;
-            transfer.performative.message_format.is_some(),
-            first,
-            "frame {i}"
-        );
-        assert_eq!(rt;
-            transfer.performative.settled,
-            first.then_some(false),
-            "frame {i}"
-        );
-    }
+    assert_eq!(rt; shown_by(&frames[0]), first);
+    assert_eq!(rt; shown_by(&frames[1]), rest);
+    assert_eq!(rt; shown_by(&frames[2]), last);
+}
+
+// The first delivery is pending under the tag of its count, and the credit is spent.
+#[test]
+fn sent_delivery_is_pending(rt: HostRuntime) {
+    let alloc = rt.alloc();
+    let mut link = link(alloc, SenderSettleMode::Mixed, 30, 1).expect(&rt, "memory");
+    let bytes = Payload::copy_from_slice(alloc, &[7]).expect(&rt, "memory");
+    let tag = count_tag(alloc, 0).expect(&rt, "memory");
+    let went = send(&mut link, &bytes).is_ok();
+    assert!(rt; went);
     assert!(rt; link.unsettled().contains(&tag), "the delivery is pending");
     assert_eq!(rt; link.flow_state().link_credit(), 0);
     assert_eq!(rt; link.flow_state().delivery_count(), 1);
-    assert_eq!(rt; send(&mut link, &bytes), Ok(Sending::CreditMissing));
-    Ok(())
+    let missing = matches!(send(&mut link, &bytes), Ok(Sending::CreditMissing));
+    assert!(rt; missing, "the credit is spent");
+}
+
+// What is left of a credit of 1 after this many bytes at this limit, and how many are pending.
+fn left_at(alloc: Global, limit: u32, bytes: &[u8]) -> Result<(bool, u32, usize), AllocError> {
+    let payload = Payload::copy_from_slice(alloc, bytes)?;
+    let mut link = link(alloc, SenderSettleMode::Mixed, limit, 1)?;
+    let refused = matches!(send(&mut link, &payload), Err(LinkStateError::NoRoom));
+    Ok((
+        refused,
+        link.flow_state().link_credit(),
+        link.unsettled().len(),
+    ))
 }
 
 // At 25 the empty payload goes in one frame, and one byte has no room: nothing changes then.
 #[test]
-fn frames_have_room_or_nothing_changes(rt: HostRuntime) -> Result<(), Fail> {
-    let alloc = rt.alloc();
-    let none = Payload::new();
-    let one = Payload::copy_from_slice(alloc, &[7])?;
-    for (limit, empty_goes, byte_goes) in [
-        (0, false, false),
-        (3, false, false),
-        (24, false, false),
-        (25, true, false),
-        (26, true, true),
+fn frames_have_room_or_nothing_changes(rt: HostRuntime) {
+    for (limit, bytes, refused) in [
+        (0u32, 0usize, true),
+        (3, 0, true),
+        (24, 0, true),
+        (25, 0, false),
+        (25, 1, true),
+        (26, 1, false),
     ] {
-        let mut link = link(alloc, SenderSettleMode::Mixed, limit, 2)?;
-        let sent = send(&mut link, &one);
-        assert_eq!(rt; sent.is_ok(), byte_goes, "one byte at {limit}");
-        assert_eq!(rt;
-            sent.err(),
-            if byte_goes {
-                None
-            } else {
-                Some(LinkStateError::NoRoom)
-            }
-        );
-        let left = if byte_goes { 1 } else { 2 };
-        assert_eq!(rt; link.flow_state().link_credit(), left, "credit at {limit}");
-        assert_eq!(rt; link.unsettled().len(), 2 - left as usize, "map at {limit}");
-        let sent = send(&mut link, &none);
-        assert_eq!(rt; sent.is_ok(), empty_goes, "no byte at {limit}");
+        let left = left_at(rt.alloc(), limit, &[7u8][..bytes]).expect(&rt, "memory");
+        let wanted = if refused { (true, 1, 0) } else { (false, 0, 1) };
+        assert_eq!(rt; left, wanted, "{bytes} bytes at {limit}");
     }
-    Ok(())
 }
 
 // The transfer has the link's output handle, the frame its input handle.
 #[test]
-fn handles_are_kept_apart(rt: HostRuntime) -> Result<(), Fail> {
+fn handles_are_kept_apart(rt: HostRuntime) {
     let alloc = rt.alloc();
-    let mut link = link(alloc, SenderSettleMode::Mixed, 64, 1)?.with_output_handle(OutputHandle(9));
-    let bytes = Payload::copy_from_slice(alloc, &[7])?;
-    let Sending::Sent { frames, .. } = send(&mut link, &bytes)? else {
-        assert!(rt; false, "there was credit");
-        return Ok(());
-    };
+    let link = link(alloc, SenderSettleMode::Mixed, 64, 1).expect(&rt, "memory");
+    let mut link = link.with_output_handle(OutputHandle(9));
+    let bytes = Payload::copy_from_slice(alloc, &[7]).expect(&rt, "memory");
+    let sending = send(&mut link, &bytes).expect(&rt, "it goes");
+    let frames = frames_of(sending).expect(&rt, "there is credit");
     assert_eq!(rt; frames.len(), 1);
-    let transfer = frames[0].as_transfer();
-    assert_eq!(rt; transfer.input_handle, InputHandle(0));
-    assert_eq!(rt; transfer.performative.handle, Handle(9));
-    Ok(())
+    assert_eq!(rt; frames[0].as_transfer().input_handle, InputHandle(0));
+    assert_eq!(rt; frames[0].as_transfer().performative.handle, Handle(9));
+}
+
+// Whether a delivery of this mode and flag goes out settled, and whether it is pending then.
+fn settled_at(
+    alloc: Global,
+    mode: SenderSettleMode,
+    given: Option<bool>,
+) -> Result<(bool, bool), LinkStateError> {
+    let bytes = Payload::copy_from_slice(alloc, &[7])?;
+    let tag = count_tag(alloc, 0)?;
+    let mut link = link(alloc, mode, 64, 1)?;
+    let sending = link.send_payload(Waiting::Nothing, &bytes, 0, given, None, false)?;
+    let settled = matches!(settlement_of(sending), Some(Settlement::Settled(_)));
+    Ok((settled, link.unsettled().contains(&tag)))
 }
 
 #[test]
-fn settled_goes_by_mode(rt: HostRuntime) -> Result<(), Fail> {
-    let alloc = rt.alloc();
-    let bytes = Payload::copy_from_slice(alloc, &[7])?;
+fn settled_goes_by_mode(rt: HostRuntime) {
     for (mode, given, settled) in [
         (SenderSettleMode::Settled, None, true),
         (SenderSettleMode::Settled, Some(false), true),
@@ -152,56 +200,63 @@ fn settled_goes_by_mode(rt: HostRuntime) -> Result<(), Fail> {
         (SenderSettleMode::Mixed, None, false),
         (SenderSettleMode::Mixed, Some(true), true),
     ] {
-        let mut link = link(alloc, mode, 64, 1)?;
-        let sent = link.send_payload(Waiting::Nothing, &bytes, 0, given, None, false)?;
-        let tag = count_tag(alloc, 0)?;
-        assert_eq!(rt;
-            link.unsettled().contains(&tag),
-            !settled,
-            "{mode:?} {given:?}"
-        );
-        let wanted = if settled {
-            Settlement::Settled(tag)
-        } else {
-            Settlement::Unsettled(tag)
-        };
-        let Sending::Sent { settlement, .. } = sent else {
-            assert!(rt; false, "there was credit");
-            return Ok(());
-        };
-        assert_eq!(rt; settlement, wanted, "{mode:?} {given:?}");
+        let told = settled_at(rt.alloc(), mode, given).expect(&rt, "it goes");
+        assert_eq!(rt; told, (settled, !settled), "{mode:?} {given:?}");
     }
-    Ok(())
+}
+
+// A transfer of this tag, with a state, settled or not.
+fn transfer(alloc: Global, last: u8, settled: bool) -> Result<Transfer, AllocError> {
+    Ok(Transfer {
+        delivery_tag: Some(count_tag(alloc, last)?),
+        settled: Some(settled),
+        state: Some(DeliveryState::Accepted),
+        ..Transfer::default()
+    })
+}
+
+// Sends such a transfer; answers whether its delivery is settled.
+fn send_transfer(
+    link: &mut SenderLink,
+    alloc: Global,
+    last: u8,
+    settled: bool,
+) -> Result<bool, LinkStateError> {
+    let bytes = Payload::copy_from_slice(alloc, &[7])?;
+    let sent = link.send_payload_with_transfer(3, transfer(alloc, last, settled)?, &bytes)?;
+    Ok(matches!(sent.0, Settlement::Settled(_)))
 }
 
 // A pending tag refuses an unsettled transfer, not a settled one; the entry has no state.
 #[test]
-fn transfers_name_their_delivery(rt: HostRuntime) -> Result<(), Fail> {
+fn transfers_name_their_delivery(rt: HostRuntime) {
     let alloc = rt.alloc();
-    let bytes = Payload::copy_from_slice(alloc, &[7])?;
-    let mut link = link(alloc, SenderSettleMode::Mixed, 64, 0)?;
-    let refused = link.send_payload_with_transfer(3, Transfer::default(), &bytes);
-    assert_eq!(rt; refused.err(), Some(LinkStateError::IllegalState), "no tag");
-    let named = Transfer {
-        delivery_tag: Some(count_tag(alloc, 1)?),
-        state: Some(DeliveryState::Accepted),
-        ..Transfer::default()
-    };
-    let sent = link.send_payload_with_transfer(3, named.clone()?, &bytes)?;
-    assert_eq!(rt; sent.0, Settlement::Unsettled(count_tag(alloc, 1)?));
-    let entry = link.unsettled().get(&count_tag(alloc, 1)?);
-    assert!(rt; entry.is_some_and(|kept| kept.state.is_none() && kept.message_format == 3));
-    let again = link.send_payload_with_transfer(3, named.clone()?, &bytes);
-    assert_eq!(rt; again.err(), Some(LinkStateError::TagPending));
-    let settled = Transfer {
-        settled: Some(true),
-        ..named
-    };
-    assert!(rt; link.is_settled_on_send(&settled));
-    let sent = link.send_transfer_without_modifying_unsettled_map(settled.clone()?, &bytes)?;
-    assert!(rt; sent.0 && sent.1.len() == 1);
-    let sent = link.send_payload_with_transfer(3, settled, &bytes)?;
-    assert_eq!(rt; sent.0, Settlement::Settled(count_tag(alloc, 1)?));
+    let mut link = link(alloc, SenderSettleMode::Mixed, 64, 0).expect(&rt, "memory");
+    assert_eq!(rt; send_transfer(&mut link, alloc, 1, false), Ok(false));
+    let tag = count_tag(alloc, 1).expect(&rt, "memory");
+    let entry = link.unsettled().get(&tag);
+    let plain = entry.is_some_and(|kept| kept.state.is_none() && kept.message_format == 3);
+    assert!(rt; plain, "the entry has the format and no state");
+    let again = send_transfer(&mut link, alloc, 1, false);
+    assert_eq!(rt; again, Err(LinkStateError::TagPending));
+    assert_eq!(rt; send_transfer(&mut link, alloc, 1, true), Ok(true));
     assert_eq!(rt; link.unsettled().len(), 1);
-    Ok(())
+}
+
+// Without a tag there is nothing to register; the frames alone need none.
+#[test]
+fn frames_alone_need_no_tag(rt: HostRuntime) {
+    let alloc = rt.alloc();
+    let mut link = link(alloc, SenderSettleMode::Mixed, 64, 0).expect(&rt, "memory");
+    let bytes = Payload::copy_from_slice(alloc, &[7]).expect(&rt, "memory");
+    let refused = link.send_payload_with_transfer(3, Transfer::default(), &bytes);
+    assert!(rt;
+        matches!(refused, Err(LinkStateError::IllegalState)),
+        "no tag"
+    );
+    let sent = link
+        .send_transfer_without_modifying_unsettled_map(Transfer::default(), &bytes)
+        .expect(&rt, "it goes");
+    assert!(rt; !sent.0, "not settled");
+    assert_eq!(rt; sent.1.len(), 1);
 }

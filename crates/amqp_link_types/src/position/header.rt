@@ -18,7 +18,7 @@ pub(crate) fn header_len(bytes: &[u8]) -> usize
     }
 }
 
-// The last bytes of what was read, as many as may begin a header; blanks stand before the first byte.
+// The last bytes read, as many as may begin a header, with blanks before the first byte.
 #[derive(Clone, Copy)]
 pub(crate) struct Tail {
     last: [u8; 2],
