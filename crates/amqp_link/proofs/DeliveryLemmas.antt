@@ -1,6 +1,6 @@
 -- One delivery: what a transfer that comes, and a send, make of it.
-use Rattle.std.proofs.Common.{◌≡◌, ◌≢◌, ◌∙◌, sym, ap, subst, Bool, true, false, cond, ◌||◌, List, [], ◌∷◌, ◌++◌, refl, append_assoc, ℕ, zero, suc, ◌+◌, ◌-◌, ◌<◌, ◌≤◌, ◌^◌, inl, inr, drop, ◌⊎◌, length, map, arith, length-append, nat_lt, nat_le, ◌==◌}
-use Rattle.std.specs.Prelude.{Option, Some, None, not, IfSome, IsSomeAnd, flat_map, filter, slice_index_or, ◌&&◌, count_by}
+use Rattle.std.proofs.Common.{◌≡◌, ◌∙◌, sym, ap, subst, Bool, true, false, cond, ◌||◌, List, [], ◌∷◌, ◌++◌, refl, append_assoc, ℕ, suc, ◌+◌, ◌<◌, ◌≤◌, ◌^◌, inl, inr, drop, ◌⊎◌, length, map, arith, length-append, nat_lt, nat_le, ◌==◌}
+use Rattle.std.specs.Prelude.{Option, Some, None, not, IfSome, IsSomeAnd, slice_index_or}
 use Rattle.std.specs.List.{concat, range_with_len}
 use lib.ListN.{length-map}
 use Rattle.std.proofs.lemmas.List.{append-nil}
@@ -16,7 +16,7 @@ use Rattle.amqp_link_types.specs.Position.{position, starts, is_header_at}
 use Rattle.amqp_link.specs.Receiving.{CanReceive}
 use Rattle.amqp_link_ends.specs.Senders.{Sender, IsSent}
 use Rattle.amqp_link.specs.Steps.{received, held_after, begun, delivery_transfer}
-use Rattle.amqp_link.specs.Worlds.{bytes_in, joined, IsFront, EndsInTime, IsGood}
+use Rattle.amqp_link.specs.Worlds.{bytes_in, joined, EndsInTime, IsGood}
 use Rattle.amqp_link_types.specs.declared.delivery.UnsettledMessage.{UnsettledMessage}
 use Rattle.amqp_link_types.specs.declared.frame.LinkFrame.{LinkFrame}
 use Rattle.amqp_link_types.specs.declared.frame.LinkFrame.TheVariants.{RemoteTransfer, FirstTransfer, TransferContinuation}

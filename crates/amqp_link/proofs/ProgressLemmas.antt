@@ -1,6 +1,6 @@
 -- What has come of a delivery, after a transfer.
-use Rattle.std.proofs.Common.{◌≡◌, ◌∙◌, sym, ap, ℕ, List, ◌++◌, refl}
-use Rattle.std.specs.Prelude.{Option, Some, None, Result, Ok, Err, IfOk, OnOk, OnErr, IsSome, false}
+use Rattle.std.proofs.Common.{◌≡◌, ◌∙◌, ap, ℕ, ◌++◌, refl}
+use Rattle.std.specs.Prelude.{Some, Result, Ok, Err, IfOk, OnOk, OnErr, IsSome}
 use Rattle.amqp_link_types.specs.Position.{position}
 use Rattle.amqp_link_types.specs.Entries.{Tag, Entries, entry_at, with_entry}
 use Rattle.amqp_link_types.specs.declared.frame.LinkFrame.{LinkFrame}

@@ -1,6 +1,6 @@
 -- Each call keeps what a pair keeps.
-use Rattle.std.proofs.Common.{◌≡◌, ◌≢◌, ◌∙◌, sym, ap, subst, Bool, true, false, cond, List, [], ◌∷◌, ◌++◌, refl, ℕ, ◌<◌, ◌≤◌, ◌^◌, map, length, drop, not}
-use Rattle.std.specs.Prelude.{Option, Some, None, filter, bytes_eq, Decides, IfSome, IsSomeAnd, nat_lt}
+use Rattle.std.proofs.Common.{◌≡◌, ◌≢◌, ◌∙◌, sym, ap, subst, Bool, true, false, cond, List, [], ◌∷◌, ◌++◌, refl, ℕ, ◌<◌, ◌^◌, map, length, drop, not}
+use Rattle.std.specs.Prelude.{Option, Some, None, filter, bytes_eq, Decides, IfSome, IsSomeAnd}
 use Rattle.std.proofs.lemmas.Slice.Eq.{bytes_eq-Decides}
 use Rattle.std.proofs.lemmas.List.{append-nil, map-append}
 use Rattle.std.proofs.lemmas.List.Elements.{filter-append}
@@ -15,7 +15,6 @@ use Rattle.amqp_link.specs.Worlds.{World, Good, frames_of}
 use Rattle.amqp_link_types.specs.declared.delivery.UnsettledMessage.{UnsettledMessage}
 use Rattle.amqp_link_types.specs.declared.frame.LinkFrame.{LinkFrame}
 use Rattle.amqp_link.specs.declared.pair.progress.Progress.{Progress}
-use Rattle.amqp_link_types.specs.declared.types.definitions.InputHandle.{InputHandle}
 use Rattle.amqp_link_types.proofs.MapLemmas.{same_tag, other_tag, false_is_not_true, entry_at-put, entry_at-put_other}
 use Rattle.amqp_link.proofs.DeliveryLemmas.{kept_received, kept_receives, sent_is_under_way, good_kept}
 

@@ -8,7 +8,7 @@ use Rattle.amqp_link_ends.specs.Senders.{Sender}
 use Rattle.amqp_link.specs.Worlds.{World, IsGood, frames_of}
 use Rattle.amqp_link_types.specs.declared.delivery.UnsettledMessage.{UnsettledMessage}
 use Rattle.amqp_link_types.specs.declared.frame.LinkFrame.{LinkFrame}
-use Rattle.amqp_link_types.specs.declared.frame.LinkFrame.TheVariants.{RemoteTransfer, FirstTransfer, TransferContinuation}
+use Rattle.amqp_link_types.specs.declared.frame.LinkFrame.TheVariants.{FirstTransfer, TransferContinuation}
 use Rattle.amqp_link.specs.declared.pair.progress.Progress.{Progress}
 use Rattle.amqp_link_types.specs.declared.types.definitions.SenderSettleMode.TheVariants.{Mixed}
 

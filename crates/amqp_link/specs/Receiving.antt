@@ -1,5 +1,5 @@
 -- When a transfer can be received, and what it does to the deliveries of a pair.
-use Rattle.std.specs.Prelude.{◌≡◌, ℕ, ◌++◌, List, Option, Some, None, IsSome, not, Bool, false}
+use Rattle.std.specs.Prelude.{◌≡◌, ℕ, ◌++◌, Option, Some, None, IsSome, false}
 use Rattle.amqp_link_types.specs.Entries.{Tag, Entries, entry_at, with_entry}
 use Rattle.amqp_link_types.specs.Frames.{payload_of}
 use Rattle.amqp_link_core.specs.Held.{Held, bytes_of}
@@ -9,7 +9,7 @@ use Rattle.amqp_link_types.specs.Position.{position}
 use Rattle.amqp_link.specs.Steps.{received}
 use Rattle.amqp_link.specs.Worlds.{bytes_in}
 use Rattle.amqp_link_types.specs.declared.frame.LinkFrame.{LinkFrame}
-use Rattle.amqp_link_types.specs.declared.frame.LinkFrame.TheVariants.{RemoteTransfer, FirstTransfer, TransferContinuation}
+use Rattle.amqp_link_types.specs.declared.frame.LinkFrame.TheVariants.{FirstTransfer, TransferContinuation}
 use Rattle.amqp_link.specs.declared.pair.progress.Progress.{Progress}
 use Rattle.amqp_link_types.specs.declared.types.transfer.Transfer.{Transfer}
 

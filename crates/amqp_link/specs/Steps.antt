@@ -1,9 +1,9 @@
 -- What each call of a pair answers, and the world after it.
 use Rattle.std.specs.Prelude.{◌≡◌, ℕ, ◌^◌, Bool, true, false, not, ◌||◌, nat_lt, nat_le, ◌==◌, List, [], ◌∷◌, ◌++◌, length, Option, Some, None, is_some, is_none, codes, Result, Ok, Err}
 use Rattle.amqp_link_types.specs.Counts.{granted, after_consuming}
-use Rattle.amqp_link_types.specs.Entries.{Tag, Entries, entry_at, with_entry}
+use Rattle.amqp_link_types.specs.Entries.{Tag, entry_at, with_entry}
 use Rattle.amqp_link_types.specs.Frames.{payload_of, performative_of}
-use Rattle.amqp_link_core.specs.Held.{Held, bytes_of}
+use Rattle.amqp_link_core.specs.Held.{Held}
 use Rattle.amqp_link_types.specs.Position.{position}
 use Rattle.amqp_link_types.specs.Refusals.{refusal}
 use Rattle.amqp_link_ends.specs.Senders.{Sender, IsSent, next_tag, new_entry}

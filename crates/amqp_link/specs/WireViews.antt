@@ -1,5 +1,5 @@
 -- What the batches of a wire are seen as.
-use Rattle.std.specs.Prelude.{ℕ, ◌-◌, ◌<◌, List, flat_map, length, All}
+use Rattle.std.specs.Prelude.{◌-◌, ◌<◌, List, flat_map, length, All}
 use Rattle.std.specs.VecDeque.{deque_len, deque_capacity}
 use Rattle.amqp_link.specs.Wires.{OnWire, WireSeen, under}
 use Rattle.amqp_link.specs.declared.pair.wire.Batch.{Batch}

@@ -9,6 +9,7 @@ ghost use Rattle.amqp_link.specs.Steps.{Attaches, Grants, Sends, Arrives, Answer
 ghost use Rattle.amqp_link.specs.Steps.{new_world, attach_tests, grant_tests, send_tests, arrive_tests};
 
 mod credit;
+mod deliveries;
 mod error;
 mod progress;
 #[cfg(test)]
@@ -19,12 +20,13 @@ mod tests;
 mod wire;
 
 use crate::pair::credit::granted;
+use crate::pair::deliveries::Deliveries;
 use crate::pair::progress::{close, open, receive};
 use crate::pair::sending::{new_sender, next_tag, send_unsettled};
 use crate::pair::wire::Wire;
 use amqp_link_core::incomplete_transfer::IncompleteTransfer;
 use amqp_link_ends::sender_link::SenderLink;
-use amqp_link_types::types::{DeliveryNumber, DeliveryTag, Payload, SequenceNo, UnsettledMap};
+use amqp_link_types::types::{DeliveryNumber, DeliveryTag, Payload, SequenceNo};
 pub use error::PairError;
 pub use progress::Progress;
 use std::alloc::Global;
@@ -62,7 +64,7 @@ pub struct Pair {
     limit: Option<u32>,
     initial: SequenceNo,
     sender: SenderLink,
-    deliveries: UnsettledMap<Progress>,
+    deliveries: Deliveries,
     wire: Wire,
 }
 
@@ -97,7 +99,7 @@ impl Pair {
             limit: None,
             initial: initial_delivery_count,
             sender: new_sender(alloc, initial_delivery_count)?,
-            deliveries: UnsettledMap::new(alloc),
+            deliveries: Deliveries::new(alloc),
             wire: Wire::new(alloc),
         })
     }

@@ -5,7 +5,6 @@ use Rattle.std.specs.Int.{w32, to_be_bytes}
 use Rattle.std.specs.Option.{option_map_or}
 use Rattle.amqp_link_types.specs.declared.types.errors.LinkStateError.{LinkStateError}
 use Rattle.amqp_link_types.specs.declared.types.errors.LinkStateError.TheVariants as error
-use Rattle.amqp_link_types.specs.declared.types.definitions.Handle.{Handle}
 use Rattle.amqp_link_types.specs.declared.types.definitions.InputHandle.{InputHandle}
 use Rattle.amqp_link_types.specs.declared.types.definitions.OutputHandle.{OutputHandle}
 use Rattle.amqp_link_types.specs.declared.types.definitions.SenderSettleMode.{SenderSettleMode}

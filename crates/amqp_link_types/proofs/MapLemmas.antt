@@ -1,6 +1,6 @@
 -- Puts and look-ups of maps from tags.
-use Rattle.std.proofs.Common.{◌≡◌, ◌≢◌, ◌∙◌, sym, ap, subst, Bool, true, false, cond, List, [], ◌∷◌, ◌++◌, refl, ℕ, suc, ◌+◌, ◌-◌, Option, Some, None, not, nat_lt, length, take, position, arith, length-append, slice_set, slice_index_or}
-use Rattle.std.specs.Prelude.{bytes_eq, Decides}
+use Rattle.std.proofs.Common.{◌≡◌, ◌≢◌, ◌∙◌, sym, ap, Bool, true, false, cond, [], ◌∷◌, ◌++◌, refl, ℕ, suc, ◌+◌, ◌-◌, Some, None, not, nat_lt, length, take, position, arith, length-append, slice_set, slice_index_or}
+use Rattle.std.specs.Prelude.{bytes_eq}
 use Rattle.std.specs.List.{position_or_len}
 use Rattle.std.specs.Map.{keys_of}
 use lib.ListN.{length-map}

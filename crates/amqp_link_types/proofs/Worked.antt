@@ -1,18 +1,15 @@
 -- Values of the definitions that were worked out by hand: docs/DEFINITIONS.md lists them.
-use Rattle.std.proofs.Common.{◌≡◌, ℕ, pos, negsuc, true, false, List, [], ◌∷◌, ◌++◌, replicate, refl, Some, None, length}
+use Rattle.std.proofs.Common.{◌≡◌, ℕ, pos, negsuc, true, false, List, [], ◌∷◌, replicate, refl, Some, None}
 use Rattle.std.specs.Prelude.{codes}
 use Rattle.amqp_link_types.specs.Counts.{sdiff, granted, limit_of, after_consuming}
-use Rattle.amqp_link_types.specs.Data.{null, boolean, ubyte, uint, int, ulong, binary, list, map, symbol_array, described, no_items, item, no_pairs, pair}
-use Rattle.amqp_link_types.specs.DeliveryStates.{is_terminal}
-use Rattle.amqp_link_types.specs.Entries.{entry_at, with_entry, without_entry}
-use Rattle.amqp_link_types.specs.Frames.{cleared}
+use Rattle.amqp_link_types.specs.Data.{null, uint, int, map, described, no_pairs}
+use Rattle.amqp_link_types.specs.Entries.{with_entry, without_entry}
 use Rattle.amqp_link_types.specs.Header.{header_len}
 use Rattle.amqp_link_types.specs.Length.{encoded_len, fields_len}
 use Rattle.amqp_link_types.specs.Position.{starts, position}
 use Rattle.amqp_link_types.specs.Size.{transfer_len, before, list_of, state_len}
 use Rattle.amqp_link_types.specs.declared.state.LinkFlowStateInner.{LinkFlowStateInner}
-use Rattle.amqp_link_types.specs.declared.types.definitions.Error.{Error}
-use Rattle.amqp_link_types.specs.declared.types.delivery_state.DeliveryState.TheVariants.{Accepted, Rejected, Received}
+use Rattle.amqp_link_types.specs.declared.types.delivery_state.DeliveryState.TheVariants.{Accepted, Received}
 use Rattle.amqp_link_types.specs.declared.types.transfer.Transfer.{Transfer}
 use Rattle.amqp_link_types.specs.declared.types.value.Descriptor.TheVariants.{Code}
 

@@ -8,9 +8,10 @@ ghost use Rattle.amqp_link.specs.Receiving.{CanReceive, IsReceived};
 ghost use Rattle.amqp_link.specs.Steps.{held_after, received, begun};
 ghost use Rattle.amqp_link.specs.Worlds.{bytes_in};
 
+use crate::pair::deliveries::Deliveries;
 use amqp_link_core::incomplete_transfer::IncompleteTransfer;
 use amqp_link_types::frame::{LinkFrame, LinkTransfer};
-use amqp_link_types::types::{DeliveryNumber, DeliveryTag, ReceiverTransferError, UnsettledMap};
+use amqp_link_types::types::{DeliveryNumber, DeliveryTag, ReceiverTransferError};
 use std::alloc::{AllocError, Global};
 
 /// What has come of a delivery.
@@ -100,7 +101,7 @@ impl Progress {
 }
 
 // Sets a delivery that is there.
-fn put_back(deliveries: &mut UnsettledMap<Progress>, tag: &DeliveryTag, progress: Progress)
+fn put_back(deliveries: &mut Deliveries, tag: &DeliveryTag, progress: Progress)
     requires { IsSome (entry_at deliveries.old tag.now) }
     ensures { deliveries.new ≡ with_entry deliveries.old tag.now progress }
 {
@@ -118,31 +119,26 @@ fn blank() -> Progress
 }
 
 /// A new delivery, of which nothing has come.
-pub(crate) fn open(
-    deliveries: &mut UnsettledMap<Progress>,
-    tag: &DeliveryTag,
-) -> Result<(), AllocError>
+pub(crate) fn open(deliveries: &mut Deliveries, tag: &DeliveryTag) -> Result<(), AllocError>
     ensures ok { OnOk result (deliveries.new ≡ with_entry deliveries.old tag.now begun) }
     ensures left { OnErr result (deliveries.new ≡ deliveries.old) }
 {
-    let Ok(_) = deliveries.put(tag.clone()?, blank()) else {
-        return Err(AllocError);
-    };
-    Ok(())
+    let tag = tag.clone()?;
+    deliveries.put(tag, blank())
 }
 
 /// Takes back what `open` did. Takes no memory.
-pub(crate) fn close(deliveries: &mut UnsettledMap<Progress>, tag: &DeliveryTag)
+pub(crate) fn close(deliveries: &mut Deliveries, tag: &DeliveryTag)
     ensures { (old : Entries Progress) → entry_at old tag.now ≡ None
         → deliveries.old ≡ with_entry old tag.now begun → deliveries.new ≡ old }
 {
-    let _ = deliveries.remove(tag);
+    deliveries.remove(tag);
 }
 
 /// The next transfer of a delivery comes, with this id where it is the first. Answers the position
 /// after it. Only memory can be wanting, and nothing has changed then.
 pub(crate) fn receive(
-    deliveries: &mut UnsettledMap<Progress>,
+    deliveries: &mut Deliveries,
     alloc: Global,
     tag: &DeliveryTag,
     frame: &LinkFrame,

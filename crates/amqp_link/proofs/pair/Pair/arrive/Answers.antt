@@ -1,4 +1,4 @@
-use Rattle.std.proofs.Common.{◌≡◌, sym, ap, subst, rules, not}
+use Rattle.std.proofs.Common.{◌≡◌, sym, subst, rules, not}
 use Rattle.amqp_link.specs.PairViews.{world_of}
 use Rattle.amqp_link.specs.Worlds.{World}
 use Rattle.amqp_link.specs.Receiving.{IsReceived}

@@ -1,6 +1,5 @@
-use Rattle.std.proofs.Common.{◌≡◌, sym}
 use Rattle.amqp_link_ends.specs.Senders.{payload_tests}
-use Rattle.amqp_link.proofs.SendLemmas.{unsettled_delivery, no_refusal, only_memory, credit_is_there, done}
+use Rattle.amqp_link.proofs.SendLemmas.{unsettled_delivery, no_refusal, only_memory}
 use Rattle.amqp_link.proofs.pair.sending.send_unsettled.Goals as goal
 
 pub link_wants_memory-requires : goal.link_wants_memory-requires
