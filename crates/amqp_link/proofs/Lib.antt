@@ -4,3 +4,4 @@ pub mod RunLemmas
 pub mod SendLemmas
 pub mod WireLemmas
 pub mod WorldLemmas
+pub mod Worked

@@ -1,0 +1,67 @@
+-- Values of the definitions that were worked out by hand: docs/DEFINITIONS.md lists them.
+use Rattle.std.proofs.Common.{◌≡◌, ℕ, List, true, false, [], ◌∷◌, ◌++◌, refl, Some, None}
+use Rattle.amqp_link_types.specs.Frames.{payload_of}
+use Rattle.amqp_link_types.specs.Refusals.{refusal}
+use Rattle.amqp_link_types.specs.declared.frame.LinkFrame.{LinkFrame}
+use Rattle.amqp_link_types.specs.declared.frame.LinkFrame.TheVariants.{FirstTransfer, TransferContinuation}
+use Rattle.amqp_link.specs.Steps.{new_world, delivery_transfer, begun, received, attach_tests, grant_tests, send_tests, arrive_tests}
+use Rattle.amqp_link.specs.Wires.{OnWire, under}
+use Rattle.amqp_link.specs.Worlds.{World, bytes_in, frames_of, joined}
+use Rattle.amqp_link.specs.declared.pair.error.PairError.TheVariants.{AlreadyAttached, LimitTooSmall, NotAttached, CreditMissing, WireEmpty}
+
+-- a first frame of the delivery 07, and a second one
+abbrev first_frame : LinkFrame
+first_frame =
+    let t = delivery_transfer (7 ∷ []) in
+    FirstTransfer (record { input_handle = record { 0 = 0 }; performative = record t { more = true }; payload = 1 ∷ 2 ∷ [] })
+
+abbrev second_frame : LinkFrame
+second_frame = TransferContinuation (record { input_handle = record { 0 = 0 }; performative = delivery_transfer (7 ∷ []); payload = 3 ∷ [] })
+
+-- both under way, with a frame of another delivery between
+abbrev wire : List OnWire
+wire = under (7 ∷ []) (first_frame ∷ []) ++ under (8 ∷ []) (second_frame ∷ []) ++ under (7 ∷ []) (second_frame ∷ [])
+
+own_frames : frames_of (7 ∷ []) wire ≡ first_frame ∷ second_frame ∷ []
+own_frames = refl
+
+own_bytes : joined (frames_of (7 ∷ []) wire) ≡ 1 ∷ 2 ∷ 3 ∷ []
+own_bytes = refl
+
+held_after_one : bytes_in (received begun 5 first_frame).held ≡ 1 ∷ 2 ∷ []
+held_after_one = refl
+
+held_after_two : bytes_in (received (received begun 5 first_frame) 6 second_frame).held ≡ 1 ∷ 2 ∷ 3 ∷ []
+held_after_two = refl
+
+not_whole_after_one : (received begun 5 first_frame).whole ≡ false
+not_whole_after_one = refl
+
+whole_after_two : (received (received begun 5 first_frame) 6 second_frame).whole ≡ true
+whole_after_two = refl
+
+-- ---- refusals
+
+abbrev attached : World
+attached = let w = new_world 0 in record w { limit = Some 30 }
+
+limit_of_28 : refusal (attach_tests (new_world 0) 28) ≡ Some LimitTooSmall
+limit_of_28 = refl
+
+limit_of_29 : refusal (attach_tests (new_world 0) 29) ≡ None
+limit_of_29 = refl
+
+attached_comes_first : refusal (attach_tests attached 28) ≡ Some AlreadyAttached
+attached_comes_first = refl
+
+grant_before_attach : refusal (grant_tests (new_world 0)) ≡ Some NotAttached
+grant_before_attach = refl
+
+send_before_attach : refusal (send_tests (new_world 0) []) ≡ Some NotAttached
+send_before_attach = refl
+
+send_without_credit : refusal (send_tests attached (1 ∷ [])) ≡ Some CreditMissing
+send_without_credit = refl
+
+arrival_of_nothing : refusal (arrive_tests attached) ≡ Some WireEmpty
+arrival_of_nothing = refl
