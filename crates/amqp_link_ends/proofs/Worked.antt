@@ -48,11 +48,23 @@ no_room_for_one_at_25 = refl
 -- the link "l" with handles 0 and count 258, at 25 bytes a frame, with this credit
 abbrev link : ℕ → Sender
 link credit = record {
-  local_state = Attached; name = codes "l"; snd_settle_mode = mode.Mixed; rcv_settle_mode = First;
-  output_handle = Some (record { 0 = 0 }); input_handle = Some (record { 0 = 0 });
+  local_state = Attached;
+  name = codes "l";
+  snd_settle_mode = mode.Mixed;
+  rcv_settle_mode = First;
+  output_handle = Some (record { 0 = 0 });
+  input_handle = Some (record { 0 = 0 });
   flow_state = record {
-    initial_delivery_count = 0; delivery_count = 258; link_credit = credit; available = 0; drain = false; properties = None };
-  max_frame_size = 25; unsettled = [] }
+    initial_delivery_count = 0;
+    delivery_count = 258;
+    link_credit = credit;
+    available = 0;
+    drain = false;
+    properties = None;
+  };
+  max_frame_size = 25;
+  unsettled = [];
+}
 
 count_names_the_delivery : next_tag (link 0) ≡ 0 ∷ 0 ∷ 1 ∷ 2 ∷ []
 count_names_the_delivery = refl
