@@ -19,7 +19,7 @@ use Rattle.amqp_link.specs.Steps.{received, held_after, begun, delivery_transfer
 use Rattle.amqp_link.specs.Worlds.{bytes_in, joined, EndsInTime, IsGood}
 use Rattle.amqp_link_types.specs.declared.delivery.UnsettledMessage.{UnsettledMessage}
 use Rattle.amqp_link_types.specs.declared.frame.LinkFrame.{LinkFrame}
-use Rattle.amqp_link_types.specs.declared.frame.LinkFrame.TheVariants.{RemoteTransfer, FirstTransfer, TransferContinuation}
+use Rattle.amqp_link_types.specs.declared.frame.LinkFrame.TheVariants.{Attach, Flow, RemoteTransfer, FirstTransfer, TransferContinuation, Disposition, Detach}
 use Rattle.amqp_link.specs.declared.pair.progress.Progress.{Progress}
 use Rattle.amqp_link_types.specs.declared.types.definitions.InputHandle.{InputHandle}
 use Rattle.amqp_link_types.specs.declared.types.transfer.Transfer.{Transfer}
@@ -121,8 +121,16 @@ receives : (payload : List ℕ) (held : Option Held) (f : LinkFrame) (frames : L
 receives payload None (FirstTransfer x) frames o e h = (o.0, front_counts [] x.payload (joined frames) payload e h)
 receives payload None (TransferContinuation x) frames o e h = absurd o.0
 receives payload None (RemoteTransfer x) frames o e h = absurd o.0
+receives payload None (Attach x) frames o e h = absurd o.0
+receives payload None (Flow x) frames o e h = absurd o.0
+receives payload None (Disposition x) frames o e h = absurd o.0
+receives payload None (Detach x) frames o e h = absurd o.0
 receives payload (Some held) (FirstTransfer x) frames o e h = absurd o.0
 receives payload (Some held) (RemoteTransfer x) frames o e h = absurd o.0
+receives payload (Some held) (Attach x) frames o e h = absurd o.0
+receives payload (Some held) (Flow x) frames o e h = absurd o.0
+receives payload (Some held) (Disposition x) frames o e h = absurd o.0
+receives payload (Some held) (Detach x) frames o e h = absurd o.0
 receives payload (Some held) (TransferContinuation x) frames o e h = (o.0, front_counts (bytes_of held) x.payload (joined frames) payload e h)
 
 pub kept_receives : (o : Option UnsettledMessage) (q : Option Progress) (f : LinkFrame) (frames : List LinkFrame) → IsKept o q (f ∷ frames) → IsSomeAnd q (λ p. CanReceive p.held f)

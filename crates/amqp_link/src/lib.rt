@@ -20,9 +20,11 @@ pub use amqp_link_types::state::{
     DEFAULT_CREDIT, InsufficientCredit, LinkFlowState, LinkFlowStateInner, LinkState,
 };
 pub use amqp_link_types::types::{
-    DeliveryNumber, DeliveryState, DeliveryTag, Descriptor, Error, Fields, FilterSet, Handle,
-    InputHandle, LinkStateError, MessageFormat, Outcome, OutputHandle, Payload, ReceiverSettleMode,
-    ReceiverTransferError, Role, SenderSettleMode, SequenceNo, Symbol, Text, Transfer,
+    Attach, ConnectionStopReason, DeliveryNumber, DeliveryState, DeliveryTag, Descriptor, Detach,
+    Disposition, DistributionMode, Error, Fields, FilterSet, Handle, InputHandle, LinkFlow,
+    LinkStateError, MessageFormat, Outcome, OutputHandle, Payload, ReceiverSettleMode,
+    ReceiverTransferError, Role, SenderSettleMode, SequenceNo, SessionStopReason, Source, Symbol,
+    Symbols, Target, TargetArchetype, TerminusDurability, TerminusExpiryPolicy, Text, Transfer,
     UnsettledMap, Value,
 };
 pub use pair::{Arrived, Pair, PairError, Sent};

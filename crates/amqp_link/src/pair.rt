@@ -207,7 +207,7 @@ impl Pair {
             return Err(PairError::WireEmpty);
         };
         let tag = tag.clone()?;
-        let whole = !frame.as_transfer().performative.more;
+        let whole = !frame.has_more();
         let (section_number, section_offset) = receive(
             &mut self.deliveries,
             self.alloc,

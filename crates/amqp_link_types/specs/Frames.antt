@@ -1,24 +1,47 @@
 -- The frames of one delivery (OASIS AMQP 1.0 core, 2.7.5).
-use Rattle.std.specs.Prelude.{◌≡◌, ℕ, ◌+◌, ◌<◌, List, length, nat_lt, ◌==◌, if◌then◌else◌, None, slice_index_or}
+use Rattle.std.specs.Prelude.{◌≡◌, ℕ, ◌+◌, ◌<◌, Bool, false, List, [], length, nat_lt, ◌==◌, if◌then◌else◌, Option, Some, None, slice_index_or}
 use Rattle.amqp_link_types.specs.declared.types.transfer.Transfer.{Transfer}
 use Rattle.amqp_link_types.specs.declared.types.definitions.InputHandle.{InputHandle}
 use Rattle.amqp_link_types.specs.declared.frame.LinkTransfer.{LinkTransfer}
 use Rattle.amqp_link_types.specs.declared.frame.LinkFrame.{LinkFrame}
 use Rattle.amqp_link_types.specs.declared.frame.LinkFrame.TheVariants.{RemoteTransfer, FirstTransfer, TransferContinuation}
 
--- the transfer in a frame
-abbrev pub link_transfer : LinkFrame → LinkTransfer
-link_transfer (RemoteTransfer t) = t
-link_transfer (FirstTransfer t) = t
-link_transfer (TransferContinuation t) = t
+-- the transfer in a frame, if it is one
+abbrev pub link_transfer : LinkFrame → Option LinkTransfer
+link_transfer (RemoteTransfer t) = Some t
+link_transfer (FirstTransfer t) = Some t
+link_transfer (TransferContinuation t) = Some t
+link_transfer _ = None
 
--- the payload of a frame
+-- the payload of a frame: nothing where it is no transfer
 abbrev pub payload_of : LinkFrame → List ℕ
-payload_of frame = (link_transfer frame).payload
+payload_of (RemoteTransfer t) = t.payload
+payload_of (FirstTransfer t) = t.payload
+payload_of (TransferContinuation t) = t.payload
+payload_of _ = []
 
--- the fields of a frame's transfer
+-- a transfer that says nothing
+abbrev pub silent : Transfer
+silent = record {
+  handle = record { 0 = 0 };
+  delivery_id = None;
+  delivery_tag = None;
+  message_format = None;
+  settled = None;
+  more = false;
+  rcv_settle_mode = None;
+  state = None;
+  resume = false;
+  aborted = false;
+  batchable = false;
+}
+
+-- the fields of a frame's transfer; a frame that is no transfer says nothing
 abbrev pub performative_of : LinkFrame → Transfer
-performative_of frame = (link_transfer frame).performative
+performative_of (RemoteTransfer t) = t.performative
+performative_of (FirstTransfer t) = t.performative
+performative_of (TransferContinuation t) = t.performative
+performative_of _ = silent
 
 -- without the five fields that only a first transfer has to state
 abbrev pub cleared : Transfer → Transfer

@@ -2,13 +2,31 @@
 -- core, 1.6, 2.7 and 3.4). A length is a sum over the list of a type's fields, in the order of the
 -- standard's table.
 use Rattle.std.specs.Prelude.{◌+◌, ◌==◌, if◌then◌else◌, [], ◌∷◌}
-use Rattle.std.specs.Prelude.{ℕ, Bool, true, false, List, length, Option, Some, None, option_map}
-use Rattle.amqp_link_types.specs.Length.{unsigned_len, text_len, compound_len, fields_len}
+use Rattle.std.specs.Prelude.{ℕ, Bool, true, false, List, length, sum_by, codes, Option, Some, None, option_map}
+use Rattle.amqp_link_types.specs.Length.{unsigned_len, text_len, compound_len, array_len, fields_len}
+use Rattle.amqp_link_types.specs.Entries.{Tag, Entries}
 use Rattle.amqp_link_types.specs.Data.{Data}
+use Rattle.amqp_link_types.specs.declared.types.attach.Attach.{Attach}
 use Rattle.amqp_link_types.specs.declared.types.definitions.Error.{Error}
 use Rattle.amqp_link_types.specs.declared.types.definitions.ReceiverSettleMode.{ReceiverSettleMode}
+use Rattle.amqp_link_types.specs.declared.types.definitions.ReceiverSettleMode.TheVariants as rcv_mode
+use Rattle.amqp_link_types.specs.declared.types.definitions.Role.{Role}
+use Rattle.amqp_link_types.specs.declared.types.definitions.SenderSettleMode.{SenderSettleMode}
+use Rattle.amqp_link_types.specs.declared.types.definitions.SenderSettleMode.TheVariants as snd_mode
 use Rattle.amqp_link_types.specs.declared.types.delivery_state.DeliveryState.{DeliveryState}
 use Rattle.amqp_link_types.specs.declared.types.delivery_state.DeliveryState.TheVariants as state
+use Rattle.amqp_link_types.specs.declared.types.delivery_state.Outcome.{Outcome}
+use Rattle.amqp_link_types.specs.declared.types.delivery_state.Outcome.TheVariants as outcome
+use Rattle.amqp_link_types.specs.declared.types.terminus.DistributionMode.{DistributionMode}
+use Rattle.amqp_link_types.specs.declared.types.terminus.DistributionMode.TheVariants as distribution
+use Rattle.amqp_link_types.specs.declared.types.terminus.Source.{Source}
+use Rattle.amqp_link_types.specs.declared.types.terminus.Target.{Target}
+use Rattle.amqp_link_types.specs.declared.types.terminus.TargetArchetype.{TargetArchetype}
+use Rattle.amqp_link_types.specs.declared.types.terminus.TargetArchetype.TheVariants as archetype
+use Rattle.amqp_link_types.specs.declared.types.terminus.TerminusDurability.{TerminusDurability}
+use Rattle.amqp_link_types.specs.declared.types.terminus.TerminusDurability.TheVariants as durable
+use Rattle.amqp_link_types.specs.declared.types.terminus.TerminusExpiryPolicy.{TerminusExpiryPolicy}
+use Rattle.amqp_link_types.specs.declared.types.terminus.TerminusExpiryPolicy.TheVariants as expiry
 use Rattle.amqp_link_types.specs.declared.types.transfer.Transfer.{Transfer}
 
 -- ---- described lists, by the lengths of their fields: None is a field that is absent, or that
@@ -60,6 +78,42 @@ bool_len b = 1
 abbrev pub mode_len : ReceiverSettleMode → ℕ
 mode_len mode = 2
 
+-- which end it is, a truth value (2.8.1)
+abbrev pub role_len : Role → ℕ
+role_len role = 1
+
+-- the settle modes of an attach, numbers of 8 bits, by default mixed and first (2.7.3)
+abbrev pub snd_mode_field : SenderSettleMode → Option ℕ
+snd_mode_field snd_mode.Unsettled = Some 2
+snd_mode_field snd_mode.Settled = Some 2
+snd_mode_field snd_mode.Mixed = None
+
+abbrev pub rcv_mode_field : ReceiverSettleMode → Option ℕ
+rcv_mode_field rcv_mode.First = None
+rcv_mode_field rcv_mode.Second = Some 2
+
+-- a terminus's durability, by its number: none, which is 0, by default (3.5.5)
+abbrev pub durable_field : TerminusDurability → Option ℕ
+durable_field durable.None = None
+durable_field durable.Configuration = Some (uint_len 1)
+durable_field durable.UnsettledState = Some (uint_len 2)
+
+-- when a terminus expires, by its symbol: as the session ends by default (3.5.6)
+abbrev pub expiry_field : TerminusExpiryPolicy → Option ℕ
+expiry_field expiry.LinkDetach = Some (bytes_len (codes "link-detach"))
+expiry_field expiry.SessionEnd = None
+expiry_field expiry.ConnectionClose = Some (bytes_len (codes "connection-close"))
+expiry_field expiry.Never = Some (bytes_len (codes "never"))
+
+-- a terminus's timeout, 0 by default (3.5.3)
+abbrev pub timeout_field : ℕ → Option ℕ
+timeout_field seconds = if seconds == 0 then None else Some (uint_len seconds)
+
+-- how messages are given out, by its symbol (3.5.7)
+abbrev pub distribution_len : DistributionMode → ℕ
+distribution_len distribution.Move = bytes_len (codes "move")
+distribution_len distribution.Copy = bytes_len (codes "copy")
+
 -- ---- errors and states
 
 -- an error (2.8.14)
@@ -92,7 +146,77 @@ state_len (state.Modified failed undeliverable annotations) =
 state_len (state.Received number offset) =
     described_len (Some (uint_len number) ∷ Some (ulong_len offset) ∷ [])
 
+-- an outcome (3.4)
+abbrev pub outcome_len : Outcome → ℕ
+outcome_len outcome.Accepted = described_len []
+outcome_len (outcome.Rejected error) = rejected_len error
+outcome_len outcome.Released = described_len []
+outcome_len (outcome.Modified failed undeliverable annotations) =
+    modified_len failed undeliverable annotations
+
+-- ---- termini
+
+-- a source (3.5.3)
+abbrev pub source_len : Source → ℕ
+source_len s = described_len (
+    option_map bytes_len s.address
+    ∷ durable_field s.durable
+    ∷ expiry_field s.expiry_policy
+    ∷ timeout_field s.timeout
+    ∷ flag s.dynamic
+    ∷ option_map fields_len s.dynamic_node_properties
+    ∷ option_map distribution_len s.distribution_mode
+    ∷ option_map fields_len s.filter
+    ∷ option_map outcome_len s.default_outcome
+    ∷ option_map array_len s.outcomes
+    ∷ option_map array_len s.capabilities
+    ∷ [])
+
+-- a target (3.5.4)
+abbrev pub target_len : Target → ℕ
+target_len t = described_len (
+    option_map bytes_len t.address
+    ∷ durable_field t.durable
+    ∷ expiry_field t.expiry_policy
+    ∷ timeout_field t.timeout
+    ∷ flag t.dynamic
+    ∷ option_map fields_len t.dynamic_node_properties
+    ∷ option_map array_len t.capabilities
+    ∷ [])
+
+-- a target of any kind
+abbrev pub archetype_len : TargetArchetype → ℕ
+archetype_len (archetype.Target t) = target_len t
+
 -- ---- performatives
+
+-- an entry of an attach's map: a tag, and a state or null (2.7.3)
+abbrev pub entry_len : Tag × Option DeliveryState → ℕ
+entry_len (tag, None) = bytes_len tag + 1
+entry_len (tag, Some state) = bytes_len tag + state_len state
+
+-- an attach's map
+abbrev pub unsettled_len : Entries (Option DeliveryState) → ℕ
+unsettled_len entries = compound_len (sum_by entry_len entries)
+
+-- an attach (2.7.3)
+unfoldable pub attach_len : Attach → ℕ
+attach_len a = described_len (
+    Some (bytes_len a.name)
+    ∷ Some (uint_len a.handle.0)
+    ∷ Some (role_len a.role)
+    ∷ snd_mode_field a.snd_settle_mode
+    ∷ rcv_mode_field a.rcv_settle_mode
+    ∷ option_map source_len a.source
+    ∷ option_map archetype_len a.target
+    ∷ option_map unsettled_len a.unsettled
+    ∷ flag a.incomplete_unsettled
+    ∷ option_map uint_len a.initial_delivery_count
+    ∷ option_map ulong_len a.max_message_size
+    ∷ option_map array_len a.offered_capabilities
+    ∷ option_map array_len a.desired_capabilities
+    ∷ option_map fields_len a.properties
+    ∷ [])
 
 -- a transfer (2.7.5)
 unfoldable pub transfer_len : Transfer → ℕ

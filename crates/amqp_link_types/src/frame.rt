@@ -1,8 +1,8 @@
 //! The frames of a link (2.7).
-ghost use Rattle.std.specs.Prelude.{◌≡◌};
-ghost use Rattle.amqp_link_types.specs.Frames.{cleared, link_transfer};
+ghost use Rattle.std.specs.Prelude.{◌≡◌, option_copied};
+ghost use Rattle.amqp_link_types.specs.Frames.{cleared, link_transfer, performative_of};
 
-use crate::types::{InputHandle, Payload, Transfer};
+use crate::types::{Attach, Detach, Disposition, InputHandle, LinkFlow, Payload, Transfer};
 
 /// A transfer with its payload, as it stands in one frame (2.7.5).
 #[derive(Debug, PartialEq, Eq, Drop)]
@@ -18,23 +18,42 @@ pub struct LinkTransfer {
 /// A frame of a link.
 #[derive(Debug, PartialEq, Eq, Drop)]
 pub enum LinkFrame {
+    /// An end takes the link up.
+    Attach(Attach),
+    /// An end tells of its counts and credit.
+    Flow(LinkFlow),
     /// A transfer that came from the other end.
     RemoteTransfer(LinkTransfer),
     /// The first transfer of a delivery that is sent. The session gives it its delivery id.
     FirstTransfer(LinkTransfer),
     /// A further transfer of a delivery that is sent. It gets no delivery id.
     TransferContinuation(LinkTransfer),
+    /// An end tells what became of deliveries.
+    Disposition(Disposition),
+    /// An end lets the link go.
+    Detach(Detach),
 }
 
 impl LinkFrame {
-    /// The transfer in the frame.
-    pub fn as_transfer(&self) -> &LinkTransfer
-        ensures { result.now ≡ link_transfer self.now }
+    /// The transfer in the frame, if it is one.
+    pub fn as_transfer(&self) -> Option<&LinkTransfer>
+        ensures { option_copied result ≡ link_transfer self.now }
     {
         match self {
             LinkFrame::RemoteTransfer(transfer)
             | LinkFrame::FirstTransfer(transfer)
-            | LinkFrame::TransferContinuation(transfer) => transfer,
+            | LinkFrame::TransferContinuation(transfer) => Some(transfer),
+            _ => None,
+        }
+    }
+
+    /// Whether more transfers of its delivery follow the frame.
+    pub fn has_more(&self) -> bool
+        ensures { result ≡ (performative_of self.now).more }
+    {
+        match self.as_transfer() {
+            Some(transfer) => transfer.performative.more,
+            None => false,
         }
     }
 }

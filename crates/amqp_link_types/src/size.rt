@@ -9,15 +9,17 @@ ghost use Rattle.amqp_link_types.specs.Length.{IsU64Of, fields_len};
 ghost use Rattle.amqp_link_types.specs.Size.{before as slot, list_of, flag, bool_len, uint_len};
 ghost use Rattle.amqp_link_types.specs.Size.{ulong_len, bytes_len, mode_len, error_len, state_len};
 ghost use Rattle.amqp_link_types.specs.Size.{rejected_len as rejected_length, transfer_len};
-ghost use Rattle.amqp_link_types.specs.Size.{modified_len as modified_length};
+ghost use Rattle.amqp_link_types.specs.Size.{modified_len as modified_length, outcome_len};
 
+mod attach;
+mod terminus;
 #[cfg(test)]
 mod tests;
 pub(crate) mod value;
 
 use crate::size::value::{compound_len, text_len, unsigned_len};
 use crate::types::{
-    DeliveryState, DeliveryTag, Error, Fields, ReceiverSettleMode, Symbol, Text, Transfer,
+    DeliveryState, DeliveryTag, Error, Fields, Outcome, ReceiverSettleMode, Symbol, Text, Transfer,
 };
 
 /// What has a length in bytes when it is written.
@@ -35,7 +37,7 @@ pub trait EncodedLen {
 
 // A field before others that take `rest` bytes; none is a null.
 #[tactic(auto, unfolding(crate::specs::Size::before))]
-fn before(len: Option<u64>, rest: u64) -> Option<u64>
+pub(crate) fn before(len: Option<u64>, rest: u64) -> Option<u64>
     ensures { IsU64Of (slot len rest) result }
 {
     match len {
@@ -46,14 +48,14 @@ fn before(len: Option<u64>, rest: u64) -> Option<u64>
 }
 
 // A field that is there.
-fn before_given<V: EncodedLen>(value: &V, rest: u64) -> Option<u64>
+pub(crate) fn before_given<V: EncodedLen>(value: &V, rest: u64) -> Option<u64>
     ensures { IsU64Of (slot (Some (V.len_of value.now)) rest) result }
 {
     before(Some(value.encoded_len()?), rest)
 }
 
 // A field that may be absent.
-fn before_optional<V: EncodedLen>(value: &Option<V>, rest: u64) -> Option<u64>
+pub(crate) fn before_optional<V: EncodedLen>(value: &Option<V>, rest: u64) -> Option<u64>
     ensures { IsU64Of (slot (option_map V.len_of value.now) rest) result }
 {
     match value {
@@ -63,7 +65,7 @@ fn before_optional<V: EncodedLen>(value: &Option<V>, rest: u64) -> Option<u64>
 }
 
 // A flag whose default is false.
-fn before_flag(set: bool, rest: u64) -> Option<u64>
+pub(crate) fn before_flag(set: bool, rest: u64) -> Option<u64>
     ensures { IsU64Of (slot (flag set) rest) result }
 {
     if set {
@@ -75,7 +77,7 @@ fn before_flag(set: bool, rest: u64) -> Option<u64>
 
 // The descriptor and the list.
 #[tactic(auto, unfolding(crate::specs::Size::list_of))]
-fn described(content: u64) -> Option<u64>
+pub(crate) fn described(content: u64) -> Option<u64>
     ensures { IsU64Of (list_of content) result }
 {
     if content == 0 {
@@ -216,6 +218,22 @@ impl EncodedLen for DeliveryState {
                 section_number,
                 section_offset,
             } => received_len(*section_number, *section_offset),
+        }
+    }
+}
+
+impl EncodedLen for Outcome {
+    ghost len_of = { outcome_len };
+
+    fn encoded_len(&self) -> Option<u64> {
+        match self {
+            Outcome::Accepted | Outcome::Released => described(0),
+            Outcome::Rejected { error } => rejected_len(error),
+            Outcome::Modified {
+                delivery_failed,
+                undeliverable_here,
+                message_annotations,
+            } => modified_len(delivery_failed, undeliverable_here, message_annotations),
         }
     }
 }

@@ -1,7 +1,7 @@
 //! The deliveries of a pair by their tags.
 //!
 //! The map is hashed, so that what an arrival costs does not grow with the number of deliveries.
-ghost use Rattle.std.specs.Prelude.{◌≡◌, [], IfOk, OnOk, OnErr};
+ghost use Rattle.std.specs.Prelude.{◌≡◌, [], IfOk, IfErr, OnOk, OnErr};
 ghost use Rattle.std.specs.Option.{option_copied};
 ghost use Rattle.amqp_link_types.specs.Entries.{entry_at, with_entry, without_entry};
 
@@ -74,6 +74,7 @@ impl Deliveries {
     ) -> Result<Progress, Progress>
         ensures old { IfOk result (λ old. entry_at self.old tag.now ≡ Some old) }
         ensures put { OnOk result (self.new ≡ with_entry self.old tag.now progress) }
+        ensures back { IfErr result (λ back. back ≡ progress) }
         ensures absent { OnErr result (entry_at self.old tag.now ≡ None) }
         ensures kept { OnErr result (self.new ≡ self.old) }
     {

@@ -95,7 +95,7 @@ impl Progress {
                 self.whole = self.whole || !next.performative.more;
                 Ok(place)
             }
-            LinkFrame::RemoteTransfer(_) => unreachable!(),
+            _ => unreachable!(),
         }
     }
 }

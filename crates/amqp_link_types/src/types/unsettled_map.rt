@@ -4,7 +4,7 @@
 //! or adds last, a removal moves the last pair into the gap.
 #![tactic(auto, using(crate::proofs::EntriesLemmas::map_steps))]
 
-ghost use Rattle.std.specs.Prelude.{◌≡◌, [], length, position, slice_get, is_some, None, Some};
+ghost use Rattle.std.specs.Prelude.{◌≡◌, ◌&&◌, [], length, position, slice_get, is_some, None, Some};
 ghost use Rattle.std.specs.Prelude.{IfOk, IfErr, IfSome, IfNone, OnOk, OnErr};
 ghost use Rattle.std.specs.Map.Iter.{deref_pair};
 ghost use Rattle.std.specs.Option.{option_map, option_copied};
@@ -12,15 +12,16 @@ ghost use Rattle.std.specs.Str.{bytes_eq};
 ghost use Rattle.amqp_link_types.specs.Found.{FoundAt, IsMissing};
 ghost use Rattle.amqp_link_types.specs.Entries.{entry_at, with_entry, without_entry, IsMap};
 
+use crate::types::delivery_state::DeliveryState;
 use crate::types::delivery_tag::DeliveryTag;
-use std::alloc::{AllocFailed, Global};
+use std::alloc::{AllocError, AllocFailed, Global};
 use std::marker::Model;
 use std::mem;
 
 /// What an end keeps of its unsettled deliveries, by tag (2.6.13).
 ///
 /// A contract sees the list of the pairs, whose tags are distinct.
-#[derive(Drop)]
+#[derive(Debug, Drop)]
 pub struct UnsettledMap<V> {
     pairs: Vec<(DeliveryTag, V)>,
 }
@@ -76,6 +77,13 @@ impl<V> UnsettledMap<V> {
         Some((&pair.0, &pair.1))
     }
 
+    // The pairs in order.
+    pub(crate) fn pairs(&self) -> &[(DeliveryTag, V)]
+        ensures { result.now ≡ self.now }
+    {
+        self.pairs.as_slice()
+    }
+
     /// Puts a delivery: in the place of the one that is there, which is answered, or last.
     ///
     /// Where memory is wanting nothing has changed and both come back; a tag that is there takes
@@ -124,6 +132,42 @@ impl<V> UnsettledMap<V> {
         let pair = &mut self.pairs[i];
         Ok(mem::replace(&mut pair.1, value))
     }
+}
+
+// What an attach says of its deliveries is copied whole (2.7.3).
+impl Clone for UnsettledMap<Option<DeliveryState>> {
+    ghost is_clone = { λ map copy. copy ≡ map };
+
+    fn clone(&self) -> Result<UnsettledMap<Option<DeliveryState>>, AllocError> {
+        Ok(UnsettledMap {
+            pairs: self.pairs.clone()?,
+        })
+    }
+}
+
+impl<V: PartialEq> PartialEq for UnsettledMap<V> {
+    ghost use Rattle.std.specs.Cmp.Lexicographic.{pointwise, lists_per, nat_list_eq_equiv};
+    ghost use Rattle.std.specs.Cmp.{and_per, on_per, partial_equiv_from_equiv};
+
+    ghost eq = { pointwise (λ e f. bytes_eq e.0 f.0 && V.eq e.1 f.1) };
+
+    ghost laws = { lists_per (and_per
+        (on_per (λ e. e.0) (partial_equiv_from_equiv nat_list_eq_equiv))
+        (on_per (λ e. e.1) V.laws)) };
+
+    // Two maps are equal where their pairs are, in their order.
+    fn eq(&self, other: &UnsettledMap<V>) -> bool {
+        self.pairs() == other.pairs()
+    }
+}
+
+impl<V: Eq> Eq for UnsettledMap<V> {
+    ghost use Rattle.std.specs.Cmp.Lexicographic.{lists_equiv, nat_list_eq_equiv};
+    ghost use Rattle.std.specs.Cmp.{and_equiv, on_equiv};
+
+    ghost laws = { lists_equiv (and_equiv
+        (on_equiv (λ e. e.0) nat_list_eq_equiv)
+        (on_equiv (λ e. e.1) V.Eq.laws)) };
 }
 
 // Where the pair with the tag stands.

@@ -1,0 +1,101 @@
+//! The performatives of a link that are neither attach nor transfer: flow, disposition and detach
+//! (2.7.4, 2.7.6 and 2.7.7).
+ghost use Rattle.std.specs.Prelude.{◌≡◌};
+
+use crate::types::copy::copy_of;
+use crate::types::definitions::{DeliveryNumber, Error, Handle, Role, SequenceNo};
+use crate::types::delivery_state::DeliveryState;
+use crate::types::fields::Fields;
+use std::alloc::AllocError;
+
+/// The part of a flow that concerns a link (2.7.4). The session adds its windows.
+///
+/// The default is a flow at handle 0 that says nothing else.
+#[derive(Debug, Default, PartialEq, Eq, Drop)]
+pub struct LinkFlow {
+    /// The handle of the link at the end that sends the flow.
+    pub handle: Handle,
+    /// The sender's delivery count; a receiver that has seen none leaves it out.
+    pub delivery_count: Option<SequenceNo>,
+    /// The credit, as the end that sends the flow knows it.
+    pub link_credit: Option<u32>,
+    /// How many deliveries wait at the sender.
+    pub available: Option<u32>,
+    /// Whether the sender is to use up its credit at once.
+    pub drain: bool,
+    /// Whether the other end is asked to answer with its own state.
+    pub echo: bool,
+    /// Further properties of the link.
+    pub properties: Option<Fields>,
+}
+
+/// What became of deliveries, by their numbers (2.7.6).
+#[derive(Debug, PartialEq, Eq, Drop)]
+pub struct Disposition {
+    /// Which end sends it: that of the link on which it received or sent the deliveries.
+    pub role: Role,
+    /// The number of the first delivery.
+    pub first: DeliveryNumber,
+    /// The number of the last delivery; none where it is the first.
+    pub last: Option<DeliveryNumber>,
+    /// Whether the deliveries are settled at this end.
+    pub settled: bool,
+    /// The state of the deliveries at this end.
+    pub state: Option<DeliveryState>,
+    /// Whether the other end may let its own disposition wait.
+    pub batchable: bool,
+}
+
+/// The end of an attachment (2.7.7).
+#[derive(Debug, PartialEq, Eq, Drop)]
+pub struct Detach {
+    /// The handle of the link at the end that sends this.
+    pub handle: Handle,
+    /// Whether the link is closed for good.
+    pub closed: bool,
+    /// Why, where something went wrong.
+    pub error: Option<Error>,
+}
+
+impl Clone for LinkFlow {
+    ghost is_clone = { λ flow copy. copy ≡ flow };
+
+    fn clone(&self) -> Result<LinkFlow, AllocError> {
+        Ok(LinkFlow {
+            handle: self.handle,
+            delivery_count: self.delivery_count,
+            link_credit: self.link_credit,
+            available: self.available,
+            drain: self.drain,
+            echo: self.echo,
+            properties: copy_of(&self.properties)?,
+        })
+    }
+}
+
+impl Clone for Disposition {
+    ghost is_clone = { λ disposition copy. copy ≡ disposition };
+
+    fn clone(&self) -> Result<Disposition, AllocError> {
+        Ok(Disposition {
+            role: self.role,
+            first: self.first,
+            last: self.last,
+            settled: self.settled,
+            state: copy_of(&self.state)?,
+            batchable: self.batchable,
+        })
+    }
+}
+
+impl Clone for Detach {
+    ghost is_clone = { λ detach copy. copy ≡ detach };
+
+    fn clone(&self) -> Result<Detach, AllocError> {
+        Ok(Detach {
+            handle: self.handle,
+            closed: self.closed,
+            error: copy_of(&self.error)?,
+        })
+    }
+}

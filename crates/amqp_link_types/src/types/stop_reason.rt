@@ -1,0 +1,51 @@
+//! Why the layers below a link have stopped. They hand it in.
+ghost use Rattle.std.specs.Prelude.{◌≡◌};
+
+use crate::types::definitions::Error;
+use std::alloc::AllocError;
+
+/// Why a connection has stopped (2.4).
+#[derive(Debug, PartialEq, Eq, Drop)]
+pub enum ConnectionStopReason {
+    /// It was closed.
+    Closed,
+    /// The other end closed it with this error.
+    RemoteClosedWithError(Error),
+}
+
+/// Why a session has stopped (2.5).
+#[derive(Debug, PartialEq, Eq, Drop)]
+pub enum SessionStopReason {
+    /// It was ended.
+    Ended,
+    /// Its connection has stopped.
+    ConnectionStopped(ConnectionStopReason),
+}
+
+impl Clone for ConnectionStopReason {
+    ghost is_clone = { λ reason copy. copy ≡ reason };
+
+    fn clone(&self) -> Result<ConnectionStopReason, AllocError> {
+        let copy = match self {
+            ConnectionStopReason::Closed => ConnectionStopReason::Closed,
+            ConnectionStopReason::RemoteClosedWithError(error) => {
+                ConnectionStopReason::RemoteClosedWithError(error.clone()?)
+            }
+        };
+        Ok(copy)
+    }
+}
+
+impl Clone for SessionStopReason {
+    ghost is_clone = { λ reason copy. copy ≡ reason };
+
+    fn clone(&self) -> Result<SessionStopReason, AllocError> {
+        let copy = match self {
+            SessionStopReason::Ended => SessionStopReason::Ended,
+            SessionStopReason::ConnectionStopped(reason) => {
+                SessionStopReason::ConnectionStopped(reason.clone()?)
+            }
+        };
+        Ok(copy)
+    }
+}

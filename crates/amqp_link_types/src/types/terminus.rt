@@ -1,0 +1,156 @@
+//! The two ends of a link's way through a node: its source and its target (3.5).
+ghost use Rattle.std.specs.Prelude.{◌≡◌};
+
+use crate::types::copy::copy_of;
+use crate::types::delivery_state::Outcome;
+use crate::types::fields::{Fields, FilterSet};
+use crate::types::symbols::Symbols;
+use crate::types::text::Text;
+use std::alloc::AllocError;
+
+/// What of a terminus outlives its container (3.5.5).
+#[derive(Clone, Copy, Debug, Default, PartialEq, Eq, Hash)]
+pub enum TerminusDurability {
+    /// Nothing.
+    #[default]
+    None,
+    /// That it is there, and how.
+    Configuration,
+    /// Its unsettled deliveries as well.
+    UnsettledState,
+}
+
+/// When a terminus begins to expire (3.5.6).
+#[derive(Clone, Copy, Debug, Default, PartialEq, Eq, Hash)]
+pub enum TerminusExpiryPolicy {
+    /// As its link is detached.
+    LinkDetach,
+    /// As its session ends.
+    #[default]
+    SessionEnd,
+    /// As its connection closes.
+    ConnectionClose,
+    /// It does not.
+    Never,
+}
+
+/// Whether a message leaves its node as it is sent to a link (3.5.7).
+#[derive(Clone, Copy, Debug, PartialEq, Eq, Hash)]
+pub enum DistributionMode {
+    /// It leaves: no other link gets it.
+    Move,
+    /// It stays: each link gets it.
+    Copy,
+}
+
+/// Where the messages of a link come from (3.5.3).
+///
+/// The default names no address and asks for nothing.
+#[derive(Debug, Default, PartialEq, Eq, Drop)]
+pub struct Source {
+    /// The address of the node.
+    pub address: Option<Text>,
+    /// What outlives the container.
+    pub durable: TerminusDurability,
+    /// When it begins to expire.
+    pub expiry_policy: TerminusExpiryPolicy,
+    /// The seconds for which it stays once it expires.
+    pub timeout: u32,
+    /// Whether the other end is asked to make the node.
+    pub dynamic: bool,
+    /// The properties of a node that is made so.
+    pub dynamic_node_properties: Option<Fields>,
+    /// Whether messages leave the node.
+    pub distribution_mode: Option<DistributionMode>,
+    /// Which messages the link takes.
+    pub filter: Option<FilterSet>,
+    /// What becomes of a delivery that no outcome is told of.
+    pub default_outcome: Option<Outcome>,
+    /// The descriptors of the outcomes that may be chosen.
+    pub outcomes: Option<Symbols>,
+    /// What the terminus can do.
+    pub capabilities: Option<Symbols>,
+}
+
+/// Where the messages of a link go (3.5.4).
+///
+/// The default names no address and asks for nothing.
+#[derive(Debug, Default, PartialEq, Eq, Drop)]
+pub struct Target {
+    /// The address of the node.
+    pub address: Option<Text>,
+    /// What outlives the container.
+    pub durable: TerminusDurability,
+    /// When it begins to expire.
+    pub expiry_policy: TerminusExpiryPolicy,
+    /// The seconds for which it stays once it expires.
+    pub timeout: u32,
+    /// Whether the other end is asked to make the node.
+    pub dynamic: bool,
+    /// The properties of a node that is made so.
+    pub dynamic_node_properties: Option<Fields>,
+    /// What the terminus can do.
+    pub capabilities: Option<Symbols>,
+}
+
+/// A target of any kind. There is one kind; a coordinator of transactions is none here.
+#[derive(Debug, PartialEq, Eq, Drop)]
+pub enum TargetArchetype {
+    /// A node to which messages go.
+    Target(Target),
+}
+
+impl From<Target> for TargetArchetype {
+    ghost use Rattle.amqp_link_types.specs.declared.types.terminus.TargetArchetype.TheVariants as archetype;
+
+    ghost from_gives = { λ target kind. kind ≡ archetype.Target target };
+
+    fn from(target: Target) -> TargetArchetype {
+        TargetArchetype::Target(target)
+    }
+}
+
+impl Clone for Source {
+    ghost is_clone = { λ source copy. copy ≡ source };
+
+    fn clone(&self) -> Result<Source, AllocError> {
+        Ok(Source {
+            address: copy_of(&self.address)?,
+            durable: self.durable,
+            expiry_policy: self.expiry_policy,
+            timeout: self.timeout,
+            dynamic: self.dynamic,
+            dynamic_node_properties: copy_of(&self.dynamic_node_properties)?,
+            distribution_mode: self.distribution_mode,
+            filter: copy_of(&self.filter)?,
+            default_outcome: copy_of(&self.default_outcome)?,
+            outcomes: copy_of(&self.outcomes)?,
+            capabilities: copy_of(&self.capabilities)?,
+        })
+    }
+}
+
+impl Clone for Target {
+    ghost is_clone = { λ target copy. copy ≡ target };
+
+    fn clone(&self) -> Result<Target, AllocError> {
+        Ok(Target {
+            address: copy_of(&self.address)?,
+            durable: self.durable,
+            expiry_policy: self.expiry_policy,
+            timeout: self.timeout,
+            dynamic: self.dynamic,
+            dynamic_node_properties: copy_of(&self.dynamic_node_properties)?,
+            capabilities: copy_of(&self.capabilities)?,
+        })
+    }
+}
+
+impl Clone for TargetArchetype {
+    ghost is_clone = { λ archetype copy. copy ≡ archetype };
+
+    fn clone(&self) -> Result<TargetArchetype, AllocError> {
+        let TargetArchetype::Target(target) = self;
+        Ok(TargetArchetype::Target(target.clone()?))
+    }
+}
