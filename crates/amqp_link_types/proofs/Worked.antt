@@ -1,15 +1,27 @@
 -- Values of the definitions that were worked out by hand: docs/DEFINITIONS.md lists them.
-use Rattle.std.proofs.Common.{◌≡◌, ℕ, pos, negsuc, true, false, List, [], ◌∷◌, replicate, refl, Some, None}
+use Rattle.std.proofs.Common.{◌≡◌, ℕ, pos, negsuc, true, false, List, [], ◌∷◌, replicate, refl, Option, Some, None}
 use Rattle.std.specs.Prelude.{codes}
 use Rattle.amqp_link_types.specs.Counts.{sdiff, granted, limit_of, after_consuming}
 use Rattle.amqp_link_types.specs.Data.{null, uint, int, map, described, no_pairs}
-use Rattle.amqp_link_types.specs.Entries.{with_entry, without_entry}
+use Rattle.amqp_link_types.specs.Entries.{Entries, with_entry, without_entry}
 use Rattle.amqp_link_types.specs.Header.{header_len}
 use Rattle.amqp_link_types.specs.Length.{encoded_len, fields_len}
 use Rattle.amqp_link_types.specs.Position.{starts, position}
-use Rattle.amqp_link_types.specs.Size.{transfer_len, before, list_of, state_len}
+use Rattle.amqp_link_types.specs.Size.{attach_len, transfer_len, before, list_of, state_len}
+use Rattle.amqp_link_types.specs.Size.{outcome_len, source_len, target_len, expiry_field}
 use Rattle.amqp_link_types.specs.declared.state.LinkFlowStateInner.{LinkFlowStateInner}
+use Rattle.amqp_link_types.specs.declared.types.attach.Attach.{Attach}
+use Rattle.amqp_link_types.specs.declared.types.definitions.ReceiverSettleMode.TheVariants as rcv_mode
+use Rattle.amqp_link_types.specs.declared.types.definitions.Role.TheVariants as role
+use Rattle.amqp_link_types.specs.declared.types.definitions.SenderSettleMode.TheVariants as snd_mode
+use Rattle.amqp_link_types.specs.declared.types.delivery_state.DeliveryState.{DeliveryState}
 use Rattle.amqp_link_types.specs.declared.types.delivery_state.DeliveryState.TheVariants.{Accepted, Received}
+use Rattle.amqp_link_types.specs.declared.types.delivery_state.Outcome.TheVariants as outcome
+use Rattle.amqp_link_types.specs.declared.types.terminus.Source.{Source}
+use Rattle.amqp_link_types.specs.declared.types.terminus.Target.{Target}
+use Rattle.amqp_link_types.specs.declared.types.terminus.TargetArchetype.TheVariants as archetype
+use Rattle.amqp_link_types.specs.declared.types.terminus.TerminusDurability.TheVariants as durable
+use Rattle.amqp_link_types.specs.declared.types.terminus.TerminusExpiryPolicy.TheVariants as expiry
 use Rattle.amqp_link_types.specs.declared.types.transfer.Transfer.{Transfer}
 use Rattle.amqp_link_types.specs.declared.types.value.Descriptor.TheVariants.{Code}
 
@@ -133,3 +145,90 @@ tag_of_244 = refl
 accepted : transfer_len (record (measured (replicate 4 0)) { state = Some Accepted }) ≡ 26
 unfolding transfer_len before list_of
 accepted = refl
+
+-- an outcome with an error of this condition alone
+rejected_for_a_reason : outcome_len (outcome.Rejected (Some (record { condition = codes "x:y"; description = None; info = None }))) ≡ 17
+unfolding before list_of
+rejected_for_a_reason = refl
+
+expiry_at_detach : expiry_field expiry.LinkDetach ≡ Some 13
+expiry_at_detach = refl
+
+expiry_by_default : expiry_field expiry.SessionEnd ≡ None
+expiry_by_default = refl
+
+expiry_at_close : expiry_field expiry.ConnectionClose ≡ Some 18
+expiry_at_close = refl
+
+no_expiry : expiry_field expiry.Never ≡ Some 7
+no_expiry = refl
+
+-- a source and a target with all defaults
+abbrev plain_source : Source
+plain_source = record {
+  address = None;
+  durable = durable.None;
+  expiry_policy = expiry.SessionEnd;
+  timeout = 0;
+  dynamic = false;
+  dynamic_node_properties = None;
+  distribution_mode = None;
+  filter = None;
+  default_outcome = None;
+  outcomes = None;
+  capabilities = None;
+}
+
+abbrev plain_target : Target
+plain_target = record {
+  address = None;
+  durable = durable.None;
+  expiry_policy = expiry.SessionEnd;
+  timeout = 0;
+  dynamic = false;
+  dynamic_node_properties = None;
+  capabilities = None;
+}
+
+default_source : source_len plain_source ≡ 4
+unfolding before list_of
+default_source = refl
+
+addressed_source : source_len (record plain_source { address = Some (codes "q1") }) ≡ 10
+unfolding before list_of
+addressed_source = refl
+
+lasting_target : target_len (record plain_target { timeout = 256 }) ≡ 14
+unfolding before list_of
+lasting_target = refl
+
+-- a sender's attach of the link "l" at handle 0 with count 0, and all else default
+abbrev plain_attach : Attach
+plain_attach = record {
+  name = codes "l";
+  handle = record { 0 = 0 };
+  role = role.Sender;
+  snd_settle_mode = snd_mode.Mixed;
+  rcv_settle_mode = rcv_mode.First;
+  source = Some plain_source;
+  target = Some (archetype.Target plain_target);
+  unsettled = None;
+  incomplete_unsettled = false;
+  initial_delivery_count = Some 0;
+  max_message_size = None;
+  offered_capabilities = None;
+  desired_capabilities = None;
+  properties = None;
+}
+
+plainest_attach : attach_len plain_attach ≡ 24
+unfolding attach_len before list_of
+plainest_attach = refl
+
+-- four deliveries of which no state is known
+abbrev four_entries : Entries (Option DeliveryState)
+four_entries = (replicate 4 0, None) ∷ (replicate 4 1, None) ∷ (replicate 4 2, None) ∷ (replicate 4 3, None) ∷ []
+
+attach_of_four : attach_len (record plain_attach { unsettled = Some four_entries }) ≡ 54
+unfolding attach_len before list_of
+attach_of_four = refl

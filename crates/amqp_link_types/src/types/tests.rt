@@ -1,8 +1,13 @@
 //! What no clause says of the types: their defaults, and that each call answers while there is
 //! memory.
+mod copies;
+mod defaults;
+mod frames;
+mod maps;
+mod samples;
+
 use super::{
-    DeliveryState, DeliveryTag, Descriptor, Error, Fields, Handle, InputHandle, Outcome,
-    OutputHandle, ReceiverSettleMode, SenderSettleMode, Symbol, Text, Transfer, Value,
+    DeliveryState, DeliveryTag, Descriptor, Error, Fields, Outcome, Symbol, Text, Transfer, Value,
 };
 use indexmap::IndexMap;
 use std::alloc::{AllocError, Global};
@@ -209,58 +214,6 @@ fn buffers_come_back(rt: HostRuntime) -> Result<(), Fail> {
     let words = Text::from(text(alloc, 1)?).into_string();
     assert_eq!(rt; words.as_str(), "x:z", "a text's");
     Ok(())
-}
-
-#[test]
-fn a_default_transfer_says_nothing(rt: HostRuntime) {
-    let nothing = Transfer {
-        handle: Handle(0),
-        delivery_id: None,
-        delivery_tag: None,
-        message_format: None,
-        settled: None,
-        more: false,
-        rcv_settle_mode: None,
-        state: None,
-        resume: false,
-        aborted: false,
-        batchable: false,
-    };
-    assert!(rt; Transfer::default() == nothing, "handle 0 alone");
-}
-
-#[test]
-fn defaults_are_those_of_the_standard(rt: HostRuntime) {
-    assert_eq!(rt;
-        SenderSettleMode::default(),
-        SenderSettleMode::Mixed,
-        "sender's mode"
-    );
-    assert_eq!(rt;
-        ReceiverSettleMode::default(),
-        ReceiverSettleMode::First,
-        "receiver's mode"
-    );
-    assert_eq!(rt;
-        Handle::from(OutputHandle::default()),
-        Handle(0),
-        "own handle"
-    );
-    assert_eq!(rt;
-        Handle::from(InputHandle::default()),
-        Handle(0),
-        "remote handle"
-    );
-    assert_eq!(rt;
-        OutputHandle::from(Handle(3)),
-        OutputHandle(3),
-        "a handle as the own one"
-    );
-    assert_eq!(rt;
-        InputHandle::from(Handle(4)),
-        InputHandle(4),
-        "a handle as the remote one"
-    );
 }
 
 #[test]

@@ -1,8 +1,5 @@
-use Rattle.std.proofs.Common.{◌∙◌, sym, rules}
-use Rattle.std.proofs.lemmas.Bool.Decides.{Decides-at}
+use Rattle.std.proofs.Common.{rules}
 use Rattle.std.proofs.lemmas.Slice.Eq.{slice_eq-Decides, bytes_eq-Decides}
-use Rattle.std.specs.Cmp.Lexicographic.{pointwise}
-use Rattle.std.specs.Str.{bytes_eq}
 use Rattle.amqp_link_types.proofs.types.symbols.SymbolsPartialEq.eq.Goals as goal
 
 pub returns-clause-equal : goal.returns-clause-equal

@@ -1,0 +1,47 @@
+//! The fields of a performative, a state, an error or a terminus, read in their order.
+use crate::error::RowError;
+use crate::reader::{ReadFrom, Reader};
+
+/// The fields that are still to be read. Those past the ones that a row gives are absent.
+#[derive(Drop)]
+pub struct FieldReader<'r, 'a> {
+    reader: &'r mut Reader<'a>,
+    left: u64,
+}
+
+impl<'r, 'a> FieldReader<'r, 'a> {
+    /// The fields behind the name of their type and their number, which are passed.
+    pub fn new(reader: &'r mut Reader<'a>, name: &[u8]) -> Result<FieldReader<'r, 'a>, RowError> {
+        reader.expect(name)?;
+        let left = reader.unsigned()?;
+        Ok(FieldReader { reader, left })
+    }
+
+    /// The next field, which may be absent.
+    pub fn optional<T: ReadFrom>(&mut self) -> Result<Option<T>, RowError> {
+        if self.left == 0 {
+            return Ok(None);
+        }
+        self.left -= 1;
+        self.reader.optional()
+    }
+
+    /// The next field, which has to be there.
+    pub fn required<T: ReadFrom>(&mut self) -> Result<T, RowError> {
+        self.optional()?.ok_or(RowError::NotARow)
+    }
+
+    /// The next field, or its default where it is absent.
+    pub fn or_default<T: ReadFrom + Default>(&mut self) -> Result<T, RowError> {
+        Ok(self.optional()?.unwrap_or_default())
+    }
+
+    /// No further field may be given.
+    pub fn end(&self) -> Result<(), RowError> {
+        if self.left == 0 {
+            Ok(())
+        } else {
+            Err(RowError::NotARow)
+        }
+    }
+}

@@ -1,0 +1,138 @@
+//! A replay: the lines in order, and what is told of them.
+ghost use Rattle.std.specs.Prelude.{◌≡◌, ◌≤◌, ◌↔◌, [], false, IfOk, IfSome, OnOk};
+ghost use Rattle.std.specs.Io.BufRead.{DropsThrough, first_line};
+
+use crate::error::RowError;
+use crate::row::{Compared, compare};
+use crate::tally::Tallies;
+use std::alloc::Global;
+use std::io;
+use std::io::{BufRead, Write};
+
+#[cfg(test)]
+mod tests;
+
+/// How a replay ended.
+#[derive(Clone, Copy)]
+pub enum Verdict {
+    /// All rows agree.
+    Agreed,
+    /// Some rows do not.
+    Disagreed,
+    /// A line is no row.
+    NotARow,
+    /// Reading, writing or memory failed.
+    Failed,
+}
+
+impl Verdict {
+    ghost use Rattle.replay_lengths.specs.Report.{status_of};
+
+    /// The exit status.
+    pub fn status(self) -> u8
+        ensures { result ≡ status_of self }
+    {
+        match self {
+            Verdict::Agreed => 0,
+            Verdict::Disagreed => 1,
+            Verdict::NotARow => 2,
+            Verdict::Failed => 3,
+        }
+    }
+}
+
+/// Replays the rows that `input` holds. Empty lines and those that begin with `#` are passed over.
+///
+/// Each row that does not agree is told of in `output`, and at the end how many rows of each type
+/// do; a line that is no row ends the replay and is told of instead. Answers 0 where all rows
+/// agree, 1 where some do not, 2 at a line that is no row, and 3 where reading, writing or memory
+/// fails.
+pub fn replay<R: BufRead, W: Write>(alloc: Global, input: &mut R, output: &mut W) -> u8
+    ensures { result ≤ 3 }
+{
+    let verdict = replay_lines(alloc, input, output).unwrap_or(Verdict::Failed);
+    verdict.status()
+}
+
+// The error is a failed read or write, or memory that a line has not.
+fn replay_lines<R: BufRead, W: Write>(
+    alloc: Global,
+    input: &mut R,
+    output: &mut W,
+) -> io::Result<Verdict> {
+    let mut tallies = Tallies::new();
+    let mut line = Vec::new(alloc);
+    for number in 1..u64::MAX {
+        if !read_line(input, &mut line)? {
+            return conclude(&tallies, output);
+        }
+        if line.is_empty() || line.first() == Some(&b'#') {
+            continue;
+        }
+        match compare(alloc, line.as_slice()) {
+            Ok(compared) => {
+                tallies.count(&compared);
+                tell(number, &compared, output)?;
+            }
+            Err(RowError::NotARow) => return refuse(number, output),
+            Err(RowError::OutOfMemory) => return Ok(Verdict::Failed),
+        }
+    }
+    Ok(Verdict::Failed)
+}
+
+// Tells of a row that does not agree.
+fn tell<W: Write>(number: u64, compared: &Compared, output: &mut W) -> io::Result<()> {
+    if compared.agrees() {
+        return Ok(());
+    }
+    let stated = compared.stated;
+    match compared.computed {
+        Some(computed) => writeln!(
+            output,
+            "line {number}: {stated} stated, {computed} computed"
+        ),
+        None => writeln!(output, "line {number}: {stated} stated, none computed"),
+    }
+}
+
+// Tells of a line that is no row.
+fn refuse<W: Write>(number: u64, output: &mut W) -> io::Result<Verdict> {
+    writeln!(output, "line {number}: not a row")?;
+    output.flush()?;
+    Ok(Verdict::NotARow)
+}
+
+// Tells how many rows of each type agree.
+fn conclude<W: Write>(tallies: &Tallies, output: &mut W) -> io::Result<Verdict> {
+    for tally in tallies.as_slice() {
+        writeln!(output, "{tally}")?;
+    }
+    output.flush()?;
+    if tallies.all_agree() {
+        Ok(Verdict::Agreed)
+    } else {
+        Ok(Verdict::Disagreed)
+    }
+}
+
+// Reads the next line without its end, a line feed and a carriage return before it, and answers
+// whether there was one.
+fn read_line<R: BufRead>(input: &mut R, line: &mut Vec<u8>) -> io::Result<bool>
+    ensures line { OnOk result (IfSome (R.remaining input.old) (λ bytes. line.new.items ≡ first_line bytes)) }
+    ensures rest { OnOk result (DropsThrough (R.remaining input.old) (R.remaining input.new) 10) }
+    ensures end { IfOk result (λ is_line.
+        IfSome (R.remaining input.old) (λ bytes. (is_line ≡ false) ↔ (bytes ≡ []))) }
+{
+    line.clear();
+    if input.read_until(b'\n', line)? == 0 {
+        return Ok(false);
+    }
+    if line.last() == Some(&b'\n') {
+        let _ = line.pop();
+        if line.last() == Some(&b'\r') {
+            let _ = line.pop();
+        }
+    }
+    Ok(true)
+}

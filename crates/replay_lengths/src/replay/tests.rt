@@ -1,0 +1,217 @@
+//! Replays over readers and writers in memory: what no clause says of them.
+use super::replay;
+use std::alloc::Global;
+use std::io;
+use std::io::{BufRead, ErrorKind, Read, Write};
+use std::process::Abort;
+
+// What is told where there are no rows.
+const NO_ROWS: &str = "value 0 of 0 agree\nreceived 0 of 0 agree\nmodified 0 of 0 agree\n\
+    rejected 0 of 0 agree\nerror 0 of 0 agree\nsource 0 of 0 agree\ntarget 0 of 0 agree\n\
+    transfer 0 of 0 agree\nattach 0 of 0 agree\n";
+
+const NOT_A_ROW: &str = "line 1: not a row\n";
+
+// What a replay wrote, and its status.
+#[derive(Drop)]
+struct Ran {
+    output: Vec<u8>,
+    status: u8,
+}
+
+fn run<R: BufRead>(alloc: Global, input: &mut R) -> Ran {
+    let mut output = Vec::new(alloc);
+    let status = replay(alloc, input, &mut output);
+    Ran { output, status }
+}
+
+fn expect(rt: &impl Abort, alloc: Global, rows: &str, output: &str, status: u8) {
+    let mut input = rows.as_bytes();
+    let ran = run(alloc, &mut input);
+    assert_eq!(rt; ran.output.as_slice(), output.as_bytes(), "at {rows:?}");
+    assert_eq!(rt; ran.status, status, "at {rows:?}");
+}
+
+// A reader whose every read fails.
+#[derive(Drop)]
+struct Broken;
+
+impl Read for Broken {
+    fn read(&mut self, _buf: &mut [u8]) -> io::Result<usize> {
+        Err(io::Error::from(ErrorKind::TimedOut))
+    }
+}
+
+impl BufRead for Broken {
+    fn fill_buf(&mut self) -> io::Result<&[u8]> {
+        Err(io::Error::from(ErrorKind::TimedOut))
+    }
+
+    fn consume(&mut self, _amount: usize) {}
+}
+
+// A writer that has room for so many bytes.
+#[derive(Drop)]
+struct Narrow {
+    room: usize,
+}
+
+impl Write for Narrow {
+    fn write(&mut self, buf: &[u8]) -> io::Result<usize> {
+        let count = buf.len().min(self.room);
+        if count == 0 {
+            return Err(io::Error::from(ErrorKind::StorageFull));
+        }
+        self.room -= count;
+        Ok(count)
+    }
+
+    fn flush(&mut self) -> io::Result<()> {
+        Ok(())
+    }
+}
+
+#[test]
+fn lines_that_say_nothing_are_passed_over(rt: HostRuntime) {
+    for rows in ["", "\n", "# value 1 uamqp | _\n", "\r\n\n#"] {
+        expect(&rt, rt.alloc(), rows, NO_ROWS, 0);
+    }
+}
+
+#[test]
+fn a_row_that_does_not_agree_is_told_of(rt: HostRuntime) {
+    let mut rows =
+        "value 1 uamqp | _\n# null\nvalue 2 proton | _\nvalue 4 uamqp | list 0\n".as_bytes();
+    let told = b"line 3: 2 stated, 1 computed\nline 4: 4 stated, 1 computed\nvalue 1 of 3 agree\n";
+    let ran = run(rt.alloc(), &mut rows);
+    assert!(rt; ran.output.starts_with(told.as_slice()));
+    assert_eq!(rt; ran.status, 1);
+}
+
+#[test]
+fn parts_that_the_stored_rows_leave_out_are_read(rt: HostRuntime) {
+    for (rows, told) in [
+        (
+            "target 18 uamqp | target 7 _ _ _ _ _ _ symbols 1 61",
+            "target 1 of 1 agree\n",
+        ),
+        (
+            "source 27 uamqp | source 11 _ _ _ _ _ _ _ _ _ symbols 1 61 symbols 1 61",
+            "source 1 of 1 agree\n",
+        ),
+        (
+            "attach 31 uamqp | attach 13 string 6c uint 0 false _ _ _ _ _ _ _ _ symbols 1 61 symbols 1 61",
+            "attach 1 of 1 agree\n",
+        ),
+    ] {
+        let mut input = rows.as_bytes();
+        let ran = run(rt.alloc(), &mut input);
+        assert!(rt;
+            holds(ran.output.as_slice(), told.as_bytes()),
+            "at {rows:?}"
+        );
+        assert_eq!(rt; ran.status, 0, "at {rows:?}");
+    }
+}
+
+// Whether the part stands in the whole.
+fn holds(whole: &[u8], part: &[u8]) -> bool {
+    part.is_empty() || whole.windows(part.len()).any(|window| window == part)
+}
+
+#[test]
+fn other_lines_are_no_rows(rt: HostRuntime) {
+    for line in [
+        " ",
+        "value",
+        "value 1",
+        "value 1 uamqp",
+        "value 1 uamqp |",
+        "value 1 uamqp | ",
+        "value 1 uamqp _",
+        "value 1 other | _",
+        "value +1 uamqp | _",
+        "value -1 uamqp | _",
+        "value 18446744073709551616 uamqp | _",
+        "value 1 uamqp | _ ",
+        "value 1 uamqp  | _",
+        "value 1 uamqp | _ _",
+        "values 1 uamqp | _",
+        "transfer 1 uamqp | _",
+        "error 4 uamqp | target 0",
+        "rejected 4 uamqp | accepted 0",
+    ] {
+        expect(&rt, rt.alloc(), line, NOT_A_ROW, 2);
+    }
+}
+
+#[test]
+fn other_words_are_no_values(rt: HostRuntime) {
+    for line in [
+        "value 2 uamqp | ubyte 256",
+        "value 2 uamqp | byte 128",
+        "value 2 uamqp | byte -129",
+        "value 2 uamqp | byte +1",
+        "value 2 uamqp | byte -",
+        "value 2 uamqp | ubyte -1",
+        "value 2 uamqp | ubyte",
+        "value 3 uamqp | binary 0",
+        "value 3 uamqp | binary 0g",
+        "value 3 uamqp | symbol ff",
+        "value 3 uamqp | list 1",
+        "value 3 uamqp | list 1 _ _",
+        "value 3 uamqp | list 18446744073709551615 _",
+        "value 3 uamqp | float 1",
+        "value 4 uamqp | described uint 1 _",
+        "target 4 uamqp | target 8 _ _ _ _ _ _ _ _",
+        "target 4 uamqp | target 2 _ uint 3",
+        "target 4 uamqp | target 3 _ _ symbol 61",
+        "target 4 uamqp | target 6 _ _ _ _ _ map 2 symbol 61 _ symbol 61 _",
+        "error 4 uamqp | error 0",
+        "error 4 uamqp | error 1 _",
+        "transfer 4 uamqp | transfer 7 uint 0 _ _ _ _ _ ubyte 2",
+        "transfer 4 uamqp | transfer 8 uint 0 _ _ _ _ _ _ other 0",
+        "attach 4 uamqp | attach 2 string 61 uint 0",
+        "attach 4 uamqp | attach 9 string 61 uint 0 true _ _ _ _ map 2 binary - _ binary - _ true",
+    ] {
+        expect(&rt, rt.alloc(), line, NOT_A_ROW, 2);
+    }
+}
+
+#[test]
+fn values_may_lie_sixteen_deep(rt: HostRuntime) {
+    let mut fits = "value 49 uamqp | list 1 list 1 list 1 list 1 list 1 list 1 list 1 list 1 \
+        list 1 list 1 list 1 list 1 list 1 list 1 list 1 list 1 _"
+        .as_bytes();
+    let ran = run(rt.alloc(), &mut fits);
+    assert_eq!(rt; ran.status, 0);
+    let too_deep = "value 52 uamqp | list 1 list 1 list 1 list 1 list 1 list 1 list 1 list 1 \
+        list 1 list 1 list 1 list 1 list 1 list 1 list 1 list 1 list 1 _";
+    expect(&rt, rt.alloc(), too_deep, NOT_A_ROW, 2);
+}
+
+#[test]
+fn a_failed_read_has_a_status_of_its_own(rt: HostRuntime) {
+    for rows in ["", "value 1 uamqp | _\n", "value 2 uamqp | _"] {
+        let mut input = rows.as_bytes().chain(Broken);
+        assert_eq!(rt; run(rt.alloc(), &mut input).status, 3, "at {rows:?}");
+    }
+}
+
+#[test]
+fn a_failed_write_has_a_status_of_its_own(rt: HostRuntime) {
+    for (rows, room) in [
+        ("", 0),
+        ("", NO_ROWS.len() - 1),
+        ("value 2 uamqp | _", 5),
+        ("value", 5),
+    ] {
+        let mut input = rows.as_bytes();
+        let mut output = Narrow { room };
+        assert_eq!(rt;
+            replay(rt.alloc(), &mut input, &mut output),
+            3,
+            "at {rows:?}"
+        );
+    }
+}

@@ -1,0 +1,151 @@
+//! Rows: the type of a value, the length that an encoder gave for it, that encoder, and the value.
+ghost use Rattle.std.specs.Prelude.{◌≡◌, ◌↔◌, Some, IsTrue};
+
+use crate::error::RowError;
+use crate::reader::{ReadFrom, Reader};
+use amqp_link_types::size::EncodedLen;
+use amqp_link_types::types::{Attach, DeliveryState, Error, Source, Target, Transfer, Value};
+use std::alloc::Global;
+use std::fmt;
+
+/// The type of a row's value.
+#[derive(Clone, Copy, PartialEq, Eq)]
+pub enum Kind {
+    /// A value of any plain type.
+    Value,
+    /// How far a delivery has come.
+    Received,
+    /// An outcome that was changed.
+    Modified,
+    /// An outcome that was refused.
+    Rejected,
+    /// An error.
+    Error,
+    /// Where messages come from.
+    Source,
+    /// Where messages go.
+    Target,
+    /// A transfer.
+    Transfer,
+    /// An attach.
+    Attach,
+}
+
+/// All types, in the order in which they are told of.
+pub const KINDS: [Kind; 9] = [
+    Kind::Value,
+    Kind::Received,
+    Kind::Modified,
+    Kind::Rejected,
+    Kind::Error,
+    Kind::Source,
+    Kind::Target,
+    Kind::Transfer,
+    Kind::Attach,
+];
+
+impl Kind {
+    ghost use Rattle.replay_lengths.specs.Report.{word_of};
+
+    /// The word that names the type.
+    pub fn word(self) -> &'static str
+        ensures { result.now ≡ word_of self }
+    {
+        match self {
+            Kind::Value => "value",
+            Kind::Received => "received",
+            Kind::Modified => "modified",
+            Kind::Rejected => "rejected",
+            Kind::Error => "error",
+            Kind::Source => "source",
+            Kind::Target => "target",
+            Kind::Transfer => "transfer",
+            Kind::Attach => "attach",
+        }
+    }
+}
+
+impl fmt::Display for Kind {
+    ghost use Rattle.std.specs.Prelude.{Some};
+    ghost use Rattle.replay_lengths.specs.Report.{word_of};
+
+    ghost output = { λ kind. Some (word_of kind) };
+
+    fn fmt<W: fmt::Write>(&self, f: &mut fmt::Formatter<W>) -> fmt::Result {
+        f.write_str(self.word())
+    }
+}
+
+/// A row's length beside the computed one.
+#[derive(Clone, Copy)]
+pub struct Compared {
+    /// The type of the value.
+    pub kind: Kind,
+    /// What the row states.
+    pub stated: u64,
+    /// What is computed; none where that passes u64.
+    pub computed: Option<u64>,
+}
+
+impl Compared {
+    /// Whether the two lengths are one.
+    pub fn agrees(&self) -> bool
+        ensures { IsTrue result ↔ (self.now.computed ≡ Some self.now.stated) }
+    {
+        self.computed == Some(self.stated)
+    }
+}
+
+/// What a line says, or that it is no row.
+pub fn compare(alloc: Global, line: &[u8]) -> Result<Compared, RowError> {
+    let mut reader = Reader::new(alloc, line);
+    let kind = read_kind(&mut reader)?;
+    let stated = reader.unsigned()?;
+    read_encoder(&mut reader)?;
+    reader.expect(b"|")?;
+    // What is not of a plain type says its type again.
+    if kind != Kind::Value && !reader.is_at(kind.word().as_bytes()) {
+        return Err(RowError::NotARow);
+    }
+    let computed = computed_len(kind, &mut reader)?;
+    reader.end()?;
+    Ok(Compared {
+        kind,
+        stated,
+        computed,
+    })
+}
+
+fn read_kind(reader: &mut Reader) -> Result<Kind, RowError> {
+    let word = reader.word()?;
+    for kind in KINDS {
+        if kind.word().as_bytes() == word {
+            return Ok(kind);
+        }
+    }
+    Err(RowError::NotARow)
+}
+
+// The encoders that gave the length are not asked again, so their names are only checked.
+fn read_encoder(reader: &mut Reader) -> Result<(), RowError> {
+    match reader.word()? {
+        b"proton" | b"uamqp" | b"proton+uamqp" => Ok(()),
+        _ => Err(RowError::NotARow),
+    }
+}
+
+fn computed_len(kind: Kind, reader: &mut Reader) -> Result<Option<u64>, RowError> {
+    match kind {
+        Kind::Value => len_of::<Value>(reader),
+        Kind::Received | Kind::Modified | Kind::Rejected => len_of::<DeliveryState>(reader),
+        Kind::Error => len_of::<Error>(reader),
+        Kind::Source => len_of::<Source>(reader),
+        Kind::Target => len_of::<Target>(reader),
+        Kind::Transfer => len_of::<Transfer>(reader),
+        Kind::Attach => len_of::<Attach>(reader),
+    }
+}
+
+fn len_of<T: ReadFrom + EncodedLen + Drop>(reader: &mut Reader) -> Result<Option<u64>, RowError> {
+    Ok(T::read(reader)?.encoded_len())
+}

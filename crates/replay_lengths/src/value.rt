@@ -1,0 +1,203 @@
+//! Values of any type, as a row gives them.
+use crate::error::RowError;
+use crate::reader::{ReadFrom, Reader};
+use amqp_link_types::types::{DeliveryTag, Descriptor, Fields, Symbol, Symbols, Text, Value};
+
+// How deep values may lie in one another.
+const MOST_NESTED: u32 = 16;
+
+impl ReadFrom for bool {
+    fn read(reader: &mut Reader) -> Result<bool, RowError> {
+        match reader.word()? {
+            b"true" => Ok(true),
+            b"false" => Ok(false),
+            _ => Err(RowError::NotARow),
+        }
+    }
+}
+
+impl ReadFrom for u32 {
+    fn read(reader: &mut Reader) -> Result<u32, RowError> {
+        reader.expect(b"uint")?;
+        read_u32(reader)
+    }
+}
+
+impl ReadFrom for u64 {
+    fn read(reader: &mut Reader) -> Result<u64, RowError> {
+        reader.expect(b"ulong")?;
+        reader.unsigned()
+    }
+}
+
+impl ReadFrom for Text {
+    fn read(reader: &mut Reader) -> Result<Text, RowError> {
+        reader.expect(b"string")?;
+        Ok(Text::from(reader.text()?))
+    }
+}
+
+impl ReadFrom for Symbol {
+    fn read(reader: &mut Reader) -> Result<Symbol, RowError> {
+        reader.expect(b"symbol")?;
+        Ok(Symbol::from(reader.text()?))
+    }
+}
+
+impl ReadFrom for DeliveryTag {
+    fn read(reader: &mut Reader) -> Result<DeliveryTag, RowError> {
+        reader.expect(b"binary")?;
+        Ok(DeliveryTag::from(reader.bytes()?))
+    }
+}
+
+impl ReadFrom for Symbols {
+    fn read(reader: &mut Reader) -> Result<Symbols, RowError> {
+        reader.expect(b"symbols")?;
+        Ok(Symbols::from(read_names(reader)?))
+    }
+}
+
+impl ReadFrom for Fields {
+    // A name may stand once.
+    fn read(reader: &mut Reader) -> Result<Fields, RowError> {
+        reader.expect(b"map")?;
+        let mut fields = Fields::new(reader.alloc());
+        for _ in 0..reader.unsigned()? {
+            let name = Symbol::read(reader)?;
+            let value = Value::read(reader)?;
+            if fields.insert(name, value)?.is_some() {
+                return Err(RowError::NotARow);
+            }
+        }
+        Ok(fields)
+    }
+}
+
+impl ReadFrom for Descriptor {
+    fn read(reader: &mut Reader) -> Result<Descriptor, RowError> {
+        if reader.is_at(b"ulong") {
+            Ok(Descriptor::Code(u64::read(reader)?))
+        } else {
+            Ok(Descriptor::Name(Symbol::read(reader)?))
+        }
+    }
+}
+
+impl ReadFrom for Value {
+    fn read(reader: &mut Reader) -> Result<Value, RowError> {
+        read_value(reader, MOST_NESTED)
+    }
+}
+
+// Values hold values, so four functions call one another.
+#[cycle(read_value)]
+fn read_value(reader: &mut Reader, depth: u32) -> Result<Value, RowError> {
+    let word = reader.word()?;
+    if let Some(value) = read_plain(reader, word)? {
+        return Ok(value);
+    }
+    if depth == 0 {
+        return Err(RowError::NotARow);
+    }
+    match word {
+        b"list" => read_list(reader, depth - 1),
+        b"map" => read_map(reader, depth - 1),
+        b"described" => read_described(reader, depth - 1),
+        _ => Err(RowError::NotARow),
+    }
+}
+
+#[cycle(read_value)]
+fn read_list(reader: &mut Reader, depth: u32) -> Result<Value, RowError> {
+    let mut items = Vec::new(reader.alloc());
+    for _ in 0..reader.unsigned()? {
+        items.push(read_value(reader, depth)?)?;
+    }
+    Ok(Value::List(items))
+}
+
+#[cycle(read_value)]
+fn read_map(reader: &mut Reader, depth: u32) -> Result<Value, RowError> {
+    let mut pairs = Vec::new(reader.alloc());
+    for _ in 0..reader.unsigned()? {
+        let key = read_value(reader, depth)?;
+        pairs.push((key, read_value(reader, depth)?))?;
+    }
+    Ok(Value::Map(pairs))
+}
+
+#[cycle(read_value)]
+fn read_described(reader: &mut Reader, depth: u32) -> Result<Value, RowError> {
+    let descriptor = Descriptor::read(reader)?;
+    let value = Box::new(reader.alloc(), read_value(reader, depth)?)?;
+    Ok(Value::Described(descriptor, value))
+}
+
+// The value behind the word that names its type, where it holds no other value.
+fn read_plain(reader: &mut Reader, word: &[u8]) -> Result<Option<Value>, RowError> {
+    let number = read_number(reader, word)?;
+    if number.is_some() {
+        return Ok(number);
+    }
+    Ok(Some(match word {
+        b"_" => Value::Null,
+        b"true" => Value::Bool(true),
+        b"false" => Value::Bool(false),
+        b"binary" => Value::Binary(reader.bytes()?),
+        b"string" => Value::String(reader.text()?),
+        b"symbol" => Value::Symbol(Symbol::from(reader.text()?)),
+        b"symbols" => Value::SymbolArray(read_names(reader)?),
+        _ => return Ok(None),
+    }))
+}
+
+fn read_number(reader: &mut Reader, word: &[u8]) -> Result<Option<Value>, RowError> {
+    Ok(Some(match word {
+        b"ubyte" => Value::Ubyte(read_u8(reader)?),
+        b"ushort" => Value::Ushort(read_u16(reader)?),
+        b"uint" => Value::Uint(read_u32(reader)?),
+        b"ulong" => Value::Ulong(reader.unsigned()?),
+        b"byte" => Value::Byte(read_i8(reader)?),
+        b"short" => Value::Short(read_i16(reader)?),
+        b"int" => Value::Int(read_i32(reader)?),
+        b"long" => Value::Long(reader.signed()?),
+        b"timestamp" => Value::Timestamp(reader.signed()?),
+        _ => return Ok(None),
+    }))
+}
+
+// Names, and before them how many there are.
+fn read_names(reader: &mut Reader) -> Result<Vec<Symbol>, RowError> {
+    let mut names = Vec::new(reader.alloc());
+    for _ in 0..reader.unsigned()? {
+        names.push(Symbol::from(reader.text()?))?;
+    }
+    Ok(names)
+}
+
+// ---- numbers of fewer bits
+
+pub(crate) fn read_u8(reader: &mut Reader) -> Result<u8, RowError> {
+    u8::try_from(reader.unsigned()?).map_err(|_| RowError::NotARow)
+}
+
+fn read_u16(reader: &mut Reader) -> Result<u16, RowError> {
+    u16::try_from(reader.unsigned()?).map_err(|_| RowError::NotARow)
+}
+
+fn read_u32(reader: &mut Reader) -> Result<u32, RowError> {
+    u32::try_from(reader.unsigned()?).map_err(|_| RowError::NotARow)
+}
+
+fn read_i8(reader: &mut Reader) -> Result<i8, RowError> {
+    i8::try_from(reader.signed()?).map_err(|_| RowError::NotARow)
+}
+
+fn read_i16(reader: &mut Reader) -> Result<i16, RowError> {
+    i16::try_from(reader.signed()?).map_err(|_| RowError::NotARow)
+}
+
+fn read_i32(reader: &mut Reader) -> Result<i32, RowError> {
+    i32::try_from(reader.signed()?).map_err(|_| RowError::NotARow)
+}
