@@ -87,12 +87,25 @@ impl Write for Narrow {
     }
 }
 
+// Each script of a table runs to its end, and prints this.
+fn expect_output(rt: &impl Abort, alloc: Global, table: &[(&str, &str, &str)]) {
+    for (what, script, output) in table {
+        let mut input = script.as_bytes();
+        let ran = run(alloc, &mut input);
+        assert_eq!(rt; ran.output.as_slice(), output.as_bytes(), "{what}");
+        assert_eq!(rt; ran.faults.len(), 0, "{what}");
+        assert_eq!(rt; ran.status, 0, "{what}");
+    }
+}
+
 #[test]
 fn lines_are_answered(rt: HostRuntime) {
-    let sent = "attach 30\ngrant 1\nsend 0102030405060708090a0b0c\n";
-    let was_sent = "attached 0\ncredit 1\nsent 00000000 3\n";
-    expect(&rt, rt.alloc(), sent, was_sent, "", 0);
-    for (what, script, output) in [
+    let table = [
+        (
+            "a payload in three transfers",
+            "attach 30\ngrant 1\nsend 0102030405060708090a0b0c\n",
+            "attached 0\ncredit 1\nsent 00000000 3\n",
+        ),
         ("an empty script", "", ""),
         ("empty lines alone", "\n\r\n\n", ""),
         (
@@ -105,6 +118,13 @@ fn lines_are_answered(rt: HostRuntime) {
             "attach 30\r\ngrant 4\r\n",
             "attached 0\ncredit 4\n",
         ),
+    ];
+    expect_output(&rt, rt.alloc(), table.as_slice());
+}
+
+#[test]
+fn numbers_and_bytes_are_read(rt: HostRuntime) {
+    let table = [
         (
             "leading zeros",
             "attach 000000000000030\ngrant 0007",
@@ -127,13 +147,8 @@ fn lines_are_answered(rt: HostRuntime) {
             "attach 30\ngrant 1\nsend -\narrive 1\nshow 00000000\n",
             "attached 0\ncredit 1\nsent 00000000 1\nwhole 00000000 0 0\njoined -\n",
         ),
-    ] {
-        let mut input = script.as_bytes();
-        let ran = run(rt.alloc(), &mut input);
-        assert_eq!(rt; ran.output.as_slice(), output.as_bytes(), "{what}");
-        assert_eq!(rt; ran.faults.len(), 0, "{what}");
-        assert_eq!(rt; ran.status, 0, "{what}");
-    }
+    ];
+    expect_output(&rt, rt.alloc(), table.as_slice());
 }
 
 #[test]
@@ -146,9 +161,20 @@ fn refusals_are_answered_and_the_run_goes_on(rt: HostRuntime) {
     expect(&rt, rt.alloc(), script, output, "", 0);
 }
 
+// Each line ends its run at once.
+fn expect_no_events(rt: &impl Abort, alloc: Global, lines: &[&[u8]]) {
+    for line in lines {
+        let mut input = *line;
+        let ran = run(alloc, &mut input);
+        assert_eq!(rt; ran.output.len(), 0, "at {line:?}");
+        assert_eq!(rt; ran.faults.as_slice(), NOT_AN_EVENT, "at {line:?}");
+        assert_eq!(rt; ran.status, 2, "at {line:?}");
+    }
+}
+
 #[test]
-fn other_lines_are_no_events(rt: HostRuntime) {
-    for line in [
+fn other_words_are_no_events(rt: HostRuntime) {
+    let lines = [
         b" ".as_slice(),
         b"\r",
         b"\r\r\n",
@@ -156,11 +182,31 @@ fn other_lines_are_no_events(rt: HostRuntime) {
         b"attach ",
         b"attach  30",
         b" attach 30",
-        b"attach 30 ",
         b"attach\t30",
         b"attach30",
         b"Attach 30",
         b"ATTACH 30",
+        b"grant",
+        b"send",
+        b"send ",
+        b"show",
+        b"\xff\xfe",
+        b"cut",
+        b"resume",
+        b"putback",
+        b"settle 00000000",
+        b"handout 00000000",
+        b"fate 0",
+        b"# a comment",
+        b"unknown 1",
+    ];
+    expect_no_events(&rt, rt.alloc(), lines.as_slice());
+}
+
+#[test]
+fn other_numbers_are_no_events(rt: HostRuntime) {
+    let lines = [
+        b"attach 30 ".as_slice(),
         b"attach +30",
         b"attach -1",
         b"attach 0x1e",
@@ -172,13 +218,18 @@ fn other_lines_are_no_events(rt: HostRuntime) {
         b"attach 30 30",
         b"attach -",
         b"attach \xd9\xa3",
-        b"grant",
         b"grant 1 2",
         b"arrive x",
         b"arrive 1.0",
-        b"send",
-        b"send ",
-        b"send 0",
+        b"grant 1\xc3",
+    ];
+    expect_no_events(&rt, rt.alloc(), lines.as_slice());
+}
+
+#[test]
+fn other_bytes_are_no_events(rt: HostRuntime) {
+    let lines = [
+        b"send 0".as_slice(),
         b"send 012",
         b"send 0g",
         b"send 0G",
@@ -189,26 +240,10 @@ fn other_lines_are_no_events(rt: HostRuntime) {
         b"send 00-",
         b"send \"00\"",
         b"send \xff\xff",
-        b"show",
         b"show 0000000",
         b"show 00 ",
-        b"\xff\xfe",
-        b"grant 1\xc3",
-        b"cut",
-        b"resume",
-        b"putback",
-        b"settle 00000000",
-        b"handout 00000000",
-        b"fate 0",
-        b"# a comment",
-        b"unknown 1",
-    ] {
-        let mut input = line;
-        let ran = run(rt.alloc(), &mut input);
-        assert_eq!(rt; ran.output.len(), 0, "at {line:?}");
-        assert_eq!(rt; ran.faults.as_slice(), NOT_AN_EVENT, "at {line:?}");
-        assert_eq!(rt; ran.status, 2, "at {line:?}");
-    }
+    ];
+    expect_no_events(&rt, rt.alloc(), lines.as_slice());
 }
 
 #[test]
