@@ -1,16 +1,16 @@
 -- A search for a tag, and what puts and removals keep.
-use Rattle.std.proofs.Common.{◌≡◌, ℕ, zero, suc, ◌<◌, ◌+◌, Bool, true, false, cond, not, nat_lt, List, [], ◌∷◌, ◌++◌, map, length, slice_get, slice_set, position, refl, sym, ap, ◌∙◌, subst, arith, Some, None, Option, IfSome, IfNone, is_some}
+use Rattle.std.proofs.Common.{◌≡◌, ℕ, zero, suc, ◌<◌, ◌+◌, Bool, true, false, cond, not, nat_lt, List, [], ◌∷◌, ◌++◌, map, length, slice_get, slice_set, take, position, refl, sym, ap, ◌∙◌, subst, arith, Some, None, Option, IfSome, IfNone, is_some}
 use Rattle.std.specs.List.{position_or_len, swap_remove, slice_index_or, IsDistinct}
 use Rattle.std.specs.Map.{keys_of, values_of, set_value}
 use Rattle.std.specs.Str.{bytes_eq}
 use lib.ListN.{length-map}
 use Rattle.std.proofs.lemmas.Map.Keys.{IsDistinct-push, IsDistinct-tail, IsDistinct-IsPermutation}
 use Rattle.std.proofs.lemmas.List.Sorted.{IsPermutation-swap_remove, IsPermutation-map}
-use Rattle.std.proofs.lemmas.List.{map-append}
+use Rattle.std.proofs.lemmas.List.{map-append, take-map}
 use Rattle.std.proofs.lemmas.Map.Made.{is_some-lookup}
 use Rattle.std.proofs.lemmas.Cmp.{nat_list_eq_equiv}
 use Rattle.indexmap.specs.IndexMap.{set_value_at}
-use Rattle.indexmap.proofs.MapLemmas.{Found-position, Missing-position, insert_entry-first, insert_entry-absent, swap_remove_entry-found, swap_remove_entry-missing}
+use Rattle.indexmap.proofs.MapLemmas.{Found-position, Missing-position, insert_entry-first, insert_entry-absent, swap_remove_entry-found, swap_remove_entry-missing, distinct-take}
 use Rattle.amqp_link_types.specs.Entries.{Tag, Entries, entry_at, with_entry, IsMap}
 use Rattle.amqp_link_types.specs.Found.{FoundAt, IsMissing}
 
@@ -59,7 +59,7 @@ pub told-missing : {V : Type 0} (es : Entries V) (t : Tag) (r : Option ℕ) → 
 told-missing es t None p = missing_from_position es t (sym p)
 told-missing es t (Some i) p = tt
 
--- the empty list is a map, and a put and a removal keep the tags distinct
+-- the empty list is a map; a put, a removal and a cut keep the tags distinct
 pub IsMap-none : (V : Type 0) → IsMap {V = V} []
 unfolding IsDistinct
 IsMap-none V = tt
@@ -81,7 +81,10 @@ IsMap-swap_remove es i e m within at =
     IsDistinct-tail bytes_eq e.0 _
     (IsDistinct-IsPermutation bytes_eq nat_list_eq_equiv.symm (keys_of es) (keys_of (e ∷ swap_remove es i e)) (IsPermutation-map (λ x. x.0) _ _ (IsPermutation-swap_remove es i e within at)) m)
 
-pub ruleset map_steps = (IsMap-none, IsMap-push, IsMap-set, IsMap-swap_remove)
+pub IsMap-take : {V : Type 0} (es : Entries V) (n : ℕ) → IsMap es → IsMap (take n es)
+IsMap-take es n m = subst (IsDistinct bytes_eq) (take-map (λ e. e.0) n es) (distinct-take nat_list_eq_equiv n (keys_of es) m)
+
+pub ruleset map_steps = (IsMap-none, IsMap-push, IsMap-set, IsMap-swap_remove, IsMap-take)
 
 -- a write at a present tag is a put
 pub with_entry-present : {V : Type 0} (es : Entries V) (t : Tag) (old v : V) → entry_at es t ≡ Some old → set_value (bytes_eq t) es v ≡ with_entry es t v

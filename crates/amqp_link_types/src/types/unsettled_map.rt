@@ -4,7 +4,7 @@
 //! or adds last, a removal moves the last pair into the gap.
 #![tactic(auto, using(crate::proofs::EntriesLemmas::map_steps))]
 
-ghost use Rattle.std.specs.Prelude.{◌≡◌, ◌&&◌, [], length, position, slice_get, is_some, None, Some};
+ghost use Rattle.std.specs.Prelude.{◌≡◌, ◌&&◌, [], length, position, slice_get, take, is_some, None, Some};
 ghost use Rattle.std.specs.Prelude.{IfOk, IfErr, IfSome, IfNone, OnOk, OnErr};
 ghost use Rattle.std.specs.Map.Iter.{deref_pair};
 ghost use Rattle.std.specs.Option.{option_map, option_copied};
@@ -131,6 +131,18 @@ impl<V> UnsettledMap<V> {
         };
         let pair = &mut self.pairs[i];
         Ok(mem::replace(&mut pair.1, value))
+    }
+
+    /// Keeps the first `count` deliveries in their order and drops the others; where there are no
+    /// more than that, it keeps all. Takes no memory.
+    ///
+    /// An attach that does not fit its frame is sent with the first half of its entries.
+    pub fn truncate(&mut self, count: usize)
+    where
+        V: Drop,
+        ensures { self.new ≡ take count self.old }
+    {
+        self.pairs.truncate(count);
     }
 }
 

@@ -83,3 +83,14 @@ fn an_absent_tag_gives_the_value_back(rt: HostRuntime) {
     assert_eq!(rt; map.replace(&tag(&rt, 4), 40), Err(40), "an absent one");
     holds(&rt, &map, &[(1, 10), (2, 25), (3, 30)], "as before");
 }
+
+#[test]
+fn the_first_entries_are_kept(rt: HostRuntime) {
+    let mut map = three(&rt);
+    map.truncate(4);
+    holds(&rt, &map, &[(1, 10), (2, 20), (3, 30)], "as before");
+    map.truncate(2);
+    holds(&rt, &map, &[(1, 10), (2, 20)], "without the last");
+    map.truncate(0);
+    holds(&rt, &map, &[], "without any");
+}
