@@ -1,7 +1,7 @@
 //! The attach performative (2.7.3).
 ghost use Rattle.std.specs.Prelude.{◌≡◌};
 
-use crate::types::copy::copy_of;
+use crate::types::copy::copies_of;
 use crate::types::definitions::{Handle, ReceiverSettleMode, Role, SenderSettleMode, SequenceNo};
 use crate::types::delivery_state::DeliveryState;
 use crate::types::fields::Fields;
@@ -48,21 +48,28 @@ impl Clone for Attach {
     ghost is_clone = { λ attach copy. copy ≡ attach };
 
     fn clone(&self) -> Result<Attach, AllocError> {
+        let name = self.name.clone()?;
+        let (offered_capabilities, desired_capabilities) = copies_of(
+            &self.offered_capabilities,
+            &self.desired_capabilities,
+        )?;
+        let (unsettled, properties) = copies_of(&self.unsettled, &self.properties)?;
+        let (source, target) = copies_of(&self.source, &self.target)?;
         Ok(Attach {
-            name: self.name.clone()?,
+            name,
             handle: self.handle,
             role: self.role,
             snd_settle_mode: self.snd_settle_mode,
             rcv_settle_mode: self.rcv_settle_mode,
-            source: copy_of(&self.source)?,
-            target: copy_of(&self.target)?,
-            unsettled: copy_of(&self.unsettled)?,
+            source,
+            target,
+            unsettled,
             incomplete_unsettled: self.incomplete_unsettled,
             initial_delivery_count: self.initial_delivery_count,
             max_message_size: self.max_message_size,
-            offered_capabilities: copy_of(&self.offered_capabilities)?,
-            desired_capabilities: copy_of(&self.desired_capabilities)?,
-            properties: copy_of(&self.properties)?,
+            offered_capabilities,
+            desired_capabilities,
+            properties,
         })
     }
 }

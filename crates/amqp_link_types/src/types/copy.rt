@@ -13,3 +13,16 @@ pub(crate) fn copy_of<T: Clone>(value: &Option<T>) -> Result<Option<T>, AllocErr
         None => Ok(None),
     }
 }
+
+// Copies of two such parts.
+pub(crate) fn copies_of<T: Clone + Drop, U: Clone>(
+    first: &Option<T>,
+    second: &Option<U>,
+) -> Result<(Option<T>, Option<U>), AllocError>
+    requires first { (t c : T) → T.is_clone t c → c ≡ t }
+    requires second { (u c : U) → U.is_clone u c → c ≡ u }
+    ensures first { IfOk result (λ copies. copies.0 ≡ first.now) }
+    ensures second { IfOk result (λ copies. copies.1 ≡ second.now) }
+{
+    Ok((copy_of(first)?, copy_of(second)?))
+}

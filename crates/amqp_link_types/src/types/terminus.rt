@@ -1,7 +1,7 @@
 //! The two ends of a link's way through a node: its source and its target (3.5).
 ghost use Rattle.std.specs.Prelude.{◌≡◌};
 
-use crate::types::copy::copy_of;
+use crate::types::copy::{copies_of, copy_of};
 use crate::types::delivery_state::Outcome;
 use crate::types::fields::{Fields, FilterSet};
 use crate::types::symbols::Symbols;
@@ -114,18 +114,24 @@ impl Clone for Source {
     ghost is_clone = { λ source copy. copy ≡ source };
 
     fn clone(&self) -> Result<Source, AllocError> {
+        let (address, dynamic_node_properties) = copies_of(
+            &self.address,
+            &self.dynamic_node_properties,
+        )?;
+        let (filter, default_outcome) = copies_of(&self.filter, &self.default_outcome)?;
+        let (outcomes, capabilities) = copies_of(&self.outcomes, &self.capabilities)?;
         Ok(Source {
-            address: copy_of(&self.address)?,
+            address,
             durable: self.durable,
             expiry_policy: self.expiry_policy,
             timeout: self.timeout,
             dynamic: self.dynamic,
-            dynamic_node_properties: copy_of(&self.dynamic_node_properties)?,
+            dynamic_node_properties,
             distribution_mode: self.distribution_mode,
-            filter: copy_of(&self.filter)?,
-            default_outcome: copy_of(&self.default_outcome)?,
-            outcomes: copy_of(&self.outcomes)?,
-            capabilities: copy_of(&self.capabilities)?,
+            filter,
+            default_outcome,
+            outcomes,
+            capabilities,
         })
     }
 }
