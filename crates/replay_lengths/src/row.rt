@@ -1,4 +1,4 @@
-//! Rows: the type of a value, the length that an encoder gave for it, that encoder, and the value.
+//! Rows: the type of a value, its length, the encoder that gave it or `hand`, and the value.
 ghost use Rattle.std.specs.Prelude.{◌≡◌, ◌↔◌, Some, IsTrue};
 
 use crate::error::RowError;
@@ -126,10 +126,10 @@ fn read_kind(reader: &mut Reader) -> Result<Kind, RowError> {
     Err(RowError::NotARow)
 }
 
-// The encoders that gave the length are not asked again, so their names are only checked.
+// Who gave the length is not asked again, so the name is only checked.
 fn read_encoder(reader: &mut Reader) -> Result<(), RowError> {
     match reader.word()? {
-        b"proton" | b"uamqp" | b"proton+uamqp" => Ok(()),
+        b"proton" | b"uamqp" | b"proton+uamqp" | b"hand" => Ok(()),
         _ => Err(RowError::NotARow),
     }
 }
