@@ -1,3 +1,2 @@
-pub mod DigitLemmas
 pub mod LineLemmas
 pub mod HexLemmas

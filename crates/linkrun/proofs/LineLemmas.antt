@@ -3,7 +3,7 @@ use Rattle.std.proofs.Common.{◌≡◌, ℕ, ◌<◌, ◌^◌, List, ◌++◌, 
 use Rattle.std.specs.Prelude.{codes, MatchOption, OnErr}
 use Rattle.std.specs.Option.{SomeIff, option_map}
 use Rattle.std.specs.Str.Parse.{IsNumeral, digits_value}
-use Rattle.linkrun.specs.Hex.{IsHexText, bytes_of}
+use Rattle.line_text.specs.Hex.{IsHexText, bytes_of}
 use Rattle.linkrun.specs.Line.{IsNumber, Says}
 use Rattle.linkrun.specs.declared.event.Event.{Event}
 use Rattle.linkrun.specs.declared.event.Event.TheVariants.{Attach, Grant, Send, Arrive, Show}

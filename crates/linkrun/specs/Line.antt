@@ -1,7 +1,7 @@
 -- The lines of a script. An event is a word, one space, and the event's number or bytes.
 use Rattle.std.specs.Prelude.{◌≡◌, ℕ, ◌<◌, ◌^◌, ◌++◌, List, codes}
 use Rattle.std.specs.Str.Parse.{IsNumeral, digits_value}
-use Rattle.linkrun.specs.Hex.{IsHexText, bytes_of}
+use Rattle.line_text.specs.Hex.{IsHexText, bytes_of}
 use Rattle.linkrun.specs.declared.event.Event.{Event}
 use Rattle.linkrun.specs.declared.event.Event.TheVariants.{Attach, Grant, Send, Arrive, Show}
 

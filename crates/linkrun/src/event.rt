@@ -3,9 +3,9 @@ ghost use Rattle.std.specs.Prelude.{IfOk, OnErr, MatchOption};
 ghost use Rattle.linkrun.specs.declared.event.Event.{Event};
 ghost use Rattle.linkrun.specs.Line.{Says};
 
-use crate::hex::parse_bytes;
 use crate::number::parse_number;
 use amqp_link::{DeliveryTag, Payload};
+use line_text::hex::parse_bytes;
 use std::alloc::{AllocError, Global};
 
 /// What a line asks of the pair.

@@ -6,7 +6,6 @@
 #![tactic(auto)]
 
 mod answer;
-mod digits;
 mod event;
 mod fault;
 mod hex;

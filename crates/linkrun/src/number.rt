@@ -3,7 +3,7 @@ ghost use Rattle.std.specs.Prelude.{◌<◌, ◌^◌};
 ghost use Rattle.std.specs.Option.{SomeIff};
 ghost use Rattle.std.specs.Str.Parse.{IsNumeral, digits_value};
 
-use crate::digits::are_digits;
+use line_text::number::parse_unsigned;
 
 /// The number that `text` writes in decimal digits, one or more and nothing beside them, where it
 /// fits a `u32`. Leading zeros count for nothing. Takes no memory.
@@ -12,12 +12,5 @@ pub fn parse_number(text: &[u8]) -> Option<u32>
         (IsNumeral 10 text.now × (digits_value 10 text.now < 2 ^ 32))
         (digits_value 10 text.now) }
 {
-    // `parse` takes a sign too, which a script does not have.
-    if !are_digits(text, 10) {
-        return None;
-    }
-    let Ok(digits) = str::from_utf8(text) else {
-        return None;
-    };
-    digits.parse().ok()
+    u32::try_from(parse_unsigned(text)?).ok()
 }

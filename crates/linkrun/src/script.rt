@@ -1,11 +1,11 @@
 //! A run of a script: its lines in order, an answer a line.
-ghost use Rattle.std.specs.Prelude.{◌≡◌, ◌≤◌, ◌↔◌, [], false, IfOk, IfSome, OnOk};
-ghost use Rattle.std.specs.Io.BufRead.{DropsThrough, first_line};
+ghost use Rattle.std.specs.Prelude.{◌≤◌, IfOk};
 
 use crate::answer::perform;
 use crate::event::parse_event;
 use crate::fault::Fault;
 use amqp_link::Pair;
+use line_text::line::read_line;
 use std::alloc::Global;
 use std::io;
 use std::io::{BufRead, Write};
@@ -84,25 +84,4 @@ fn run_lines<R: BufRead, O: Write>(
         }
     }
     Ok(Some(Fault::InputFailed))
-}
-
-// Reads the next line without its end, a line feed and a carriage return before it, and answers
-// whether there was one.
-fn read_line<R: BufRead>(input: &mut R, line: &mut Vec<u8>) -> io::Result<bool>
-    ensures line { OnOk result (IfSome (R.remaining input.old) (λ bytes. line.new.items ≡ first_line bytes)) }
-    ensures rest { OnOk result (DropsThrough (R.remaining input.old) (R.remaining input.new) 10) }
-    ensures end { IfOk result (λ is_line.
-        IfSome (R.remaining input.old) (λ bytes. (is_line ≡ false) ↔ (bytes ≡ []))) }
-{
-    line.clear();
-    if input.read_until(b'\n', line)? == 0 {
-        return Ok(false);
-    }
-    if line.last() == Some(&b'\n') {
-        let _ = line.pop();
-        if line.last() == Some(&b'\r') {
-            let _ = line.pop();
-        }
-    }
-    Ok(true)
 }

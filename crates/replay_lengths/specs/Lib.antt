@@ -1,3 +1,1 @@
-pub mod Hex
-pub mod Number
 pub mod Report

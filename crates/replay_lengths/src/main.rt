@@ -6,11 +6,8 @@
 //! is no row, and 3 where reading, writing or memory fails.
 #![tactic(auto)]
 
-mod digits;
 mod error;
 mod fields;
-mod hex;
-mod number;
 mod performative;
 mod reader;
 mod replay;

@@ -1,7 +1,7 @@
 //! The words of a row, read one after the other.
 use crate::error::RowError;
-use crate::hex::parse_bytes;
-use crate::number::{parse_signed, parse_unsigned};
+use line_text::hex::parse_bytes;
+use line_text::number::{parse_signed, parse_unsigned};
 use std::alloc::Global;
 
 /// What a row says by words of its own.

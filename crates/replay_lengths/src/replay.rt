@@ -1,10 +1,10 @@
 //! A replay: the lines in order, and what is told of them.
-ghost use Rattle.std.specs.Prelude.{◌≡◌, ◌≤◌, ◌↔◌, [], false, IfOk, IfSome, OnOk};
-ghost use Rattle.std.specs.Io.BufRead.{DropsThrough, first_line};
+ghost use Rattle.std.specs.Prelude.{◌≡◌, ◌≤◌};
 
 use crate::error::RowError;
 use crate::row::{Compared, compare};
 use crate::tally::Tallies;
+use line_text::line::read_line;
 use std::alloc::Global;
 use std::io;
 use std::io::{BufRead, Write};
@@ -114,25 +114,4 @@ fn conclude<W: Write>(tallies: &Tallies, output: &mut W) -> io::Result<Verdict> 
     } else {
         Ok(Verdict::Disagreed)
     }
-}
-
-// Reads the next line without its end, a line feed and a carriage return before it, and answers
-// whether there was one.
-fn read_line<R: BufRead>(input: &mut R, line: &mut Vec<u8>) -> io::Result<bool>
-    ensures line { OnOk result (IfSome (R.remaining input.old) (λ bytes. line.new.items ≡ first_line bytes)) }
-    ensures rest { OnOk result (DropsThrough (R.remaining input.old) (R.remaining input.new) 10) }
-    ensures end { IfOk result (λ is_line.
-        IfSome (R.remaining input.old) (λ bytes. (is_line ≡ false) ↔ (bytes ≡ []))) }
-{
-    line.clear();
-    if input.read_until(b'\n', line)? == 0 {
-        return Ok(false);
-    }
-    if line.last() == Some(&b'\n') {
-        let _ = line.pop();
-        if line.last() == Some(&b'\r') {
-            let _ = line.pop();
-        }
-    }
-    Ok(true)
 }

@@ -1,7 +1,7 @@
 use Rattle.std.proofs.Common.{rules, ◌≡◌, ◌++◌}
 use Rattle.std.specs.Prelude.{codes}
 use Rattle.std.specs.Option.{option_map}
-use Rattle.linkrun.specs.Hex.{IsHexText, bytes_of}
+use Rattle.line_text.specs.Hex.{IsHexText, bytes_of}
 use Rattle.linkrun.specs.declared.event.Event.TheVariants.{Arrive}
 use Rattle.linkrun.proofs.LineLemmas.{OnErr-always, arrive_read, send_said, show_said}
 use Rattle.linkrun.proofs.event.parse_event.Goals as goal

@@ -1,6 +1,0 @@
-use Rattle.std.proofs.Common.{◌≡◌, ◌*◌, ◌++◌, drop}
-use Rattle.linkrun.specs.Hex.{bytes_of}
-use Rattle.linkrun.proofs.hex.pairs.Given as goal
-
-abbrev pub invariant-loop-at : goal.invariant-loop-at
-invariant-loop-at l = l.bytes.items ++ bytes_of (drop (2 * l.at) l.text) ≡ bytes_of l.text
