@@ -1,5 +1,5 @@
 //! How many rows of each type agree.
-ghost use Rattle.std.specs.Prelude.{◌≡◌, ◌↔◌, IsTrue, All};
+ghost use Rattle.std.specs.Prelude.{◌≡◌, ◌<◌, ◌↔◌, ℕ, IsTrue, All, slice_index_or};
 
 use crate::row::{Compared, KINDS, Kind};
 use std::fmt;
@@ -27,6 +27,29 @@ impl fmt::Display for Tally {
     }
 }
 
+impl Tally {
+    ghost use Rattle.replay_lengths.specs.Counting.{IsCounted};
+
+    // The tally with a row more. It counts those of its type alone.
+    fn with_row(self, row: &Compared) -> Tally
+        ensures { IsCounted row.now self result }
+    {
+        if self.kind != row.kind {
+            return self;
+        }
+        let agreed = if row.agrees() {
+            self.agreed.saturating_add(1)
+        } else {
+            self.agreed
+        };
+        Tally {
+            kind: self.kind,
+            rows: self.rows.saturating_add(1),
+            agreed,
+        }
+    }
+}
+
 /// A tally for each type, in their order.
 #[derive(Drop)]
 pub struct Tallies {
@@ -34,8 +57,15 @@ pub struct Tallies {
 }
 
 impl Tallies {
+    ghost use Rattle.replay_lengths.specs.Counting.{EachCounted};
+    ghost use Rattle.replay_lengths.specs.declared.row.Kind.{Kind};
+    ghost use Rattle.replay_lengths.specs.declared.tally.Tally.{Tally};
+
     /// No rows.
-    pub fn new() -> Tallies {
+    pub fn new() -> Tallies
+        ensures { (at : ℕ) → at < 9 → (kind : Kind) (tally : Tally)
+            → slice_index_or result.tallies at tally ≡ record { kind = slice_index_or KINDS at kind; rows = 0; agreed = 0 } }
+    {
         Tallies {
             tallies: KINDS.map(|kind| Tally {
                 kind,
@@ -53,14 +83,11 @@ impl Tallies {
     }
 
     /// Counts a row.
-    pub fn count(&mut self, compared: &Compared) {
+    pub fn count(&mut self, compared: &Compared)
+        ensures { EachCounted compared.now self.old.tallies self.new.tallies }
+    {
         for tally in &mut self.tallies {
-            if tally.kind == compared.kind {
-                tally.rows = tally.rows.saturating_add(1);
-                if compared.agrees() {
-                    tally.agreed = tally.agreed.saturating_add(1);
-                }
-            }
+            *tally = tally.with_row(compared);
         }
     }
 
