@@ -1,3 +1,4 @@
 pub mod CountLemmas
+pub mod Halving
 pub mod MergeLemmas
 pub mod Worked

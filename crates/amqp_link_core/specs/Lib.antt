@@ -1,7 +1,10 @@
 pub use Rattle.amqp_link_types.specs.DeliveryStates
+pub use Rattle.amqp_link_types.specs.Entries
 pub use Rattle.amqp_link_types.specs.Header
 pub use Rattle.amqp_link_types.specs.Position
 pub use Rattle.amqp_link_types.specs.Refusals
+pub use Rattle.amqp_link_types.specs.Size
+pub mod Attaching
 pub mod Held
 pub mod IncompleteRefusals
 pub mod Merging

@@ -5,6 +5,7 @@ pub mod MapLemmas
 pub mod PositionLemmas
 pub mod SameLevels
 pub mod ScanLemmas
+pub mod SizeLemmas
 pub mod Sizes
 pub mod StartsLemmas
 pub mod TailLemmas

@@ -1,0 +1,2 @@
+//! What the two ends of a link have in common (2.6).
+pub mod dividing;

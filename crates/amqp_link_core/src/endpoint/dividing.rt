@@ -1,0 +1,93 @@
+//! The attach that is sent carries as many of its unsettled deliveries as fit in a frame (2.6.3 and
+//! 2.7.3).
+//!
+//! Their number is halved until the attach fits, and the map is marked as incomplete where it is
+//! halved at all.
+ghost use Rattle.std.specs.Prelude.{◌≡◌, ◌↔◌, true, IsTrue, IfSome, IfNone, take, option_map};
+ghost use Rattle.amqp_link_core.specs.Attaching.{with_entries, Fits, NeverFits, IsDivided};
+
+#[cfg(test)]
+mod tests;
+
+use amqp_link_types::size::EncodedLen;
+use amqp_link_types::types::{Attach, DeliveryState, UnsettledMap};
+
+/// Whether the attach fits in a frame of at most `max_frame_size` bytes, of which four are the
+/// frame's header. Takes no memory.
+pub fn fits(attach: &Attach, max_frame_size: u32) -> bool
+    ensures { IsTrue result ↔ Fits attach.now max_frame_size }
+{
+    let limit = u64::from(max_frame_size);
+    match attach.encoded_len() {
+        Some(len) => len <= limit && 4 + len <= limit,
+        None => false,
+    }
+}
+
+/// Whether the attach fits in a frame of at most `max_frame_size` bytes with all of these entries,
+/// and so unmarked. What the attach itself says of unsettled deliveries does not count. Takes no
+/// memory.
+pub fn fits_whole(
+    attach: Attach,
+    entries: UnsettledMap<Option<DeliveryState>>,
+    max_frame_size: u32,
+) -> bool
+    ensures { IsTrue result ↔ Fits (with_entries attach entries 0) max_frame_size }
+{
+    let whole = with_all(attach, entries);
+    fits(&whole, max_frame_size)
+}
+
+/// The attach with the first of the entries: their number is halved, rounded down, as few times as
+/// let the attach fit in a frame of at most `max_frame_size` bytes. None where no number of halvings
+/// does.
+///
+/// The attach is marked incomplete where the entries are halved at all. Its map is null where there
+/// are no entries to begin with, and empty where none is left. What the attach said of unsettled
+/// deliveries before does not count. Takes no memory.
+pub fn divided(
+    attach: Attach,
+    entries: UnsettledMap<Option<DeliveryState>>,
+    max_frame_size: u32,
+) -> Option<Attach>
+    ensures sent { IfSome result (λ sent. IsDivided attach entries max_frame_size sent) }
+    ensures none { IfNone result (NeverFits attach entries max_frame_size) }
+{
+    let mut count = entries.len();
+    let mut sent = with_all(attach, entries);
+    while !fits(&sent, max_frame_size) {
+        if count == 0 {
+            return None;
+        }
+        count /= 2;
+        keep_entries(&mut sent, count);
+    }
+    Some(sent)
+}
+
+// With all entries, unmarked; where there are none, with no map.
+fn with_all(attach: Attach, entries: UnsettledMap<Option<DeliveryState>>) -> Attach
+    ensures { result ≡ with_entries attach entries 0 }
+{
+    let mut attach = attach;
+    attach.incomplete_unsettled = false;
+    attach.unsettled = if entries.len() == 0 {
+        None
+    } else {
+        Some(entries)
+    };
+    attach
+}
+
+// Keeps the first `count` entries of the map that is there, and marks it.
+fn keep_entries(attach: &mut Attach, count: usize)
+    ensures { attach.new ≡ record attach.old {
+      unsettled = option_map (take count) attach.old.unsettled;
+      incomplete_unsettled = true;
+    } }
+{
+    attach.incomplete_unsettled = true;
+    if let Some(entries) = &mut attach.unsettled {
+        entries.truncate(count);
+    }
+}
