@@ -15,6 +15,7 @@ use Rattle.amqp_link.specs.Invariants.{IsUnderWay, IsKept, OpensOnce, AreContinu
 use Rattle.amqp_link_types.specs.Position.{position, starts, is_header_at}
 use Rattle.amqp_link.specs.Receiving.{CanReceive}
 use Rattle.amqp_link_ends.specs.Senders.{Sender, IsSent}
+use Rattle.amqp_link_types.specs.declared.types.terminus.Target.{Target}
 use Rattle.amqp_link.specs.Steps.{received, held_after, begun, delivery_transfer}
 use Rattle.amqp_link.specs.Worlds.{bytes_in, joined, EndsInTime, IsGood}
 use Rattle.amqp_link_types.specs.declared.delivery.UnsettledMessage.{UnsettledMessage}
@@ -217,7 +218,7 @@ at_handle : (o : Option InputHandle) (h : InputHandle) (t : Transfer) (frames : 
 at_handle o h t frames e each = let P : Option InputHandle → Type 0 = λ o. IsSomeAnd o (λ handle. AreFramesOf handle t frames) in subst P e each
 
 -- a payload that is sent is under way
-pub sent_is_under_way : (s : Sender) (h : InputHandle) (payload tag : List ℕ) (frames : List LinkFrame) → s.input_handle ≡ Some h → length payload < 2 ^ 32 → IsSent s (delivery_transfer tag) payload frames → IsUnderWay payload begun frames
+pub sent_is_under_way : (s : Sender Target) (h : InputHandle) (payload tag : List ℕ) (frames : List LinkFrame) → s.input_handle ≡ Some h → length payload < 2 ^ 32 → IsSent s (delivery_transfer tag) payload frames → IsUnderWay payload begun frames
 sent_is_under_way s h payload tag frames input short sent =
     let each : AreFramesOf h (delivery_transfer tag) frames = at_handle s.input_handle h (delivery_transfer tag) frames input sent.each in
     under_way payload tag h (length frames) frames short sent.split.joined (omega (arith, sent.split.some, length-map frames payload_of)) (frames_from h tag (length frames) 0 frames (omega arith) (λ i d l. subst (λ j. slice_index_or frames i d ≡ frame_of h (delivery_transfer tag) j (length frames) (payload_of (slice_index_or frames i d))) (let z : i ≡ 0 + i = omega arith in z) (each i d l)))

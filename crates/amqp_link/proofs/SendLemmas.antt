@@ -1,5 +1,5 @@
 -- What a send of a pair's sender comes to.
-use Rattle.std.proofs.Common.{◌≡◌, ◌∙◌, sym, ap, subst, ℕ, ◌+◌, ◌<◌, ◌≤◌, Bool, true, false, cond, ◌&&◌, not, List, [], ◌∷◌, length, refl, Option, Some, None, Result, Ok, Err, Vec, Global, min, nat_le, arith, ◌==◌}
+use Rattle.std.proofs.Common.{◌≡◌, ◌∙◌, sym, ap, subst, ℕ, ◌+◌, ◌<◌, ◌≤◌, Bool, true, false, cond, ◌&&◌, not, List, [], ◌∷◌, length, refl, Option, Some, None, Result, Ok, Err, Vec, Global, min, nat_le, arith, ◌==◌, inl, inr, ◌⊎◌}
 use Rattle.std.specs.Prelude.{is_some, is_none, IsSomeAnd, unwrap_or}
 use Rattle.std.proofs.lemmas.Bool.Decides.{nat_tests}
 use Rattle.amqp_link_types.specs.Entries.{Tag, entry_at, with_entry}
@@ -9,6 +9,7 @@ use Rattle.amqp_link_types.specs.Refusals.{refusal}
 use Rattle.amqp_link_ends.specs.Room.{worst, has_room, payload_limit}
 use Rattle.amqp_link.specs.Sendable.{CanSend}
 use Rattle.amqp_link_ends.specs.Senders.{Sender, Delivery, Sends, SendsPayload, IsFewest, IsSent, AnswersSend, Stop, missing_credit, payload_tests, next_tag, new_transfer, new_entry, settled_by_mode, settlement_of}
+use Rattle.amqp_link_types.specs.declared.types.terminus.Target.{Target}
 use Rattle.amqp_link_types.specs.Size.{transfer_len, before, list_of, content}
 use Rattle.amqp_link_ends.specs.Split.{Least}
 use Rattle.amqp_link.specs.Steps.{delivery_transfer, after_sending}
@@ -31,7 +32,7 @@ unsettled_delivery = record { message_format = 0; settled = Some false; state = 
 abbrev zero_handle : OutputHandle
 zero_handle = record { 0 = 0 }
 
-pub transfer_is : (s : Sender) (tag : Tag) → s.snd_settle_mode ≡ mode.Mixed → new_transfer s (record { 0 = 0 }) tag unsettled_delivery ≡ delivery_transfer tag
+pub transfer_is : (s : Sender Target) (tag : Tag) → s.snd_settle_mode ≡ mode.Mixed → new_transfer s (record { 0 = 0 }) tag unsettled_delivery ≡ delivery_transfer tag
 transfer_is s tag is = let t = delivery_transfer tag in ap (λ m. record t { settled = Some (settled_by_mode m (Some false)) }) is
 
 -- ---- its room
@@ -51,7 +52,7 @@ room_by w frame len e h = grind (arith, nat_tests)
 pub has_room-delivery : (tag : Tag) (frame : ℕ) (payload : List ℕ) → length tag ≡ 4 → 29 ≤ frame → has_room (delivery_transfer tag) frame payload ≡ true
 has_room-delivery tag frame payload four h = room_by (worst (delivery_transfer tag)) frame (length payload) (worst-delivery tag four) h
 
-length-next_tag : (s : Sender) → length (next_tag s) ≡ 4
+length-next_tag : (s : Sender Target) → length (next_tag s) ≡ 4
 length-next_tag s = grind arith
 
 -- ---- nothing stands against it
@@ -63,7 +64,7 @@ none_of a b c d e p q r s t ha hb hc hd he = rw (ha, hb, hc, hd, he) refl
 some_credit : (n : ℕ) → 0 < n → (n == 0) ≡ false
 some_credit n h = grind (arith, nat_tests)
 
-pub no_refusal : (s : Sender) (payload : List ℕ) → CanSend s → refusal (payload_tests s unsettled_delivery payload) ≡ None
+pub no_refusal : (s : Sender Target) (payload : List ℕ) → CanSend s → refusal (payload_tests s unsettled_delivery payload) ≡ None
 no_refusal s payload k =
     let t : new_transfer s (unwrap_or s.output_handle zero_handle) (next_tag s) unsettled_delivery ≡ delivery_transfer (next_tag s) =
     ap (λ o. new_transfer s (unwrap_or o zero_handle) (next_tag s) unsettled_delivery) k.output ∙ transfer_is s (next_tag s) k.mode in
@@ -78,13 +79,12 @@ some_is_none : {A : Type 0} {x : A} → Some x ≡ None → ⊥
 some_is_none h = cc
 
 pub only_memory : (r : Result Sending LinkStateError) (e : LinkStateError) (tests : List (Bool × Stop)) → r ≡ Err e → AnswersSend r tests → refusal tests ≡ None → e ≡ error.OutOfMemory
-only_memory r e tests is a none = let P : Result Sending LinkStateError → Type 0 = λ r. AnswersSend r tests in by e (subst P is a)
-  where
-    by : (e : LinkStateError) → AnswersSend (Err e) tests → e ≡ error.OutOfMemory
-    by error.OutOfMemory a = refl
-    by error.IllegalState a = absurd (some_is_none (sym a ∙ none))
-    by error.TagPending a = absurd (some_is_none (sym a ∙ none))
-    by error.NoRoom a = absurd (some_is_none (sym a ∙ none))
+only_memory r e tests is a none =
+    let P : Result Sending LinkStateError → Type 0 = λ r. AnswersSend r tests in
+    elim (subst P is a) as (λ _. e ≡ error.OutOfMemory) [
+      | inl memory ↦ memory
+      | inr stop ↦ absurd (some_is_none (sym stop ∙ none))
+    ]
 
 pub credit_is_there : (r : Result Sending LinkStateError) (tests : List (Bool × Stop)) → r ≡ Ok sending.CreditMissing → AnswersSend r tests → refusal tests ≡ None → ⊥
 credit_is_there r tests is a none =
@@ -95,7 +95,7 @@ credit_is_there r tests is a none =
 -- ---- what it does
 
 -- a delivery of a pair was sent
-pub record IsDone (old : Sender) (payload : List ℕ) (told : Settlement) (frames : List LinkFrame) (new : Sender) : Type 0 where
+pub record IsDone (old : Sender Target) (payload : List ℕ) (told : Settlement) (frames : List LinkFrame) (new : Sender Target) : Type 0 where
   pub answered : told ≡ settlement.Unsettled (next_tag old)
   pub framed : IsSent old (delivery_transfer (next_tag old)) payload frames
   pub fewest : Least payload (payload_limit (delivery_transfer (next_tag old)) old.max_frame_size) (length frames)
@@ -104,7 +104,7 @@ pub record IsDone (old : Sender) (payload : List ℕ) (told : Settlement) (frame
 at_output : (P : OutputHandle → Type 0) (o : Option OutputHandle) → o ≡ Some zero_handle → IsSomeAnd o P → P zero_handle
 at_output P o is a = let Q : Option OutputHandle → Type 0 = λ o. IsSomeAnd o P in subst Q is a
 
-pub done : (s : Sender) (payload : List ℕ) (told : Settlement) (frames : Vec LinkFrame Global) (new : Sender) → CanSend s
+pub done : (s : Sender Target) (payload : List ℕ) (told : Settlement) (frames : Vec LinkFrame Global) (new : Sender Target) → CanSend s
     → Sends s unsettled_delivery payload (sending.Sent told frames) new → IsFewest s unsettled_delivery payload (sending.Sent told frames)
     → IsDone s payload told frames.items new
 done s payload told frames new k sends fewest =

@@ -9,6 +9,7 @@ use Rattle.amqp_link_types.specs.Frames.{performative_of}
 use Rattle.amqp_link.specs.Invariants.{IsWorld, IsReady, IsKept}
 use Rattle.amqp_link.specs.Receiving.{IsReceived, CanReceive}
 use Rattle.amqp_link_ends.specs.Senders.{Sender, next_tag, new_entry}
+use Rattle.amqp_link_types.specs.declared.types.terminus.Target.{Target}
 use Rattle.amqp_link.specs.Steps.{Sends, Arrives, received, begun, after_sending}
 use Rattle.amqp_link.specs.Wires.{OnWire, under, first_of}
 use Rattle.amqp_link.specs.Worlds.{World, Good, frames_of}
@@ -109,7 +110,7 @@ module _ (old new : World) (id : ℕ) (tag : List ℕ) (place : ℕ × ℕ) (who
 
 -- ---- a send
 
-ready_sends : (limit : Option ℕ) (s : Sender) (payload : List ℕ) → IfSome limit (λ l. IsReady l s) → IfSome limit (λ l. IsReady l (after_sending s payload))
+ready_sends : (limit : Option ℕ) (s : Sender Target) (payload : List ℕ) → IfSome limit (λ l. IsReady l s) → IfSome limit (λ l. IsReady l (after_sending s payload))
 ready_sends None s payload r = r
 ready_sends (Some limit) s payload r = record { enough = r.enough; frame = r.frame; output = r.output; input = r.input }
 

@@ -5,6 +5,7 @@ use Rattle.amqp_link_types.specs.Entries.{Tag, entry_at}
 use Rattle.amqp_link_core.specs.Held.{Held}
 use Rattle.amqp_link.specs.Receiving.{IsContinuing}
 use Rattle.amqp_link_ends.specs.Senders.{Sender}
+use Rattle.amqp_link_types.specs.declared.types.terminus.Target.{Target}
 use Rattle.amqp_link.specs.Worlds.{World, IsGood, frames_of}
 use Rattle.amqp_link_types.specs.declared.delivery.UnsettledMessage.{UnsettledMessage}
 use Rattle.amqp_link_types.specs.declared.frame.LinkFrame.{LinkFrame}
@@ -49,7 +50,7 @@ IsKept (Some entry) (Some p) frames = IsUnderWay entry.payload p frames
 -- ---- the whole pair
 
 -- an attached sender has its handles, and frames with room
-pub record IsReady (limit : ℕ) (s : Sender) : Type 0 where
+pub record IsReady (limit : ℕ) (s : Sender Target) : Type 0 where
   pub enough : 29 ≤ limit
   pub frame : s.max_frame_size ≡ limit
   pub output : s.output_handle ≡ Some (record { 0 = 0 })

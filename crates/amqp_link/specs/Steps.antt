@@ -7,6 +7,10 @@ use Rattle.amqp_link_core.specs.Held.{Held}
 use Rattle.amqp_link_types.specs.Position.{position}
 use Rattle.amqp_link_types.specs.Refusals.{refusal}
 use Rattle.amqp_link_ends.specs.Senders.{Sender, IsSent, next_tag, new_entry}
+use Rattle.amqp_link_types.specs.declared.types.terminus.Target.{Target}
+use Rattle.amqp_link_types.specs.declared.types.terminus.Source.{Source}
+use Rattle.amqp_link_types.specs.declared.types.terminus.TerminusDurability.TheVariants as durable
+use Rattle.amqp_link_types.specs.declared.types.terminus.TerminusExpiryPolicy.TheVariants.{SessionEnd}
 use Rattle.amqp_link_ends.specs.Split.{Least}
 use Rattle.amqp_link_ends.specs.Room.{payload_limit}
 use Rattle.amqp_link.specs.Wires.{OnWire, under}
@@ -59,13 +63,46 @@ received p id f = record {
 
 -- ---- the calls
 
+-- a source that says nothing
+abbrev pub default_source : Source
+default_source = record {
+  address = None;
+  durable = durable.None;
+  expiry_policy = SessionEnd;
+  timeout = 0;
+  dynamic = false;
+  dynamic_node_properties = None;
+  distribution_mode = None;
+  filter = None;
+  default_outcome = None;
+  outcomes = None;
+  capabilities = None;
+}
+
+-- a target that says nothing
+abbrev pub default_target : Target
+default_target = record {
+  address = None;
+  durable = durable.None;
+  expiry_policy = SessionEnd;
+  timeout = 0;
+  dynamic = false;
+  dynamic_node_properties = None;
+  capabilities = None;
+}
+
 -- the sender's end of a new pair: the link "l" with this count, not attached, without credit
-abbrev pub new_sender : ℕ → Sender
+abbrev pub new_sender : ℕ → Sender Target
 new_sender count = record {
   local_state = Unattached;
   name = codes "l";
   snd_settle_mode = Mixed;
   rcv_settle_mode = First;
+  source = Some default_source;
+  target = Some default_target;
+  max_message_size = 0;
+  offered_capabilities = None;
+  desired_capabilities = None;
   output_handle = None;
   input_handle = None;
   flow_state = record {
@@ -104,7 +141,7 @@ pub record Attaches (old : World) (limit count : ℕ) (new : World) : Type 0 whe
   }
 
 -- the sender with this credit
-abbrev pub with_credit : Sender → ℕ → Sender
+abbrev pub with_credit : Sender Target → ℕ → Sender Target
 with_credit s credit = record s { flow_state = record s.flow_state { link_credit = credit } }
 
 -- The sender's credit becomes what is granted less what the receiver has not counted yet, and is
@@ -114,7 +151,7 @@ pub record Grants (old : World) (n answer : ℕ) (new : World) : Type 0 where
   pub world : new ≡ record old { sender = with_credit old.sender answer }
 
 -- the sender after a payload was sent as an unsettled delivery: it is registered, for one credit
-abbrev pub after_sending : Sender → List ℕ → Sender
+abbrev pub after_sending : Sender Target → List ℕ → Sender Target
 after_sending s payload = record s {
   flow_state = after_consuming 1 s.flow_state;
   unsettled = with_entry s.unsettled (next_tag s) (new_entry 0 payload);

@@ -6,6 +6,7 @@ use Rattle.amqp_link_types.specs.Entries.{Tag, Entries, entry_at}
 use Rattle.amqp_link_types.specs.Frames.{payload_of, performative_of}
 use Rattle.amqp_link_core.specs.Held.{Held, bytes_of}
 use Rattle.amqp_link_ends.specs.Senders.{Sender}
+use Rattle.amqp_link_types.specs.declared.types.terminus.Target.{Target}
 use Rattle.amqp_link.specs.Wires.{OnWire}
 use Rattle.amqp_link_types.specs.declared.frame.LinkFrame.{LinkFrame}
 use Rattle.amqp_link.specs.declared.pair.progress.Progress.{Progress}
@@ -15,7 +16,7 @@ pub record World : Type 0 where
   pub limit : Option ℕ
   -- the receiver's count, which stays the initial one as long as nothing is handed out
   pub initial : ℕ
-  pub sender : Sender
+  pub sender : Sender Target
   -- what has come of each delivery, from its send on
   pub deliveries : Entries Progress
   pub wire : List OnWire

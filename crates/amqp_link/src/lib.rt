@@ -9,9 +9,15 @@
 
 pub mod pair;
 
+pub use amqp_link_core::endpoint::target::LinkTarget;
+pub use amqp_link_core::endpoint::{Link, LinkAttach, LinkDetach, LinkExt};
 pub use amqp_link_core::incomplete_transfer::IncompleteTransfer;
-pub use amqp_link_ends::sender_link::{LinkParts, SenderLink, Sending, Waiting};
-pub use amqp_link_types::delivery::{Settlement, UnsettledMessage};
+pub use amqp_link_ends::link_parts::LinkParts;
+pub use amqp_link_ends::receiver_link::{
+    ReceiverAttachExchange, ReceiverLink, get_max_message_size,
+};
+pub use amqp_link_ends::sender_link::{SenderAttachExchange, SenderLink, Sending, Waiting};
+pub use amqp_link_types::delivery::{DeliveryOutcome, Outcomes, Settlement, UnsettledMessage};
 pub use amqp_link_types::frame::{LinkFrame, LinkTransfer, clear_continuation_fields};
 pub use amqp_link_types::position::position_of;
 pub use amqp_link_types::role::{IntoRole, ReceiverMarker, SenderMarker};
@@ -20,11 +26,12 @@ pub use amqp_link_types::state::{
     DEFAULT_CREDIT, InsufficientCredit, LinkFlowState, LinkFlowStateInner, LinkState,
 };
 pub use amqp_link_types::types::{
-    Attach, ConnectionStopReason, DeliveryNumber, DeliveryState, DeliveryTag, Descriptor, Detach,
-    Disposition, DistributionMode, Error, Fields, FilterSet, Handle, InputHandle, LinkFlow,
-    LinkStateError, MessageFormat, Outcome, OutputHandle, Payload, ReceiverSettleMode,
-    ReceiverTransferError, Role, SenderSettleMode, SequenceNo, SessionStopReason, Source, Symbol,
-    Symbols, Target, TargetArchetype, TerminusDurability, TerminusExpiryPolicy, Text, Transfer,
+    ApplyRemoteDetachError, Attach, ConnectionStopReason, DeliveryNumber, DeliveryState,
+    DeliveryTag, Descriptor, Detach, DetachError, Disposition, DistributionMode, Error, Fields,
+    FilterSet, Handle, InputHandle, LinkFlow, LinkStateError, MessageFormat, Outcome, OutputHandle,
+    Payload, ReceiverAttachError, ReceiverSettleMode, ReceiverTransferError, Role,
+    SenderAttachError, SenderSettleMode, SequenceNo, SessionStopReason, Source, Symbol, Symbols,
+    Target, TargetArchetype, TerminusDurability, TerminusExpiryPolicy, Text, Transfer,
     UnsettledMap, Value,
 };
 pub use pair::{Arrived, Pair, PairError, Sent};

@@ -24,9 +24,10 @@ use crate::pair::deliveries::Deliveries;
 use crate::pair::progress::{close, open, receive};
 use crate::pair::sending::{new_sender, next_tag, send_unsettled};
 use crate::pair::wire::Wire;
+use amqp_link_core::endpoint::LinkExt;
 use amqp_link_core::incomplete_transfer::IncompleteTransfer;
 use amqp_link_ends::sender_link::SenderLink;
-use amqp_link_types::types::{DeliveryNumber, DeliveryTag, Payload, SequenceNo};
+use amqp_link_types::types::{DeliveryNumber, DeliveryTag, Payload, SequenceNo, Target};
 pub use error::PairError;
 pub use progress::Progress;
 use std::alloc::Global;
@@ -63,7 +64,7 @@ pub struct Pair {
     alloc: Global,
     limit: Option<u32>,
     initial: SequenceNo,
-    sender: SenderLink,
+    sender: SenderLink<Target>,
     deliveries: Deliveries,
     wire: Wire,
 }

@@ -4,7 +4,11 @@ pub use Rattle.amqp_link_types.specs.Header
 pub use Rattle.amqp_link_types.specs.Position
 pub use Rattle.amqp_link_types.specs.Refusals
 pub use Rattle.amqp_link_types.specs.Size
+pub mod AttachSent
 pub mod Attaching
+pub mod Detaching
 pub mod Held
 pub mod IncompleteRefusals
+pub mod LinkStates
 pub mod Merging
+pub mod Targets

@@ -1,2 +1,3 @@
+pub mod SendRefusals
 pub mod SplitLemmas
 pub mod Worked

@@ -9,6 +9,7 @@ use Rattle.amqp_link_types.specs.declared.types.definitions.ReceiverSettleMode.T
 use Rattle.amqp_link_types.specs.declared.types.definitions.SenderSettleMode.TheVariants as mode
 use Rattle.amqp_link_types.specs.declared.types.errors.LinkStateError.TheVariants.{IllegalState, NoRoom}
 use Rattle.amqp_link_ends.specs.Room.{worst, has_room, payload_limit}
+use Rattle.amqp_link_types.specs.declared.types.terminus.Target.{Target}
 use Rattle.amqp_link_ends.specs.Senders.{Sender, next_tag, delivery_of, settled_by_mode, payload_tests, missing_credit, refused}
 
 -- the transfer of a new delivery at handle 0 with a 4-byte tag, format 0, not settled
@@ -46,12 +47,17 @@ no_room_for_one_at_25 = refl
 -- ---- sends
 
 -- the link "l" with handles 0 and count 258, at 25 bytes a frame, with this credit
-abbrev link : ℕ → Sender
+abbrev link : ℕ → Sender Target
 link credit = record {
   local_state = Attached;
   name = codes "l";
   snd_settle_mode = mode.Mixed;
   rcv_settle_mode = First;
+  source = None;
+  target = None;
+  max_message_size = 0;
+  offered_capabilities = None;
+  desired_capabilities = None;
   output_handle = Some (record { 0 = 0 });
   input_handle = Some (record { 0 = 0 });
   flow_state = record {

@@ -8,46 +8,42 @@ ghost use Rattle.std.specs.Int.{w32, to_be_bytes};
 ghost use Rattle.amqp_link_ends.specs.Room.{payload_limit as limit_of_payload};
 ghost use Rattle.amqp_link_ends.specs.Split.{Least};
 
+mod attach;
+mod detach;
 mod room;
+mod shown;
 mod split;
 #[cfg(test)]
 mod tests;
+mod waits;
 
+use crate::link_parts::LinkParts;
 use crate::sender_link::room::payload_limit;
 use crate::sender_link::split::frames;
+use amqp_link_core::endpoint::target::LinkTarget;
 use amqp_link_types::delivery::{Settlement, UnsettledMessage};
 use amqp_link_types::frame::LinkFrame;
 use amqp_link_types::role::SenderMarker;
-use amqp_link_types::state::{LinkFlowState, LinkFlowStateInner, LinkState};
+use amqp_link_types::state::{LinkFlowState, LinkState};
 use amqp_link_types::types::unsettled_map::UnsettledMap;
 use amqp_link_types::types::{
     DeliveryState, DeliveryTag, InputHandle, LinkStateError, MessageFormat, OutputHandle, Payload,
-    ReceiverSettleMode, SenderSettleMode, SequenceNo, Text, Transfer,
+    ReceiverSettleMode, SenderSettleMode, SequenceNo, SessionStopReason, Source, Symbols, Text,
+    Transfer,
 };
+pub use attach::SenderAttachExchange;
 use std::alloc::{AllocError, Global};
 use std::marker::Model;
-
-/// What a link is made with.
-#[derive(Debug, Drop)]
-pub struct LinkParts {
-    /// The name of the link, the same at both ends.
-    pub name: Text,
-    /// When the sender settles.
-    pub snd_settle_mode: SenderSettleMode,
-    /// When the receiver settles.
-    pub rcv_settle_mode: ReceiverSettleMode,
-    /// The counts, the credit and the flags at first.
-    pub flow_state: LinkFlowStateInner,
-    /// The greatest size of a frame in bytes: its header of four bytes and its body. A peer's limit
-    /// that counts four bytes of size in front as well is handed in less these four.
-    pub max_frame_size: u32,
-}
 
 /// What waits at a sender as a payload is to be sent.
 #[derive(Debug, PartialEq, Eq, Drop)]
 pub enum Waiting {
     /// Nothing that the link has to know of first.
     Nothing,
+    /// A frame that came. While a payload waits for credit only a detach may come.
+    Frame(LinkFrame),
+    /// The session has stopped, for this reason where one is known.
+    Stopped(Option<SessionStopReason>),
 }
 
 /// What a send of a payload answers.
@@ -66,15 +62,20 @@ pub enum Sending {
 
 /// The sender's end of a link.
 ///
-/// A contract sees its state, name, modes, handles, flow state, frame limit and the list of its
-/// unsettled deliveries.
+/// A contract sees its state, name, modes, termini, limits, capabilities, handles, flow state and the
+/// list of its unsettled deliveries.
 #[derive(Drop)]
-pub struct SenderLink {
+pub struct SenderLink<T: LinkTarget> {
     alloc: Global,
     local_state: LinkState,
     name: Text,
     snd_settle_mode: SenderSettleMode,
     rcv_settle_mode: ReceiverSettleMode,
+    source: Option<Source>,
+    target: Option<T>,
+    max_message_size: u64,
+    offered_capabilities: Option<Symbols>,
+    desired_capabilities: Option<Symbols>,
     output_handle: Option<OutputHandle>,
     input_handle: Option<InputHandle>,
     flow_state: LinkFlowState<SenderMarker>,
@@ -82,12 +83,12 @@ pub struct SenderLink {
     unsettled: UnsettledMap<UnsettledMessage>,
 }
 
-impl Model for SenderLink {
+impl<T: LinkTarget> Model for SenderLink<T> {
     ghost use Rattle.std.specs.Coded.{codes};
     ghost use Rattle.amqp_link_types.specs.contracts.types.fields.Fields as fields;
     ghost use Rattle.amqp_link_ends.specs.Senders.{Sender};
 
-    ghost Value = { Sender };
+    ghost Value = { Sender T };
 
     ghost coded = { Prim.hlevel (codes, fields.the_row.coded) };
 
@@ -96,6 +97,11 @@ impl Model for SenderLink {
       name = link.name;
       snd_settle_mode = link.snd_settle_mode;
       rcv_settle_mode = link.rcv_settle_mode;
+      source = link.source;
+      target = link.target;
+      max_message_size = link.max_message_size;
+      offered_capabilities = link.offered_capabilities;
+      desired_capabilities = link.desired_capabilities;
       output_handle = link.output_handle;
       input_handle = link.input_handle;
       flow_state = link.flow_state;
@@ -104,19 +110,25 @@ impl Model for SenderLink {
     } };
 }
 
-impl SenderLink {
+impl<T: LinkTarget> SenderLink<T> {
     ghost use Rattle.amqp_link_ends.specs.Senders.{Sends, SendsTransfer, IsSent, Answers, AnswersSend};
     ghost use Rattle.amqp_link_ends.specs.Senders.{delivery_of, new_transfer, settled_on_send, IsFewest};
+    ghost use Rattle.amqp_link_ends.specs.Waits.{waiting_error, after_waiting};
     ghost use Rattle.amqp_link_ends.specs.Senders.{transfer_tests, registering_tests, tagged_transfer_tests, payload_tests};
     ghost use Rattle.amqp_link_types.specs.declared.state.LinkState.TheVariants.{Unattached, Attached};
 
     /// A link that is not attached, without handles and unsettled deliveries. Takes no memory.
-    pub fn new(alloc: Global, parts: LinkParts) -> SenderLink
+    pub fn new(alloc: Global, parts: LinkParts<T>) -> SenderLink<T>
         ensures { result ≡ record {
           local_state = Unattached;
           name = parts.name;
           snd_settle_mode = parts.snd_settle_mode;
           rcv_settle_mode = parts.rcv_settle_mode;
+          source = parts.source;
+          target = parts.target;
+          max_message_size = parts.max_message_size;
+          offered_capabilities = parts.offered_capabilities;
+          desired_capabilities = parts.desired_capabilities;
           output_handle = None;
           input_handle = None;
           flow_state = parts.flow_state;
@@ -130,6 +142,11 @@ impl SenderLink {
             name: parts.name,
             snd_settle_mode: parts.snd_settle_mode,
             rcv_settle_mode: parts.rcv_settle_mode,
+            source: parts.source,
+            target: parts.target,
+            max_message_size: parts.max_message_size,
+            offered_capabilities: parts.offered_capabilities,
+            desired_capabilities: parts.desired_capabilities,
             output_handle: None,
             input_handle: None,
             flow_state: LinkFlowState::sender(parts.flow_state),
@@ -139,7 +156,7 @@ impl SenderLink {
     }
 
     /// The link with this output handle.
-    pub fn with_output_handle(mut self, handle: OutputHandle) -> SenderLink
+    pub fn with_output_handle(mut self, handle: OutputHandle) -> SenderLink<T>
         ensures { result ≡ record self { output_handle = Some handle } }
     {
         self.output_handle = Some(handle);
@@ -175,27 +192,6 @@ impl SenderLink {
         } }
     {
         self.flow_state.set_link_credit(credit);
-    }
-
-    /// Where the link stands between attach and detach.
-    pub fn local_state(&self) -> LinkState
-        ensures { result ≡ self.now.local_state }
-    {
-        self.local_state
-    }
-
-    /// The counts, the credit and the flags.
-    pub fn flow_state(&self) -> &LinkFlowState<SenderMarker>
-        ensures { result.now ≡ self.now.flow_state }
-    {
-        &self.flow_state
-    }
-
-    /// The deliveries that are not settled, by tag.
-    pub fn unsettled(&self) -> &UnsettledMap<UnsettledMessage>
-        ensures { result.now ≡ self.now.unsettled }
-    {
-        &self.unsettled
     }
 
     /// Whether a transfer goes out settled, which leaves no outcome to wait for: by its own flag, or
@@ -252,7 +248,13 @@ impl SenderLink {
     /// `generate_non_resuming_transfer_performative` says; an unsettled one is kept with its whole
     /// payload until it is settled. The payload is cut without copying its bytes.
     ///
-    /// In this order: `IllegalState` without output handle, then without input handle; the answer
+    /// What waits comes first. A detach is recorded as by `apply_remote_detach_outcome`, which moves
+    /// the state and releases the output handle, and answered `RemoteDetached`, `RemoteClosed` or with
+    /// that call's error (`IllegalState` where the state has no row for it, with nothing changed).
+    /// Another frame, or a stop without a reason, is `ExpectImmediateDetach`; a stop with one is
+    /// `SessionStopped`.
+    ///
+    /// Then, in this order: `IllegalState` without output handle, then without input handle; the answer
     /// `CreditMissing`; `TagPending` for an unsettled delivery; `NoRoom`; want of memory. Nothing has
     /// changed then.
     pub fn send_payload(
@@ -268,11 +270,35 @@ impl SenderLink {
             (delivery_of message_format settled state batchable) payload.now sending self.new) }
         ensures fewest { IfOk result (λ sending. IsFewest self.old
             (delivery_of message_format settled state batchable) payload.now sending) }
+        ensures refused { MatchOption (waiting_error self.old.local_state waiting)
+            (AnswersSend result (payload_tests self.old
+            (delivery_of message_format settled state batchable) payload.now))
+            (λ error. result ≡ Err error) }
+        ensures left { OnErr result (self.new ≡ after_waiting self.old waiting) }
+    {
+        if let Some(error) = self.take_waiting(waiting) {
+            return Err(error);
+        }
+        self.send_new(payload, message_format, settled, state, batchable)
+    }
+
+    // The same with nothing waiting.
+    fn send_new(
+        &mut self,
+        payload: &Payload,
+        message_format: MessageFormat,
+        settled: Option<bool>,
+        state: Option<DeliveryState>,
+        batchable: bool,
+    ) -> Result<Sending, LinkStateError>
+        ensures sent { IfOk result (λ sending. Sends self.old
+            (delivery_of message_format settled state batchable) payload.now sending self.new) }
+        ensures fewest { IfOk result (λ sending. IsFewest self.old
+            (delivery_of message_format settled state batchable) payload.now sending) }
         ensures refused { AnswersSend result (payload_tests self.old
             (delivery_of message_format settled state batchable) payload.now) }
         ensures left { OnErr result (self.new ≡ self.old) }
     {
-        let Waiting::Nothing = waiting;
         if self.output_handle.is_none() || self.input_handle.is_none() {
             return Err(LinkStateError::IllegalState);
         }

@@ -8,5 +8,6 @@ pub mod ScanLemmas
 pub mod SizeLemmas
 pub mod Sizes
 pub mod StartsLemmas
+pub mod StatesLemmas
 pub mod TailLemmas
 pub mod Worked

@@ -14,4 +14,5 @@ pub mod SameLaws
 pub mod Scan
 pub mod Size
 pub mod Tail
+pub mod Unsettled
 pub mod View

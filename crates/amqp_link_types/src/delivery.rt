@@ -1,7 +1,13 @@
 //! What a sender keeps of a delivery, and what it answers for one (2.6.12).
 ghost use Rattle.std.specs.Prelude.{◌≡◌};
 
-use crate::types::{DeliveryState, DeliveryTag, MessageFormat, Payload};
+use crate::types::{DeliveryState, DeliveryTag, LinkStateError, MessageFormat, Payload};
+
+/// What became of a delivery: its state at the other end, if one was told, or why none will be.
+pub type DeliveryOutcome = Result<Option<DeliveryState>, LinkStateError>;
+
+/// The deliveries that a call ended, and what became of each, in order.
+pub type Outcomes = Vec<(DeliveryTag, DeliveryOutcome)>;
 
 /// A delivery that was sent and is not settled (2.6.12).
 #[derive(Debug, PartialEq, Eq, Drop)]

@@ -3,13 +3,17 @@
 //! Only the receiver grants credit; a sender spends it, one for each delivery. Counts are serial
 //! numbers that wrap, so no line here compares two of them by `<`.
 ghost use Rattle.std.specs.Prelude.{◌≡◌, ◌↔◌, ◌<◌, IfOk, IsErr, OnErr, OnOk};
+ghost use Rattle.std.specs.Borrow.{Lends, sem};
 ghost use Rattle.std.specs.Int.{w32, to_be_bytes};
+ghost use Rattle.std.specs.contracts.option.Option.{the_row as option_row};
+ghost use Rattle.amqp_link_types.specs.contracts.state.LinkFlowState.{the_row as flow_row};
+ghost use Rattle.amqp_link_types.specs.contracts.types.fields.Fields.{the_row as fields_row};
 ghost use Rattle.amqp_link_types.specs.Counts.{after_consuming, limit_of};
 
 #[cfg(test)]
 mod tests;
 
-use crate::role::SenderMarker;
+use crate::role::{ReceiverMarker, SenderMarker};
 use crate::types::{Fields, SequenceNo};
 use std::marker::{Model, PhantomData};
 use thiserror::Error;
@@ -18,6 +22,29 @@ use thiserror::Error;
 pub const DEFAULT_CREDIT: u32 = 200;
 
 /// Where a link endpoint stands between attach and detach (2.6.3 to 2.6.6).
+///
+/// An end moves as it sends an attach or one comes, and as it sends a detach or one comes:
+///
+/// ```text
+///                         attach sent                      attach comes
+///     Unattached ------------------------> AttachSent ---------------------> Attached
+///     Unattached ------------------------> AttachReceived                    ^
+///                         attach comes         |           attach sent       |
+///                                              +-----------------------------+
+///
+///                         detach sent                      detach comes
+///     Attached --------------------------> DetachSent ---------------------> Detached
+///     Attached --------------------------> CloseSent ----------------------> Closed
+///                        closing one sent                 closing one comes
+///
+///     Detached: as Unattached.       DetachSent: an attach may be sent as from Unattached.
+///     Any state but Unattached, Detached and Closed, as the other end detaches of itself:
+///     ---> Detached, or Closed where that detach closes.
+/// ```
+///
+/// An attach whose unsettled map is incomplete leads to the state of the same name with
+/// `Incomplete` in front, and from there the exchange ends in `IncompleteAttachExchanged`; so does
+/// it where the second attach is incomplete.
 #[derive(Clone, Copy, Debug, Default, PartialEq, Eq)]
 pub enum LinkState {
     /// Neither end has sent an attach.
@@ -122,6 +149,47 @@ impl<R> LinkFlowState<R> {
         ensures { result.now ≡ self.now.properties }
     {
         &self.inner.properties
+    }
+
+    /// Further properties of the link, to be written. Takes no memory.
+    pub fn properties_mut(&mut self) -> &mut Option<Fields>
+        ensures value { result.now ≡ self.old.properties }
+        ensures* lends { sem 𝓛 (Lends (flow_row R.row) (option_row fields_row) self.entry result
+            (λ properties. record self.old { properties = properties })) }
+    {
+        &mut self.inner.properties
+    }
+
+    /// Makes the initial count what `f` gives for it. Takes no memory.
+    pub fn initial_delivery_count_mut<F: FnOnce(SequenceNo) -> SequenceNo>(&mut self, f: F)
+        requires { F.pre f self.old.initial_delivery_count }
+        ensures count { F.post f self.old.initial_delivery_count self.new.initial_delivery_count }
+        ensures others { self.new ≡ record self.old { initial_delivery_count = self.new.initial_delivery_count } }
+    {
+        let flow = &mut self.inner;
+        flow.initial_delivery_count = f(flow.initial_delivery_count);
+    }
+
+    /// Makes the count what `f` gives for it. Takes no memory.
+    pub fn delivery_count_mut<F: FnOnce(SequenceNo) -> SequenceNo>(&mut self, f: F)
+        requires { F.pre f self.old.delivery_count }
+        ensures count { F.post f self.old.delivery_count self.new.delivery_count }
+        ensures others { self.new ≡ record self.old { delivery_count = self.new.delivery_count } }
+    {
+        let flow = &mut self.inner;
+        flow.delivery_count = f(flow.delivery_count);
+    }
+}
+
+impl LinkFlowState<ReceiverMarker> {
+    /// A receiver's flow state. Takes no memory.
+    pub fn receiver(inner: LinkFlowStateInner) -> Self
+        ensures { result ≡ inner }
+    {
+        LinkFlowState {
+            inner,
+            role: PhantomData,
+        }
     }
 }
 

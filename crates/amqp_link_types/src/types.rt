@@ -29,7 +29,10 @@ pub use definitions::{
 };
 pub use delivery_state::{DeliveryState, Outcome};
 pub use delivery_tag::DeliveryTag;
-pub use errors::{LinkStateError, ReceiverTransferError};
+pub use errors::{
+    ApplyRemoteDetachError, DetachError, LinkStateError, ReceiverAttachError,
+    ReceiverTransferError, SenderAttachError,
+};
 pub use fields::{Fields, FilterSet};
 pub use performatives::{Detach, Disposition, LinkFlow};
 pub use stop_reason::{ConnectionStopReason, SessionStopReason};

@@ -7,12 +7,15 @@ ghost use Rattle.amqp_link_ends.specs.Senders.{IsSent, next_tag as tag_of_next};
 ghost use Rattle.amqp_link_ends.specs.Split.{Least};
 ghost use Rattle.amqp_link.specs.Steps.{after_sending, delivery_transfer, new_sender as first_sender};
 
-use amqp_link_ends::sender_link::{LinkParts, SenderLink, Sending, Waiting};
+use amqp_link_core::endpoint::LinkExt;
+use amqp_link_ends::link_parts::LinkParts;
+use amqp_link_ends::sender_link::{SenderLink, Sending, Waiting};
 use amqp_link_types::delivery::Settlement;
 use amqp_link_types::frame::LinkFrame;
 use amqp_link_types::state::LinkFlowStateInner;
 use amqp_link_types::types::{
-    DeliveryTag, LinkStateError, Payload, ReceiverSettleMode, SenderSettleMode, SequenceNo, Text,
+    DeliveryTag, LinkStateError, Payload, ReceiverSettleMode, SenderSettleMode, SequenceNo, Source,
+    Target, Text,
 };
 use std::alloc::{AllocError, Global};
 
@@ -20,7 +23,7 @@ use std::alloc::{AllocError, Global};
 pub(crate) fn new_sender(
     alloc: Global,
     initial_delivery_count: SequenceNo,
-) -> Result<SenderLink, AllocError>
+) -> Result<SenderLink<Target>, AllocError>
     ensures { IfOk result (λ sender. sender ≡ first_sender initial_delivery_count) }
 {
     let name = Text::from(String::from_str(alloc, "l")?);
@@ -30,6 +33,11 @@ pub(crate) fn new_sender(
             name,
             snd_settle_mode: SenderSettleMode::Mixed,
             rcv_settle_mode: ReceiverSettleMode::First,
+            source: Some(Source::default()),
+            target: Some(Target::default()),
+            max_message_size: 0,
+            offered_capabilities: None,
+            desired_capabilities: None,
             flow_state: LinkFlowStateInner {
                 initial_delivery_count,
                 delivery_count: initial_delivery_count,
@@ -39,12 +47,17 @@ pub(crate) fn new_sender(
                 properties: None,
             },
             max_frame_size: 0,
+            verify_incoming_source: false,
+            verify_incoming_target: false,
         },
     ))
 }
 
 // The tag of the sender's next delivery.
-pub(crate) fn next_tag(alloc: Global, sender: &SenderLink) -> Result<DeliveryTag, AllocError>
+pub(crate) fn next_tag(
+    alloc: Global,
+    sender: &SenderLink<Target>,
+) -> Result<DeliveryTag, AllocError>
     ensures { IfOk result (λ tag. tag ≡ tag_of_next sender.now) }
 {
     let count = sender.flow_state().delivery_count();
@@ -61,7 +74,7 @@ fn link_wants_memory(error: LinkStateError) -> AllocError
 
 // Sends a payload as an unsettled delivery; answers its tag and its frames.
 pub(crate) fn send_unsettled(
-    sender: &mut SenderLink,
+    sender: &mut SenderLink<Target>,
     payload: &Payload,
 ) -> Result<(DeliveryTag, Vec<LinkFrame>), AllocError>
     requires { CanSend sender.old }

@@ -1,6 +1,8 @@
 //! Why a call of a link is refused.
 ghost use Rattle.std.specs.Prelude.{◌≡◌};
 
+use crate::types::definitions::Error as RemoteError;
+use crate::types::stop_reason::SessionStopReason;
 use std::alloc::{AllocError, AllocFailed};
 use thiserror::Error;
 
@@ -11,6 +13,25 @@ pub enum LinkStateError {
     /// The link is not in a state for this call: a handle is missing, or a tag.
     #[error("the link is not in a state for this call")]
     IllegalState,
+    /// The other end has detached the link. It may be attached again.
+    #[error("the other end has detached the link")]
+    RemoteDetached,
+    /// The other end has detached the link with this error. It may be attached again.
+    #[error("the other end has detached the link with an error")]
+    RemoteDetachedWithError(RemoteError),
+    /// The other end has closed the link.
+    #[error("the other end has closed the link")]
+    RemoteClosed,
+    /// The other end has closed the link with this error.
+    #[error("the other end has closed the link with an error")]
+    RemoteClosedWithError(RemoteError),
+    /// A frame waits that is no detach, where only a detach may come; or the session has stopped and
+    /// nothing says why.
+    #[error("only a detach may come here")]
+    ExpectImmediateDetach,
+    /// The session has stopped for this reason.
+    #[error("the session has stopped")]
+    SessionStopped(SessionStopReason),
     /// The delivery's tag is that of one that is still pending. Try again once that is settled.
     #[error("a delivery of this tag is pending")]
     TagPending,
@@ -40,6 +61,100 @@ impl<T: Drop> From<AllocFailed<T>> for LinkStateError {
 
     fn from(_error: AllocFailed<T>) -> LinkStateError {
         LinkStateError::OutOfMemory
+    }
+}
+
+/// Why a detach was refused, or what one that came in answer to an own one says.
+#[derive(Debug, PartialEq, Eq, Drop, Error)]
+pub enum DetachError {
+    /// The link is not in a state for this call, or has no output handle to be named.
+    #[error("the link is not in a state for this call")]
+    IllegalState,
+    /// The other end has detached the link with this error.
+    #[error("the other end has detached the link with an error")]
+    RemoteDetachedWithError(RemoteError),
+    /// The other end has closed the link with this error.
+    #[error("the other end has closed the link with an error")]
+    RemoteClosedWithError(RemoteError),
+}
+
+/// Why a detach that the other end sent of itself was not recorded, or what one that was says.
+#[derive(Debug, PartialEq, Eq, Drop, Error)]
+pub enum ApplyRemoteDetachError {
+    /// The link is not attached in any way, so nothing was recorded.
+    #[error("the link is not in a state for this call")]
+    IllegalState,
+    /// The other end has detached the link with this error, which is recorded.
+    #[error("the other end has detached the link with an error")]
+    RemoteDetachedWithError(RemoteError),
+    /// The other end has closed the link with this error, which is recorded.
+    #[error("the other end has closed the link with an error")]
+    RemoteClosedWithError(RemoteError),
+}
+
+/// Why an attach of a sender's end was refused, the one that it sends or the one that comes.
+#[derive(Clone, Copy, Debug, PartialEq, Eq, Error)]
+pub enum SenderAttachError {
+    /// The link is not in a state for this call, or has no output handle to be named.
+    #[error("the link is not in a state for this call")]
+    IllegalState,
+    /// The target is of a kind that the link does not take.
+    #[error("the target is of a kind that the link does not take")]
+    CoordinatorIsNotImplemented,
+    /// The other end has no target, which refuses the link (2.6.3).
+    #[error("the other end has no target")]
+    IncomingTargetIsNone,
+    /// One end settles what the other leaves unsettled.
+    #[error("the two ends do not agree on when the sender settles")]
+    SndSettleModeNotSupported,
+    /// The attach is larger than a frame, also with no delivery named.
+    #[error("the attach is larger than a frame")]
+    AttachTooLarge,
+    /// There was no memory.
+    #[error("out of memory")]
+    OutOfMemory,
+}
+
+impl From<AllocError> for SenderAttachError {
+    ghost use Rattle.amqp_link_types.specs.declared.types.errors.SenderAttachError.TheVariants.{OutOfMemory};
+
+    ghost from_gives = { λ _ error. error ≡ OutOfMemory };
+
+    fn from(_error: AllocError) -> SenderAttachError {
+        SenderAttachError::OutOfMemory
+    }
+}
+
+/// Why an attach of a receiver's end was refused, the one that it sends or the one that comes.
+#[derive(Clone, Copy, Debug, PartialEq, Eq, Error)]
+pub enum ReceiverAttachError {
+    /// The link is not in a state for this call, or has no output handle to be named.
+    #[error("the link is not in a state for this call")]
+    IllegalState,
+    /// The other end has no source, which refuses the link (2.6.3).
+    #[error("the other end has no source")]
+    IncomingSourceIsNone,
+    /// The sender does not say at which count it begins (2.7.3).
+    #[error("the sender does not say at which count it begins")]
+    InitialDeliveryCountIsNone,
+    /// The target is of a kind that the link does not take.
+    #[error("the target is of a kind that the link does not take")]
+    CoordinatorIsNotImplemented,
+    /// The attach is larger than a frame, also with no delivery named.
+    #[error("the attach is larger than a frame")]
+    AttachTooLarge,
+    /// There was no memory.
+    #[error("out of memory")]
+    OutOfMemory,
+}
+
+impl From<AllocError> for ReceiverAttachError {
+    ghost use Rattle.amqp_link_types.specs.declared.types.errors.ReceiverAttachError.TheVariants.{OutOfMemory};
+
+    ghost from_gives = { λ _ error. error ≡ OutOfMemory };
+
+    fn from(_error: AllocError) -> ReceiverAttachError {
+        ReceiverAttachError::OutOfMemory
     }
 }
 

@@ -4,7 +4,7 @@ ghost use Rattle.std.specs.Prelude.{IsTrue, OnOk, OnErr, IfOk, IfErr};
 ghost use Rattle.std.specs.Cmp.{partial_equiv_from_equiv};
 ghost use Rattle.std.specs.Map.{lookup};
 ghost use Rattle.std.specs.Str.{bytes_eq};
-ghost use Rattle.indexmap.specs.IndexMap.{insert_entry};
+ghost use Rattle.indexmap.specs.IndexMap.{insert_entry, insert_all};
 ghost use Rattle.amqp_link_types.specs.Same.{same_entries};
 ghost use Rattle.amqp_link_types.specs.View.{view, view_entry};
 ghost use Rattle.amqp_link_types.specs.SameLaws.{entries_equiv};
@@ -78,6 +78,18 @@ impl Fields {
         ensures back { IfErr result (λ failed. failed.value ≡ (name, value)) }
     {
         self.entries.insert(name, value)
+    }
+
+    /// These fields with those of `other` put one by one. Both stay as they are.
+    pub fn merged(&self, other: &Fields) -> Result<Fields, AllocError>
+        ensures { IfOk result (λ both. both ≡ insert_all bytes_eq self.now other.now) }
+    {
+        let mut both = self.clone()?;
+        for (name, value) in other.entries.iter() {
+            let name = name.clone()?;
+            both.insert(name, value.clone()?)?;
+        }
+        Ok(both)
     }
 
     // The pairs in order.

@@ -11,7 +11,9 @@ ghost use Rattle.std.specs.Option.{option_map, option_copied};
 ghost use Rattle.std.specs.Str.{bytes_eq};
 ghost use Rattle.amqp_link_types.specs.Found.{FoundAt, IsMissing};
 ghost use Rattle.amqp_link_types.specs.Entries.{entry_at, with_entry, without_entry, IsMap};
+ghost use Rattle.amqp_link_types.specs.Unsettled.{states_of};
 
+use crate::delivery::UnsettledMessage;
 use crate::types::delivery_state::DeliveryState;
 use crate::types::delivery_tag::DeliveryTag;
 use std::alloc::{AllocError, AllocFailed, Global};
@@ -77,11 +79,28 @@ impl<V> UnsettledMap<V> {
         Some((&pair.0, &pair.1))
     }
 
-    // The pairs in order.
-    pub(crate) fn pairs(&self) -> &[(DeliveryTag, V)]
+    /// The pairs in order.
+    pub fn pairs(&self) -> &[(DeliveryTag, V)]
         ensures { result.now ≡ self.now }
     {
         self.pairs.as_slice()
+    }
+
+    /// The pairs in order, given up. Takes no memory.
+    pub fn into_pairs(self) -> Vec<(DeliveryTag, V)>
+        ensures { result.items ≡ self }
+    {
+        self.pairs
+    }
+
+    /// Takes all deliveries out. Takes no memory.
+    pub fn take_all(&mut self, alloc: Global) -> Self
+        ensures taken { result ≡ self.old }
+        ensures empty { self.new ≡ [] }
+    {
+        UnsettledMap {
+            pairs: mem::replace(&mut self.pairs, Vec::new(alloc)),
+        }
     }
 
     /// Puts a delivery: in the place of the one that is there, which is answered, or last.
@@ -144,6 +163,32 @@ impl<V> UnsettledMap<V> {
     {
         self.pairs.truncate(count);
     }
+}
+
+impl UnsettledMap<UnsettledMessage> {
+    /// Of each delivery its tag and the state that is known of it, as an attach says it (2.7.3).
+    pub fn states(&self, alloc: Global) -> Result<UnsettledMap<Option<DeliveryState>>, AllocError>
+        ensures { IfOk result (λ states. states ≡ states_of self.now) }
+    {
+        Ok(UnsettledMap {
+            pairs: states_in(alloc, self.pairs.as_slice())?,
+        })
+    }
+}
+
+// The tags and the states of pairs, in order.
+fn states_in(
+    alloc: Global,
+    pairs: &[(DeliveryTag, UnsettledMessage)],
+) -> Result<Vec<(DeliveryTag, Option<DeliveryState>)>, AllocError>
+    ensures { IfOk result (λ states. states.items ≡ states_of pairs.now) }
+{
+    let mut states = Vec::with_capacity(alloc, pairs.len())?;
+    for (tag, message) in pairs {
+        let tag = tag.clone()?;
+        states.push((tag, message.state.clone()?))?;
+    }
+    Ok(states)
 }
 
 // What an attach says of its deliveries is copied whole (2.7.3).

@@ -1,0 +1,42 @@
+//! The detach that an end sends, and what the ones that come say (2.7.7). Nothing here takes memory.
+ghost use Rattle.std.specs.Prelude.{◌≡◌};
+ghost use Rattle.amqp_link_core.specs.Detaching.{recorded, reply_error, remote_error};
+ghost use Rattle.amqp_link_core.specs.Detaching.{detach_frame as frame_of_detach};
+
+use amqp_link_types::frame::LinkFrame;
+use amqp_link_types::types::{ApplyRemoteDetachError, Detach, DetachError, Error, OutputHandle};
+
+/// The detach that is sent at an output handle.
+pub fn detach_frame(handle: OutputHandle, closed: bool, error: Option<Error>) -> LinkFrame
+    ensures { result ≡ frame_of_detach handle closed error }
+{
+    LinkFrame::Detach(Detach {
+        handle: handle.into(),
+        closed,
+        error,
+    })
+}
+
+/// What a detach says that came in answer to an own one.
+pub fn reply_of(detach: Detach) -> Result<(), DetachError>
+    ensures { result ≡ recorded reply_error detach.closed detach.error }
+{
+    match detach.error {
+        None => Ok(()),
+        Some(error) if detach.closed => Err(DetachError::RemoteClosedWithError(error)),
+        Some(error) => Err(DetachError::RemoteDetachedWithError(error)),
+    }
+}
+
+/// What a detach says that the other end sent of itself.
+pub fn outcome_of(detach: Detach) -> Result<(), ApplyRemoteDetachError>
+    ensures { result ≡ recorded remote_error detach.closed detach.error }
+{
+    match detach.error {
+        None => Ok(()),
+        Some(error) if detach.closed => {
+            Err(ApplyRemoteDetachError::RemoteClosedWithError(error))
+        }
+        Some(error) => Err(ApplyRemoteDetachError::RemoteDetachedWithError(error)),
+    }
+}

@@ -1,0 +1,81 @@
+//! The state after each call that attaches or detaches a link, by the table of link states (2.6.3 to
+//! 2.6.6). A call in a state without a row moves nothing. Nothing here takes memory.
+ghost use Rattle.std.specs.Prelude.{◌≡◌, MatchOption, false, true, None, Some};
+ghost use Rattle.amqp_link_core.specs.LinkStates.{Call, next_state};
+
+use amqp_link_types::state::LinkState;
+
+/// The states after an attach was sent: after a complete one, and after one whose unsettled map is
+/// incomplete.
+pub fn after_sent_attach(state: LinkState) -> Option<(LinkState, LinkState)>
+    ensures complete { MatchOption result
+        (next_state Call.SendAttach false state ≡ None)
+        (λ next. next_state Call.SendAttach false state ≡ Some next.0) }
+    ensures incomplete { MatchOption result
+        (next_state Call.SendAttach true state ≡ None)
+        (λ next. next_state Call.SendAttach true state ≡ Some next.1) }
+{
+    match state {
+        LinkState::Unattached | LinkState::Detached | LinkState::DetachSent => {
+            Some((LinkState::AttachSent, LinkState::IncompleteAttachSent))
+        }
+        LinkState::AttachReceived => {
+            Some((LinkState::Attached, LinkState::IncompleteAttachExchanged))
+        }
+        LinkState::IncompleteAttachReceived => Some((
+            LinkState::IncompleteAttachExchanged,
+            LinkState::IncompleteAttachExchanged,
+        )),
+        _ => None,
+    }
+}
+
+/// The state after an attach came.
+pub fn after_incoming_attach(state: LinkState, incomplete: bool) -> Option<LinkState>
+    ensures { result ≡ next_state Call.IncomingAttach incomplete state }
+{
+    match (state, incomplete) {
+        (LinkState::AttachSent, false) => Some(LinkState::Attached),
+        (LinkState::AttachSent, true) | (LinkState::IncompleteAttachSent, _) => {
+            Some(LinkState::IncompleteAttachExchanged)
+        }
+        (LinkState::Unattached | LinkState::Detached, false) => Some(LinkState::AttachReceived),
+        (LinkState::Unattached | LinkState::Detached, true) => {
+            Some(LinkState::IncompleteAttachReceived)
+        }
+        _ => None,
+    }
+}
+
+/// The state after a detach was sent.
+pub fn after_sent_detach(state: LinkState, closed: bool) -> Option<LinkState>
+    ensures { result ≡ next_state Call.SendDetach closed state }
+{
+    match (state, closed) {
+        (LinkState::Attached, false) => Some(LinkState::DetachSent),
+        (LinkState::Attached, true) => Some(LinkState::CloseSent),
+        _ => None,
+    }
+}
+
+/// The state after a detach came in answer to an own one.
+pub fn after_detach_reply(state: LinkState, closed: bool) -> Option<LinkState>
+    ensures { result ≡ next_state Call.DetachReply closed state }
+{
+    match (state, closed) {
+        (LinkState::DetachSent, false) => Some(LinkState::Detached),
+        (LinkState::CloseSent, true) => Some(LinkState::Closed),
+        _ => None,
+    }
+}
+
+/// The state after the other end has detached the link of itself.
+pub fn after_remote_detach(state: LinkState, closed: bool) -> Option<LinkState>
+    ensures { result ≡ next_state Call.RemoteDetach closed state }
+{
+    match state {
+        LinkState::Unattached | LinkState::Detached | LinkState::Closed => None,
+        _ if closed => Some(LinkState::Closed),
+        _ => Some(LinkState::Detached),
+    }
+}

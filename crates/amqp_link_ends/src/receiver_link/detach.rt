@@ -1,0 +1,80 @@
+//! A receiver's end is detached (2.6.5, 2.6.6).
+ghost use Rattle.std.specs.Prelude.{◌≡◌, None};
+
+use crate::receiver_link::ReceiverLink;
+use amqp_link_core::endpoint::LinkDetach;
+use amqp_link_core::endpoint::detached::{detach_frame, outcome_of, reply_of};
+use amqp_link_core::endpoint::table::{after_detach_reply, after_remote_detach, after_sent_detach};
+use amqp_link_core::endpoint::target::LinkTarget;
+use amqp_link_types::frame::LinkFrame;
+use amqp_link_types::state::LinkState;
+use amqp_link_types::types::{ApplyRemoteDetachError, Detach, DetachError, Error};
+
+impl<T: LinkTarget> ReceiverLink<T> {
+    // The link is in another state, and its output handle is free again.
+    fn let_go(&mut self, next: LinkState)
+        ensures { self.new ≡ record self.old { local_state = next; output_handle = None } }
+    {
+        self.local_state = next;
+        self.output_handle = None;
+    }
+}
+
+impl<T: LinkTarget> LinkDetach for ReceiverLink<T> {
+    ghost use Rattle.std.specs.Prelude.{refl};
+    ghost use Rattle.amqp_link_types.specs.declared.types.errors.DetachError.TheVariants.{IllegalState};
+    ghost use Rattle.amqp_link_core.specs.Detaching.{reply_error};
+
+    type DetachError = DetachError;
+
+    ghost state = { λ link. link.local_state };
+
+    ghost handle = { λ link. link.output_handle };
+
+    ghost moved = { λ link s h. record link { local_state = s; output_handle = h } };
+
+    ghost illegal_state = { IllegalState };
+
+    ghost replied = { reply_error };
+
+    ghost state_moved = { λ link s h. refl };
+
+    ghost handle_moved = { λ link s h. refl };
+
+    ghost moved_twice = { λ link s t h k. refl };
+
+    fn on_detach_reply(&mut self, detach: Detach) -> Result<(), DetachError> {
+        let Some(next) = after_detach_reply(self.local_state, detach.closed) else {
+            return Err(DetachError::IllegalState);
+        };
+        self.let_go(next);
+        reply_of(detach)
+    }
+
+    fn send_detach(
+        &mut self,
+        closed: bool,
+        error: Option<Error>,
+    ) -> Result<LinkFrame, DetachError> {
+        let Some(next) = after_sent_detach(self.local_state, closed) else {
+            return Err(DetachError::IllegalState);
+        };
+        let handle = self.output_handle;
+        self.let_go(next);
+        let Some(handle) = handle else {
+            return Err(DetachError::IllegalState);
+        };
+        Ok(detach_frame(handle, closed, error))
+    }
+
+    fn apply_remote_detach_outcome(
+        &mut self,
+        detach: Detach,
+    ) -> Result<(), ApplyRemoteDetachError> {
+        let Some(next) = after_remote_detach(self.local_state, detach.closed) else {
+            return Err(ApplyRemoteDetachError::IllegalState);
+        };
+        self.let_go(next);
+        outcome_of(detach)
+    }
+}
