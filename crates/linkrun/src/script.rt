@@ -31,7 +31,9 @@ pub fn run_script<R: BufRead, O: Write, F: Write>(
     let Ok(mut pair) = Pair::new(alloc, 0) else {
         return 1;
     };
-    run_to_end(alloc, &mut pair, input, output, faults).unwrap_or(1)
+    let status = run_to_end(alloc, &mut pair, input, output, faults).unwrap_or(1);
+    drop(pair);
+    status
 }
 
 // Runs the script and tells how it ended. The error is a failed write.
