@@ -12,9 +12,9 @@ use Rattle.amqp_link_types.specs.Frames.{payload_of, performative_of, AreFramesO
 use Rattle.amqp_link_core.specs.Held.{Held, bytes_of}
 use Rattle.amqp_link_core.specs.IncompleteRefusals.{is_too_long}
 use Rattle.amqp_link.specs.Invariants.{IsUnderWay, IsKept, OpensOnce, AreContinuations, IsContinuation, IsOpening}
-use Rattle.amqp_link_types.specs.Position.{position, starts, is_header_at}
+use Rattle.amqp_link_payloads.specs.Position.{position, starts, is_header_at}
 use Rattle.amqp_link.specs.Receiving.{CanReceive}
-use Rattle.amqp_link_ends.specs.Senders.{Sender, IsSent}
+use Rattle.amqp_link_sender.specs.Senders.{Sender, IsSent}
 use Rattle.amqp_link_types.specs.declared.types.terminus.Target.{Target}
 use Rattle.amqp_link.specs.Steps.{received, held_after, begun, delivery_transfer}
 use Rattle.amqp_link.specs.Worlds.{bytes_in, joined, EndsInTime, IsGood}

@@ -1,3 +1,5 @@
+mod AttachLemmas
+mod AttachWorlds
 pub mod DeliveryLemmas
 pub mod ProgressLemmas
 pub mod RunLemmas

@@ -5,7 +5,7 @@ use Rattle.std.proofs.lemmas.List.{append-nil}
 use Rattle.amqp_link_types.specs.Entries.{Tag, entry_at}
 use Rattle.amqp_link_types.specs.Frames.{payload_of}
 use Rattle.amqp_link.specs.Runs.{Follows}
-use Rattle.amqp_link_ends.specs.Senders.{next_tag, new_entry}
+use Rattle.amqp_link_sender.specs.Senders.{next_tag, new_entry}
 use Rattle.amqp_link.specs.Steps.{Sends, Arrives, begun, received}
 use Rattle.amqp_link.specs.Worlds.{World, IsFront, bytes_in, held_at}
 use Rattle.amqp_link_types.specs.declared.delivery.UnsettledMessage.{UnsettledMessage}

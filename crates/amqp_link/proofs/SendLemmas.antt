@@ -1,23 +1,23 @@
 -- What a send of a pair's sender comes to.
-use Rattle.std.proofs.Common.{◌≡◌, ◌∙◌, sym, ap, subst, ℕ, ◌+◌, ◌<◌, ◌≤◌, Bool, true, false, cond, ◌&&◌, not, List, [], ◌∷◌, length, refl, Option, Some, None, Result, Ok, Err, Vec, Global, min, nat_le, arith, ◌==◌, inl, inr, ◌⊎◌}
+use Rattle.std.proofs.Common.{◌≡◌, ◌∙◌, sym, ap, subst, ℕ, ◌+◌, ◌<◌, ◌≤◌, Bool, true, false, cond, ◌&&◌, not, List, [], ◌∷◌, length, refl, Option, Some, None, Result, Ok, Err, Vec, Global, min, nat_le, arith, ◌==◌, inl, inr}
 use Rattle.std.specs.Prelude.{is_some, is_none, IsSomeAnd, unwrap_or}
 use Rattle.std.proofs.lemmas.Bool.Decides.{nat_tests}
 use Rattle.amqp_link_types.specs.Entries.{Tag, entry_at, with_entry}
 use Rattle.amqp_link_types.specs.Counts.{after_consuming}
-use Rattle.amqp_link_types.specs.Length.{text_len}
+use Rattle.amqp_link_values.specs.Length.{text_len}
 use Rattle.amqp_link_types.specs.Refusals.{refusal}
-use Rattle.amqp_link_ends.specs.Room.{worst, has_room, payload_limit}
+use Rattle.amqp_link_sender.specs.Room.{worst, has_room, payload_limit}
 use Rattle.amqp_link.specs.Sendable.{CanSend}
-use Rattle.amqp_link_ends.specs.Senders.{Sender, Delivery, Sends, SendsPayload, IsFewest, IsSent, AnswersSend, Stop, missing_credit, payload_tests, next_tag, new_transfer, new_entry, settled_by_mode, settlement_of}
+use Rattle.amqp_link_sender.specs.Senders.{Sender, Delivery, Sends, SendsPayload, IsFewest, IsSent, AnswersSend, Stop, missing_credit, payload_tests, next_tag, new_transfer, new_entry, settled_by_mode, settlement_of}
 use Rattle.amqp_link_types.specs.declared.types.terminus.Target.{Target}
 use Rattle.amqp_link_types.specs.Size.{transfer_len, before, list_of, content}
-use Rattle.amqp_link_ends.specs.Split.{Least}
+use Rattle.amqp_link_sender.specs.Split.{Least}
 use Rattle.amqp_link.specs.Steps.{delivery_transfer, after_sending}
 use Rattle.amqp_link_types.specs.declared.delivery.Settlement.{Settlement}
 use Rattle.amqp_link_types.specs.declared.delivery.Settlement.TheVariants as settlement
 use Rattle.amqp_link_types.specs.declared.frame.LinkFrame.{LinkFrame}
-use Rattle.amqp_link_ends.specs.declared.sender_link.Sending.{Sending}
-use Rattle.amqp_link_ends.specs.declared.sender_link.Sending.TheVariants as sending
+use Rattle.amqp_link_sender.specs.declared.sender_link.Sending.{Sending}
+use Rattle.amqp_link_sender.specs.declared.sender_link.Sending.TheVariants as sending
 use Rattle.amqp_link_types.specs.declared.types.definitions.OutputHandle.{OutputHandle}
 use Rattle.amqp_link_types.specs.declared.types.definitions.SenderSettleMode.TheVariants as mode
 use Rattle.amqp_link_types.specs.declared.types.errors.LinkStateError.{LinkStateError}

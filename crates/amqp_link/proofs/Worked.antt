@@ -1,13 +1,13 @@
 -- Values of the definitions that were worked out by hand: docs/DEFINITIONS.md lists them.
-use Rattle.std.proofs.Common.{◌≡◌, ℕ, List, true, false, [], ◌∷◌, ◌++◌, refl, Some, None}
-use Rattle.amqp_link_types.specs.Frames.{payload_of}
+use Rattle.std.proofs.Common.{◌≡◌, List, true, false, [], ◌∷◌, ◌++◌, refl, Some, None}
 use Rattle.amqp_link_types.specs.Refusals.{refusal}
+use Rattle.amqp_link_types.specs.Size as size
 use Rattle.amqp_link_types.specs.declared.frame.LinkFrame.{LinkFrame}
 use Rattle.amqp_link_types.specs.declared.frame.LinkFrame.TheVariants.{FirstTransfer, TransferContinuation}
 use Rattle.amqp_link.specs.Steps.{new_world, delivery_transfer, begun, received, attach_tests, grant_tests, send_tests, arrive_tests}
 use Rattle.amqp_link.specs.Wires.{OnWire, under}
-use Rattle.amqp_link.specs.Worlds.{World, bytes_in, frames_of, joined}
-use Rattle.amqp_link.specs.declared.pair.error.PairError.TheVariants.{AlreadyAttached, LimitTooSmall, NotAttached, CreditMissing, WireEmpty}
+use Rattle.amqp_link.specs.Worlds.{World, Halfway, Together, bytes_in, frames_of, joined}
+use Rattle.amqp_link.specs.declared.pair.error.PairError.TheVariants.{AlreadyAttached, LimitChanged, LimitTooSmall, NotAttached, CreditMissing, WireEmpty}
 
 -- a first frame of the delivery 07, and a second one
 abbrev first_frame : LinkFrame
@@ -43,13 +43,33 @@ whole_after_two = refl
 -- ---- refusals
 
 abbrev attached : World
-attached = let w = new_world 0 in record w { limit = Some 30 }
+attached = let w = new_world 0 in record w { phase = Together 30 }
 
 limit_of_28 : refusal (attach_tests (new_world 0) 28) ≡ Some LimitTooSmall
 limit_of_28 = refl
 
 limit_of_29 : refusal (attach_tests (new_world 0) 29) ≡ None
+unfolding size.attach_len size.list_of size.before
 limit_of_29 = refl
+
+-- the attach of a count in five bytes takes four bytes more
+limit_of_32 : refusal (attach_tests (new_world 4294967295) 32) ≡ None
+unfolding size.attach_len size.list_of size.before
+limit_of_32 = refl
+
+limit_of_31 : refusal (attach_tests (new_world 4294967295) 31) ≡ Some LimitTooSmall
+unfolding size.attach_len size.list_of size.before
+limit_of_31 = refl
+
+abbrev begun_at_30 : World
+begun_at_30 = let w = new_world 0 in record w { phase = Halfway 30 }
+
+begun_at_another : refusal (attach_tests begun_at_30 31) ≡ Some LimitChanged
+begun_at_another = refl
+
+goes_on : refusal (attach_tests begun_at_30 30) ≡ None
+unfolding size.attach_len size.list_of size.before
+goes_on = refl
 
 attached_comes_first : refusal (attach_tests attached 28) ≡ Some AlreadyAttached
 attached_comes_first = refl

@@ -1,18 +1,18 @@
 -- Each call keeps what a pair keeps.
-use Rattle.std.proofs.Common.{◌≡◌, ◌≢◌, ◌∙◌, sym, ap, subst, Bool, true, false, cond, List, [], ◌∷◌, ◌++◌, refl, ℕ, ◌<◌, ◌^◌, map, length, drop, not}
-use Rattle.std.specs.Prelude.{Option, Some, None, filter, bytes_eq, Decides, IfSome, IsSomeAnd}
+use Rattle.std.proofs.Common.{◌≡◌, ◌≢◌, ◌∙◌, sym, ap, subst, Bool, true, false, cond, List, [], ◌∷◌, ◌++◌, refl, ℕ, ◌<◌, ◌≤◌, ◌^◌, map, length, drop, not}
+use Rattle.std.specs.Prelude.{Option, Some, None, filter, bytes_eq, Decides, IsSomeAnd}
 use Rattle.std.proofs.lemmas.Slice.Eq.{bytes_eq-Decides}
 use Rattle.std.proofs.lemmas.List.{append-nil, map-append}
 use Rattle.std.proofs.lemmas.List.Elements.{filter-append}
 use Rattle.amqp_link_types.specs.Entries.{Entries, entry_at, with_entry}
-use Rattle.amqp_link_types.specs.Frames.{performative_of}
-use Rattle.amqp_link.specs.Invariants.{IsWorld, IsReady, IsKept}
+use Rattle.amqp_link.specs.Invariants.{IsWorld, IsReadyAt, IsKept, CanGrant}
 use Rattle.amqp_link.specs.Receiving.{IsReceived, CanReceive}
-use Rattle.amqp_link_ends.specs.Senders.{Sender, next_tag, new_entry}
+use Rattle.amqp_link_receiver.specs.Receivers.{Receiver}
+use Rattle.amqp_link_sender.specs.Senders.{Sender, next_tag, new_entry}
 use Rattle.amqp_link_types.specs.declared.types.terminus.Target.{Target}
-use Rattle.amqp_link.specs.Steps.{Sends, Arrives, received, begun, after_sending}
+use Rattle.amqp_link.specs.Steps.{Attaches, StopsAt, Stop, Asked, Taken, Answered, receiver_at, Grants, with_credit, Sends, Arrives, received, begun, after_sending}
 use Rattle.amqp_link.specs.Wires.{OnWire, under, first_of}
-use Rattle.amqp_link.specs.Worlds.{World, Good, frames_of}
+use Rattle.amqp_link.specs.Worlds.{World, Phase, Apart, Halfway, Together, Good, frames_of}
 use Rattle.amqp_link_types.specs.declared.delivery.UnsettledMessage.{UnsettledMessage}
 use Rattle.amqp_link_types.specs.declared.frame.LinkFrame.{LinkFrame}
 use Rattle.amqp_link.specs.declared.pair.progress.Progress.{Progress}
@@ -64,10 +64,10 @@ IsWorld-receives_first w tag s k first same =
     subst (λ t. IsSomeAnd (entry_at w.deliveries t) (λ p. CanReceive p.held s.frame)) (sym same) (IsWorld-receives w s (drop 1 w.wire) k (first-some w.wire s first))
 
 -- what an arrival does, by what its parts do
-pub arrives : (w : World) (s : OnWire) (id : ℕ) (tag : List ℕ) (place : ℕ × ℕ) (deliveries : Entries Progress) (wire : List OnWire)
-    → first_of w.wire ≡ Some s → tag ≡ s.tag → IsReceived w.deliveries tag id s.frame place deliveries → wire ≡ drop 1 w.wire
-    → Arrives w id tag place (not (performative_of s.frame).more) (record w { deliveries = deliveries; wire = wire })
-arrives w s id tag place deliveries wire first same r off =
+pub arrives : (w : World) (s : OnWire) (id : ℕ) (tag : List ℕ) (place : ℕ × ℕ) (whole : Bool) (deliveries : Entries Progress) (wire : List OnWire)
+    → first_of w.wire ≡ Some s → tag ≡ s.tag → IsReceived w.deliveries tag id s.frame place whole deliveries → wire ≡ drop 1 w.wire
+    → Arrives w id tag place whole (record w { deliveries = deliveries; wire = wire })
+arrives w s id tag place whole deliveries wire first same r off =
     record {
       first = s;
       rest = drop 1 w.wire;
@@ -76,7 +76,7 @@ arrives w s id tag place deliveries wire first same r off =
       tagged = same;
       known = r.known;
       reported = r.reported;
-      ends = refl;
+      ends = r.ends;
       world = ap (λ d. record w { deliveries = d; wire = wire }) r.world ∙ ap (λ l. record w { deliveries = with_entry w.deliveries tag (received r.before id s.frame); wire = l }) off;
     }
 
@@ -106,13 +106,23 @@ module _ (old new : World) (id : ℕ) (tag : List ℕ) (place : ℕ × ℕ) (who
 
   pub IsWorld-arrives : IsWorld new
   unfolding arrived KeptIn
-  IsWorld-arrives = subst IsWorld (sym a.world) (record { ready = k.ready; mode = k.mode; each = by_tag (KeptIn arrived) tag here there })
+  IsWorld-arrives = subst IsWorld (sym a.world) (record { ready = k.ready; flows = k.flows; mode = k.mode; each = by_tag (KeptIn arrived) tag here there })
 
 -- ---- a send
 
-ready_sends : (limit : Option ℕ) (s : Sender Target) (payload : List ℕ) → IfSome limit (λ l. IsReady l s) → IfSome limit (λ l. IsReady l (after_sending s payload))
-ready_sends None s payload r = r
-ready_sends (Some limit) s payload r = record { enough = r.enough; frame = r.frame; output = r.output; input = r.input }
+flows_of : {s t : Sender Target} {r q : Receiver Target} → CanGrant s r → t.output_handle ≡ s.output_handle → q.output_handle ≡ r.output_handle
+    → t.flow_state.drain ≡ s.flow_state.drain → q.flow_state.drain ≡ r.flow_state.drain → CanGrant t q
+flows_of c a b d e = record {
+  sender_output = a ∙ c.sender_output;
+  receiver_output = b ∙ c.receiver_output;
+  sender_drain = d ∙ c.sender_drain;
+  receiver_drain = e ∙ c.receiver_drain;
+}
+
+ready_sends : (phase : Phase) (s : Sender Target) (payload : List ℕ) → IsReadyAt phase s → IsReadyAt phase (after_sending s payload)
+ready_sends Apart s payload r = r
+ready_sends (Halfway limit) s payload r = r
+ready_sends (Together limit) s payload r = record { enough = r.enough; frame = r.frame; input = r.input }
 
 nothing_kept : (o : Option UnsettledMessage) (q : Option Progress) (fs : List LinkFrame) → o ≡ None → IsKept o q fs → IsKept None q fs
 nothing_kept o q fs e k = subst (λ o. IsKept o q fs) e k
@@ -154,7 +164,44 @@ module _ (old new : World) (payload tag : List ℕ) (count : ℕ) (k : IsWorld o
 
   pub IsWorld-sends : IsWorld new
   unfolding sent KeptAt
-  IsWorld-sends = subst IsWorld (sym a.world) (record { ready = ready_sends old.limit old.sender payload k.ready; mode = k.mode; each = by_tag (KeptAt sent) tag here_sent there_sent })
+  IsWorld-sends = subst IsWorld (sym a.world) (record { ready = ready_sends old.phase old.sender payload k.ready; flows = flows_of k.flows refl refl refl refl; mode = k.mode; each = by_tag (KeptAt sent) tag here_sent there_sent })
+
+-- ---- an attach
+
+receiver_stays : (stop : Stop) (limit count : ℕ) (r : Receiver Target)
+    → ((receiver_at stop limit count r).output_handle ≡ r.output_handle) × ((receiver_at stop limit count r).flow_state.drain ≡ r.flow_state.drain)
+receiver_stays Asked limit count r = (refl, refl)
+receiver_stays Taken limit count r = (refl, refl)
+receiver_stays Answered limit count r = (refl, refl)
+
+pub IsWorld-attaches : (old new : World) (limit count : ℕ) → IsWorld old → 29 ≤ limit → Attaches old limit count new → IsWorld new
+IsWorld-attaches old new limit count k enough a =
+    subst IsWorld (sym a.world) (record {
+      ready = record { enough = enough; frame = refl; input = refl };
+      flows = flows_of k.flows refl refl refl refl;
+      mode = k.mode;
+      each = k.each;
+    })
+
+pub IsWorld-stops : (stop : Stop) (old new : World) (limit : ℕ) → IsWorld old → StopsAt stop old limit new → IsWorld new
+IsWorld-stops stop old new limit k s =
+    subst IsWorld (sym s.world) (record { ready = tt; flows = flows_of k.flows refl (receiver_stays stop limit _ old.receiver).0 refl (receiver_stays stop limit _ old.receiver).1; mode = k.mode; each = k.each })
+
+-- ---- a grant
+
+ready_grants : (phase : Phase) (s : Sender Target) (credit : ℕ) → IsReadyAt phase s → IsReadyAt phase (record s { flow_state = with_credit s.flow_state credit })
+ready_grants Apart s credit r = r
+ready_grants (Halfway limit) s credit r = r
+ready_grants (Together limit) s credit r = record { enough = r.enough; frame = r.frame; input = r.input }
+
+pub IsWorld-grants : (old new : World) (n answer : ℕ) → IsWorld old → Grants old n answer new → IsWorld new
+IsWorld-grants old new n answer k g =
+    subst IsWorld (sym g.world) (record {
+      ready = ready_grants old.phase old.sender answer k.ready;
+      flows = flows_of k.flows refl refl refl refl;
+      mode = k.mode;
+      each = k.each;
+    })
 
 -- ---- the named part
 

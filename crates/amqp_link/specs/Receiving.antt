@@ -1,11 +1,11 @@
 -- When a transfer can be received, and what it does to the deliveries of a pair.
-use Rattle.std.specs.Prelude.{◌≡◌, ℕ, ◌++◌, Option, Some, None, IsSome, false}
+use Rattle.std.specs.Prelude.{◌≡◌, ℕ, Bool, ◌++◌, Option, Some, None, IsSome, false}
 use Rattle.amqp_link_types.specs.Entries.{Tag, Entries, entry_at, with_entry}
 use Rattle.amqp_link_types.specs.Frames.{payload_of}
 use Rattle.amqp_link_core.specs.Held.{Held, bytes_of}
 use Rattle.amqp_link_core.specs.IncompleteRefusals.{is_too_long}
 use Rattle.amqp_link_core.specs.Merging.{IsSilent}
-use Rattle.amqp_link_types.specs.Position.{position}
+use Rattle.amqp_link_payloads.specs.Position.{position}
 use Rattle.amqp_link.specs.Steps.{received}
 use Rattle.amqp_link.specs.Worlds.{bytes_in}
 use Rattle.amqp_link_types.specs.declared.frame.LinkFrame.{LinkFrame}
@@ -26,8 +26,9 @@ CanReceive (Some held) (TransferContinuation x) = IsContinuing x.performative ×
 CanReceive _ _ = ⊥
 
 -- The next transfer of a tag has come.
-pub record IsReceived (old : Entries Progress) (tag : Tag) (id : ℕ) (frame : LinkFrame) (place : ℕ × ℕ) (new : Entries Progress) : Type 0 where
+pub record IsReceived (old : Entries Progress) (tag : Tag) (id : ℕ) (frame : LinkFrame) (place : ℕ × ℕ) (whole : Bool) (new : Entries Progress) : Type 0 where
   pub before : Progress
   pub known : entry_at old tag ≡ Some before
   pub reported : place ≡ position (bytes_in before.held ++ payload_of frame)
+  pub ends : whole ≡ (received before id frame).whole
   pub world : new ≡ with_entry old tag (received before id frame)

@@ -1,7 +1,7 @@
 -- When a pair's sender refuses a delivery for want of memory alone.
 use Rattle.std.specs.Prelude.{◌≡◌, ◌<◌, ◌≤◌, Some, None}
 use Rattle.amqp_link_types.specs.Entries.{entry_at}
-use Rattle.amqp_link_ends.specs.Senders.{Sender, next_tag}
+use Rattle.amqp_link_sender.specs.Senders.{Sender, next_tag}
 use Rattle.amqp_link_types.specs.declared.types.terminus.Target.{Target}
 use Rattle.amqp_link_types.specs.declared.types.definitions.SenderSettleMode.TheVariants.{Mixed}
 

@@ -1,25 +1,34 @@
 -- What each call of a pair answers, and the world after it.
-use Rattle.std.specs.Prelude.{◌≡◌, ℕ, ◌^◌, Bool, true, false, not, ◌||◌, nat_lt, nat_le, ◌==◌, List, [], ◌∷◌, ◌++◌, length, Option, Some, None, is_some, is_none, codes, Result, Ok, Err}
+use Rattle.std.specs.Prelude.{◌≡◌, ◌⊎◌, ℕ, ◌+◌, ◌^◌, ◌&&◌, Bool, true, false, not, ◌||◌, nat_lt, nat_le, ◌==◌, List, [], ◌∷◌, ◌++◌, length, Option, Some, None, is_some, unwrap_or, codes, Result, Ok, Err}
 use Rattle.amqp_link_types.specs.Counts.{granted, after_consuming}
 use Rattle.amqp_link_types.specs.Entries.{Tag, entry_at, with_entry}
 use Rattle.amqp_link_types.specs.Frames.{payload_of, performative_of}
 use Rattle.amqp_link_core.specs.Held.{Held}
-use Rattle.amqp_link_types.specs.Position.{position}
+use Rattle.amqp_link_payloads.specs.Position.{position}
 use Rattle.amqp_link_types.specs.Refusals.{refusal}
-use Rattle.amqp_link_ends.specs.Senders.{Sender, IsSent, next_tag, new_entry}
+use Rattle.amqp_link_types.specs.Size.{attach_len}
+use Rattle.amqp_link_types.specs.Unsettled.{states_of}
+use Rattle.amqp_link_types.specs.declared.state.LinkFlowStateInner.{LinkFlowStateInner}
+use Rattle.amqp_link_types.specs.declared.types.attach.Attach.{Attach}
+use Rattle.amqp_link_types.specs.declared.types.terminus.TargetArchetype.TheVariants as archetype
+use Rattle.amqp_link_core.specs.Attaching.{with_entries}
+use Rattle.amqp_link_receiver.specs.ReceiverAttaches.{counted_attach as said_by_receiver}
+use Rattle.amqp_link_receiver.specs.Receivers.{Receiver}
+use Rattle.amqp_link_sender.specs.SenderAttaches.{counted_attach as said_by_sender}
+use Rattle.amqp_link_sender.specs.Senders.{Sender, IsSent, next_tag, new_entry}
 use Rattle.amqp_link_types.specs.declared.types.terminus.Target.{Target}
 use Rattle.amqp_link_types.specs.declared.types.terminus.Source.{Source}
 use Rattle.amqp_link_types.specs.declared.types.terminus.TerminusDurability.TheVariants as durable
 use Rattle.amqp_link_types.specs.declared.types.terminus.TerminusExpiryPolicy.TheVariants.{SessionEnd}
-use Rattle.amqp_link_ends.specs.Split.{Least}
-use Rattle.amqp_link_ends.specs.Room.{payload_limit}
+use Rattle.amqp_link_sender.specs.Split.{Least}
+use Rattle.amqp_link_sender.specs.Room.{payload_limit}
 use Rattle.amqp_link.specs.Wires.{OnWire, under}
-use Rattle.amqp_link.specs.Worlds.{World, bytes_in, frames_of}
+use Rattle.amqp_link.specs.Worlds.{World, Phase, Apart, Halfway, Together, bytes_in, frames_of}
 use Rattle.amqp_link_types.specs.declared.frame.LinkFrame.{LinkFrame}
 use Rattle.amqp_link.specs.declared.pair.error.PairError.{PairError}
 use Rattle.amqp_link.specs.declared.pair.error.PairError.TheVariants as error
 use Rattle.amqp_link.specs.declared.pair.progress.Progress.{Progress}
-use Rattle.amqp_link_types.specs.declared.state.LinkState.TheVariants.{Unattached, Attached}
+use Rattle.amqp_link_types.specs.declared.state.LinkState.TheVariants.{Unattached, AttachSent, AttachReceived, Attached}
 use Rattle.amqp_link_types.specs.declared.types.definitions.SenderSettleMode.TheVariants.{Mixed}
 use Rattle.amqp_link_types.specs.declared.types.definitions.ReceiverSettleMode.TheVariants.{First}
 use Rattle.amqp_link_types.specs.declared.types.transfer.Transfer.{Transfer}
@@ -91,7 +100,18 @@ default_target = record {
   capabilities = None;
 }
 
--- the sender's end of a new pair: the link "l" with this count, not attached, without credit
+-- the counts of an end of a new pair, without credit
+abbrev pub new_flow : ℕ → LinkFlowStateInner
+new_flow count = record {
+  initial_delivery_count = count;
+  delivery_count = count;
+  link_credit = 0;
+  available = 0;
+  drain = false;
+  properties = None;
+}
+
+-- the sender's end of a new pair: the link "l" at handle 0, with this count, not attached
 abbrev pub new_sender : ℕ → Sender Target
 new_sender count = record {
   local_state = Unattached;
@@ -103,52 +123,151 @@ new_sender count = record {
   max_message_size = 0;
   offered_capabilities = None;
   desired_capabilities = None;
-  output_handle = None;
+  output_handle = Some (record { 0 = 0 });
   input_handle = None;
-  flow_state = record {
-    initial_delivery_count = count;
-    delivery_count = count;
-    link_credit = 0;
-    available = 0;
-    drain = false;
-    properties = None;
-  };
+  flow_state = new_flow count;
   max_frame_size = 0;
+  verify_incoming_source = false;
+  verify_incoming_target = false;
   unsettled = [];
+}
+
+-- its receiver's end
+abbrev pub new_receiver : ℕ → Receiver Target
+new_receiver count = record {
+  local_state = Unattached;
+  name = codes "l";
+  snd_settle_mode = Mixed;
+  rcv_settle_mode = First;
+  source = Some default_source;
+  target = Some default_target;
+  max_message_size = 0;
+  offered_capabilities = None;
+  desired_capabilities = None;
+  output_handle = Some (record { 0 = 0 });
+  input_handle = None;
+  flow_state = new_flow count;
+  max_frame_size = 0;
+  verify_incoming_source = false;
+  verify_incoming_target = false;
+  unsettled = [];
+  more = false;
 }
 
 -- a new pair: nothing is attached, sent, held or under way
 abbrev pub new_world : ℕ → World
 new_world count = record {
-  limit = None;
-  initial = count;
+  phase = Apart;
   sender = new_sender count;
+  receiver = new_receiver count;
   deliveries = [];
   wire = [];
 }
 
--- Both ends are attached at the frame limit. Nothing is to be resumed.
+-- ---- phases
+
+abbrev pub is_together : Phase → Bool
+is_together (Together limit) = true
+is_together _ = false
+
+-- whether the ends are on the way at another frame limit
+abbrev pub is_halfway_at_other : ℕ → Phase → Bool
+is_halfway_at_other limit (Halfway begun) = not (limit == begun)
+is_halfway_at_other limit _ = false
+
+-- ---- attaching
+
+-- whether an attach that names all its end's deliveries fits a frame
+abbrev pub fits : Attach → ℕ → Bool
+fits attach frame = nat_le (4 + attach_len attach) frame
+
+-- whether those of both ends do, with the sender's count
+abbrev pub attaches_fit : Sender Target → Receiver Target → ℕ → Bool
+attaches_fit s r limit =
+    let count = s.flow_state.delivery_count in
+    let sent = said_by_sender archetype.Target s count (unwrap_or s.output_handle (record { 0 = 0 })) in
+    let answered = said_by_receiver archetype.Target r count (unwrap_or r.output_handle (record { 0 = 0 })) in
+    fits (with_entries sent (states_of s.unsettled) 0) limit && fits (with_entries answered r.unsettled 0) limit
+
+-- a frame limit of less than 29 leaves no room for a transfer
+abbrev pub attach_tests : World → ℕ → List (Bool × PairError)
+attach_tests w limit =
+    (is_together w.phase, error.AlreadyAttached)
+    ∷ (is_halfway_at_other limit w.phase, error.LimitChanged)
+    ∷ (nat_lt limit 29 || not (attaches_fit w.sender w.receiver limit), error.LimitTooSmall)
+    ∷ []
+
+-- the sender once its attach has gone out, and once the receiver's has come
+abbrev pub sender_asking : ℕ → Sender Target → Sender Target
+sender_asking limit s = record s { local_state = AttachSent; max_frame_size = limit }
+
+abbrev pub sender_together : ℕ → Sender Target → Sender Target
+sender_together limit s =
+    record s { local_state = Attached; input_handle = Some (record { 0 = 0 }); max_frame_size = limit }
+
+-- the receiver once the sender's attach has come: it counts from the sender's count
+abbrev pub receiver_taken : ℕ → ℕ → Receiver Target → Receiver Target
+receiver_taken limit count r = record r {
+  local_state = AttachReceived;
+  input_handle = Some (record { 0 = 0 });
+  flow_state = record r.flow_state { initial_delivery_count = count; delivery_count = count };
+  max_frame_size = limit;
+  more = false;
+}
+
+-- and once its own has gone out
+abbrev pub receiver_together : ℕ → ℕ → Receiver Target → Receiver Target
+receiver_together limit count r = record (receiver_taken limit count r) { local_state = Attached }
+
+-- Both ends are attached at the frame limit, and the receiver counts from the sender's count. Nothing
+-- is to be resumed.
 pub record Attaches (old : World) (limit count : ℕ) (new : World) : Type 0 where
   pub none : count ≡ 0
   pub world : new ≡ record old {
-    limit = Some limit;
-    sender = record old.sender {
-      local_state = Attached;
-      output_handle = Some (record { 0 = 0 });
-      input_handle = Some (record { 0 = 0 });
-      max_frame_size = limit;
-    };
+    phase = Together limit;
+    sender = sender_together limit old.sender;
+    receiver = receiver_together limit old.sender.flow_state.delivery_count old.receiver;
   }
 
--- the sender with this credit
-abbrev pub with_credit : Sender Target → ℕ → Sender Target
-with_credit s credit = record s { flow_state = record s.flow_state { link_credit = credit } }
+-- where an attach may stop: the sender's is on its way, the receiver has taken it, or the receiver's
+-- is on its way
+pub data Stop : Type 0 where
+  Asked : Stop
+  Taken : Stop
+  Answered : Stop
 
--- The sender's credit becomes what is granted less what the receiver has not counted yet, and is
--- answered.
+abbrev pub receiver_at : Stop → ℕ → ℕ → Receiver Target → Receiver Target
+receiver_at Asked limit count r = record r { max_frame_size = limit }
+receiver_at Taken limit count r = receiver_taken limit count r
+receiver_at Answered limit count r = receiver_together limit count r
+
+-- Memory was wanting once the sender's attach had gone out. No test of the call holds.
+pub record StopsAt (stop : Stop) (old : World) (limit : ℕ) (new : World) : Type 0 where
+  pub may : refusal (attach_tests old limit) ≡ None
+  pub world : new ≡ record old {
+    phase = Halfway limit;
+    sender = sender_asking limit old.sender;
+    receiver = receiver_at stop limit old.sender.flow_state.delivery_count old.receiver;
+  }
+
+-- what a refused attach leaves: all as it was, unless memory was wanting on the way
+abbrev pub LeftByAttach : {A : Type 0} → Result A PairError → World → ℕ → World → Type 0
+LeftByAttach (Ok a) old limit new = Unit {0}
+LeftByAttach (Err error.OutOfMemory) old limit new = (new ≡ old) ⊎ ((stop : Stop) × StopsAt stop old limit new)
+LeftByAttach (Err e) old limit new = new ≡ old
+
+-- an end with this credit
+abbrev pub with_credit : LinkFlowStateInner → ℕ → LinkFlowStateInner
+with_credit flow credit = record flow { link_credit = credit }
+
+-- The receiver's credit becomes what is granted, and the sender's what is granted less what the receiver
+-- has not counted yet, which is answered.
 pub record Grants (old : World) (n answer : ℕ) (new : World) : Type 0 where
-  pub credit : answer ≡ granted old.initial n old.sender.flow_state.delivery_count
-  pub world : new ≡ record old { sender = with_credit old.sender answer }
+  pub credit : answer ≡ granted old.receiver.flow_state.delivery_count n old.sender.flow_state.delivery_count
+  pub world : new ≡ record old {
+    sender = record old.sender { flow_state = with_credit old.sender.flow_state answer };
+    receiver = record old.receiver { flow_state = with_credit old.receiver.flow_state n };
+  }
 
 -- the sender after a payload was sent as an unsettled delivery: it is registered, for one credit
 abbrev pub after_sending : Sender Target → List ℕ → Sender Target
@@ -176,7 +295,8 @@ pub record Sends (old : World) (payload : List ℕ) (tag : Tag) (count : ℕ) (n
   }
 
 -- The first transfer comes off the wire, and its payload is added to what is held of its delivery.
--- The answer is the delivery's tag, the position of what is held, and whether it was the last.
+-- The answer is the delivery's tag, the position of what is held, and whether its last transfer has
+-- come.
 pub record Arrives (old : World) (id : ℕ) (tag : Tag) (place : ℕ × ℕ) (whole : Bool) (new : World) : Type 0 where
   pub first : OnWire
   pub rest : List OnWire
@@ -185,7 +305,7 @@ pub record Arrives (old : World) (id : ℕ) (tag : Tag) (place : ℕ × ℕ) (wh
   pub tagged : tag ≡ first.tag
   pub known : entry_at old.deliveries tag ≡ Some before
   pub reported : place ≡ position (bytes_in before.held ++ payload_of first.frame)
-  pub ends : whole ≡ not (performative_of first.frame).more
+  pub ends : whole ≡ (received before id first.frame).whole
   pub world : new ≡ record old {
     deliveries = with_entry old.deliveries tag (received before id first.frame);
     wire = rest;
@@ -197,22 +317,19 @@ abbrev pub is_empty : {A : Type 0} → List A → Bool
 is_empty [] = true
 is_empty (x ∷ xs) = false
 
-abbrev pub attach_tests : World → ℕ → List (Bool × PairError)
-attach_tests w limit = (is_some w.limit, error.AlreadyAttached) ∷ (nat_lt limit 29, error.LimitTooSmall) ∷ []
-
 abbrev pub grant_tests : World → List (Bool × PairError)
-grant_tests w = (is_none w.limit, error.NotAttached) ∷ []
+grant_tests w = (not (is_together w.phase), error.NotAttached) ∷ []
 
 abbrev pub send_tests : World → List ℕ → List (Bool × PairError)
 send_tests w payload =
-    (is_none w.limit, error.NotAttached)
+    (not (is_together w.phase), error.NotAttached)
     ∷ (nat_le (2 ^ 32) (length payload), error.PayloadTooLong)
     ∷ (w.sender.flow_state.link_credit == 0, error.CreditMissing)
     ∷ (is_some (entry_at w.sender.unsettled (next_tag w.sender)), error.TagPending)
     ∷ []
 
 abbrev pub arrive_tests : World → List (Bool × PairError)
-arrive_tests w = (is_none w.limit, error.NotAttached) ∷ (is_empty w.wire, error.WireEmpty) ∷ []
+arrive_tests w = (not (is_together w.phase), error.NotAttached) ∷ (is_empty w.wire, error.WireEmpty) ∷ []
 
 -- A result by the first test that holds. Want of memory may come before each of them.
 abbrev pub Answers : {A : Type 0} → Result A PairError → List (Bool × PairError) → Type 0

@@ -1,22 +1,27 @@
--- The world of a pair: a sender's end, what the receiver's end holds of each delivery, and the wire
--- from the one to the other (OASIS AMQP 1.0 core, 2.6.12 and 2.7.5).
+-- The world of a pair: both ends, what the receiver's end holds of each delivery, and the wire from the
+-- sender to the receiver (OASIS AMQP 1.0 core, 2.6.12 and 2.7.5).
 use Rattle.std.specs.Prelude.{◌≡◌, ℕ, Bool, true, false, List, [], ◌∷◌, ◌++◌, filter, flat_map, map, Option, Some, None, option_and_then, IfSome, IsSomeAnd}
 use Rattle.std.specs.Str.{bytes_eq}
 use Rattle.amqp_link_types.specs.Entries.{Tag, Entries, entry_at}
 use Rattle.amqp_link_types.specs.Frames.{payload_of, performative_of}
 use Rattle.amqp_link_core.specs.Held.{Held, bytes_of}
-use Rattle.amqp_link_ends.specs.Senders.{Sender}
+use Rattle.amqp_link_sender.specs.Senders.{Sender}
+use Rattle.amqp_link_receiver.specs.Receivers.{Receiver}
 use Rattle.amqp_link_types.specs.declared.types.terminus.Target.{Target}
 use Rattle.amqp_link.specs.Wires.{OnWire}
 use Rattle.amqp_link_types.specs.declared.frame.LinkFrame.{LinkFrame}
 use Rattle.amqp_link.specs.declared.pair.progress.Progress.{Progress}
 
+-- how far the ends are attached: not at all, on the way at a frame limit, or both at it
+pub data Phase : Type 0 where
+  Apart : Phase
+  Halfway : ℕ → Phase
+  Together : ℕ → Phase
+
 pub record World : Type 0 where
-  -- the frame limit, where the ends are attached
-  pub limit : Option ℕ
-  -- the receiver's count, which stays the initial one as long as nothing is handed out
-  pub initial : ℕ
+  pub phase : Phase
   pub sender : Sender Target
+  pub receiver : Receiver Target
   -- what has come of each delivery, from its send on
   pub deliveries : Entries Progress
   pub wire : List OnWire

@@ -2,7 +2,7 @@
 //!
 //! Payloads and incoming frames go in; outgoing frames, deliveries and resolved outcomes come out;
 //! no call waits. Names follow fe2o3-amqp 0.18.4. What takes memory answers a `Result`, and a call
-//! that answers want of memory has changed nothing.
+//! that answers want of memory has changed nothing; `Pair::attach` alone has steps, and says so.
 //!
 //! The crates below hold the modules; this one joins the two ends and passes their names on.
 #![tactic(auto)]
@@ -12,26 +12,29 @@ pub mod pair;
 pub use amqp_link_core::endpoint::target::LinkTarget;
 pub use amqp_link_core::endpoint::{Link, LinkAttach, LinkDetach, LinkExt};
 pub use amqp_link_core::incomplete_transfer::IncompleteTransfer;
-pub use amqp_link_ends::link_parts::LinkParts;
-pub use amqp_link_ends::receiver_link::{
-    ReceiverAttachExchange, ReceiverLink, get_max_message_size,
+pub use amqp_link_core::resumption::{Resolution, ResumingDelivery, resume_delivery};
+pub use amqp_link_ends::{
+    LinkParts, ReceiverAttachExchange, ReceiverLink, SenderAttachExchange, SenderLink, Sending,
+    Waiting, get_max_message_size,
 };
-pub use amqp_link_ends::sender_link::{SenderAttachExchange, SenderLink, Sending, Waiting};
-pub use amqp_link_types::delivery::{DeliveryOutcome, Outcomes, Settlement, UnsettledMessage};
+pub use amqp_link_payloads::position::{place_of, position_of};
+pub use amqp_link_types::delivery::{
+    Delivery, DeliveryInfo, DeliveryOutcome, Outcomes, Settlement, UnsettledMessage,
+};
 pub use amqp_link_types::frame::{LinkFrame, LinkTransfer, clear_continuation_fields};
-pub use amqp_link_types::position::position_of;
 pub use amqp_link_types::role::{IntoRole, ReceiverMarker, SenderMarker};
-pub use amqp_link_types::size::EncodedLen;
 pub use amqp_link_types::state::{
     DEFAULT_CREDIT, InsufficientCredit, LinkFlowState, LinkFlowStateInner, LinkState,
 };
 pub use amqp_link_types::types::{
-    ApplyRemoteDetachError, Attach, ConnectionStopReason, DeliveryNumber, DeliveryState,
-    DeliveryTag, Descriptor, Detach, DetachError, Disposition, DistributionMode, Error, Fields,
-    FilterSet, Handle, InputHandle, LinkFlow, LinkStateError, MessageFormat, Outcome, OutputHandle,
-    Payload, ReceiverAttachError, ReceiverSettleMode, ReceiverTransferError, Role,
-    SenderAttachError, SenderSettleMode, SequenceNo, SessionStopReason, Source, Symbol, Symbols,
-    Target, TargetArchetype, TerminusDurability, TerminusExpiryPolicy, Text, Transfer,
-    UnsettledMap, Value,
+    ApplyRemoteDetachError, Attach, ConnectionStopReason, DataBody, DecodeError, DeliveryNumber,
+    DeliveryState, DeliveryTag, Descriptor, Detach, DetachError, Disposition, DistributionMode,
+    Error, Fields, FilterSet, FlowError, FromBody, Handle, InputHandle, LinkFlow, LinkRelayError,
+    LinkStateError, Message, MessageDecodeError, MessageFormat, Outcome, OutputHandle, Payload,
+    ReceiverAttachError, ReceiverSettleMode, ReceiverTransferError, Role, SenderAttachError,
+    SenderSettleMode, SequenceNo, SessionStopReason, Source, Symbol, Symbols, Target,
+    TargetArchetype, TerminusDurability, TerminusExpiryPolicy, Text, Transfer, UnsettledMap, Value,
+    Whole,
 };
+pub use amqp_link_values::length::EncodedLen;
 pub use pair::{Arrived, Pair, PairError, Sent};

@@ -5,11 +5,11 @@
 //! unsettled and of format 0.
 ghost use Rattle.std.specs.Prelude.{◌≡◌, ◌<◌, [], None, Some, IfOk, OnErr, option_copied};
 ghost use Rattle.amqp_link.specs.Worlds.{Good, held_at};
-ghost use Rattle.amqp_link.specs.Steps.{Attaches, Grants, Sends, Arrives, Answers, AnswersExactly};
+ghost use Rattle.amqp_link.specs.Steps.{Attaches, LeftByAttach, Grants, Sends, Arrives, Answers, AnswersExactly};
 ghost use Rattle.amqp_link.specs.Steps.{new_world, attach_tests, grant_tests, send_tests, arrive_tests};
 
-mod credit;
 mod deliveries;
+mod ends;
 mod error;
 mod progress;
 #[cfg(test)]
@@ -19,15 +19,14 @@ mod sending;
 mod tests;
 mod wire;
 
-use crate::pair::credit::granted;
 use crate::pair::deliveries::Deliveries;
+use crate::pair::ends::{Ends, Stage};
 use crate::pair::progress::{close, open, receive};
-use crate::pair::sending::{new_sender, next_tag, send_unsettled};
+use crate::pair::sending::{next_tag, send_unsettled};
 use crate::pair::wire::Wire;
 use amqp_link_core::endpoint::LinkExt;
 use amqp_link_core::incomplete_transfer::IncompleteTransfer;
-use amqp_link_ends::sender_link::SenderLink;
-use amqp_link_types::types::{DeliveryNumber, DeliveryTag, Payload, SequenceNo, Target};
+use amqp_link_types::types::{DeliveryNumber, DeliveryTag, Payload, SequenceNo};
 pub use error::PairError;
 pub use progress::Progress;
 use std::alloc::Global;
@@ -57,14 +56,12 @@ pub struct Arrived {
 
 /// Two ends of a link and the wire between them.
 ///
-/// A contract sees the frame limit where the ends are attached, the sender's end, what has come of
-/// each delivery, and the transfers under way.
+/// A contract sees how far the ends are attached, both ends, what has come of each delivery, and the
+/// transfers under way.
 #[derive(Drop)]
 pub struct Pair {
     alloc: Global,
-    limit: Option<u32>,
-    initial: SequenceNo,
-    sender: SenderLink<Target>,
+    ends: Ends,
     deliveries: Deliveries,
     wire: Wire,
 }
@@ -75,7 +72,7 @@ impl Model for Pair {
     ghost Value = { World };
 
     ghost use Rattle.std.specs.Coded.{codes};
-    ghost use Rattle.amqp_link_types.specs.contracts.types.fields.Fields as fields;
+    ghost use Rattle.amqp_link_values.specs.contracts.fields.Fields as fields;
 
     ghost coded = { Prim.hlevel (codes, fields.the_row.coded) };
 
@@ -97,39 +94,51 @@ impl Pair {
     {
         Ok(Pair {
             alloc,
-            limit: None,
-            initial: initial_delivery_count,
-            sender: new_sender(alloc, initial_delivery_count)?,
+            ends: Ends::new(alloc, initial_delivery_count)?,
             deliveries: Deliveries::new(alloc),
             wire: Wire::new(alloc),
         })
     }
 
-    /// Attaches both ends at a frame limit in bytes (a header of four bytes and the body), and
-    /// answers the number of deliveries to resume: none.
+    /// Attaches both ends at a frame limit in bytes (a header of four bytes and the body): the sender's
+    /// attach goes to the receiver, and the receiver's to the sender (2.6.3). Answers the number of
+    /// deliveries to resume: none.
     ///
-    /// Refused in this order, with nothing changed: `AlreadyAttached`, `LimitTooSmall` (under 29).
-    /// Takes no memory.
+    /// Refused in this order, with nothing changed: `AlreadyAttached`; `LimitChanged`, where an earlier
+    /// call has begun at another limit; `LimitTooSmall` (under 29, or the attach of an end does not
+    /// fit). Want of memory may come before each of these. Where it comes past the
+    /// sender's attach the ends stay where they have come to, and the call is made again with the same
+    /// limit.
     pub fn attach(&mut self, limit: u32) -> Result<usize, PairError>
         ensures done { IfOk result (λ count. Attaches self.old limit count self.new) }
-        ensures refused { AnswersExactly result (attach_tests self.old limit) }
-        ensures left { OnErr result (self.new ≡ self.old) }
+        ensures refused { Answers result (attach_tests self.old limit) }
+        ensures left { LeftByAttach result self.old limit self.new }
         ensures good { Good self.new }
     {
-        if self.limit.is_some() {
-            return Err(PairError::AlreadyAttached);
-        }
-        if limit < 29 {
-            return Err(PairError::LimitTooSmall);
-        }
-        self.limit = Some(limit);
-        self.sender.set_max_frame_size(limit);
-        self.sender.ready();
+        self.may_attach(limit)?;
+        self.ends.attach(limit)?;
         Ok(0)
     }
 
-    /// The receiver grants credit for so many deliveries; answers the sender's credit, from which
-    /// those are taken off that were sent since the receiver's count (2.6.7).
+    // Whether nothing stands against attaching at a limit.
+    fn may_attach(&self, limit: u32) -> Result<(), PairError>
+        ensures { Answers result (attach_tests self.now limit) }
+    {
+        match self.ends.stage {
+            Stage::Together => return Err(PairError::AlreadyAttached),
+            Stage::Apart => {}
+            _ if limit != self.ends.limit => return Err(PairError::LimitChanged),
+            _ => {}
+        }
+        if limit < 29 || !self.ends.attaches_fit(limit)? {
+            return Err(PairError::LimitTooSmall);
+        }
+        Ok(())
+    }
+
+    /// The receiver grants credit for so many deliveries, by a flow that comes at once; answers the
+    /// sender's credit, from which those are taken off that were sent since the receiver's count
+    /// (2.6.7).
     ///
     /// Refused, with nothing changed: `NotAttached`. Takes no memory.
     pub fn grant(&mut self, credit: u32) -> Result<u32, PairError>
@@ -138,16 +147,10 @@ impl Pair {
         ensures left { OnErr result (self.new ≡ self.old) }
         ensures good { Good self.new }
     {
-        if self.limit.is_none() {
+        if !self.ends.are_together() {
             return Err(PairError::NotAttached);
         }
-        let own = granted(
-            self.initial,
-            credit,
-            self.sender.flow_state().delivery_count(),
-        );
-        self.sender.set_credit(own);
-        Ok(own)
+        Ok(self.ends.grant(credit))
     }
 
     /// Sends a payload as an unsettled delivery, for one credit; answers its tag and the number of
@@ -161,23 +164,23 @@ impl Pair {
         ensures left { OnErr result (self.new ≡ self.old) }
         ensures good { Good self.new }
     {
-        if self.limit.is_none() {
+        if !self.ends.are_together() {
             return Err(PairError::NotAttached);
         }
         if payload.len() > u32::MAX as usize {
             return Err(PairError::PayloadTooLong);
         }
-        if self.sender.flow_state().link_credit() == 0 {
+        if self.ends.sender.flow_state().link_credit() == 0 {
             return Err(PairError::CreditMissing);
         }
-        let tag = next_tag(self.alloc, &self.sender)?;
-        if self.sender.unsettled().contains(&tag) {
+        let tag = next_tag(self.alloc, &self.ends.sender)?;
+        if self.ends.sender.unsettled().contains(&tag) {
             return Err(PairError::TagPending);
         }
         // Room for all but the sender's entry, which is the last growth.
         self.wire.reserve()?;
         open(&mut self.deliveries, &tag)?;
-        let Ok((sent, frames)) = send_unsettled(&mut self.sender, payload) else {
+        let Ok((sent, frames)) = send_unsettled(&mut self.ends.sender, payload) else {
             close(&mut self.deliveries, &tag);
             return Err(PairError::OutOfMemory);
         };
@@ -201,15 +204,14 @@ impl Pair {
         ensures left { OnErr result (self.new ≡ self.old) }
         ensures good { Good self.new }
     {
-        if self.limit.is_none() {
+        if !self.ends.are_together() {
             return Err(PairError::NotAttached);
         }
         let Some((tag, frame)) = self.wire.first() else {
             return Err(PairError::WireEmpty);
         };
         let tag = tag.clone()?;
-        let whole = !frame.has_more();
-        let (section_number, section_offset) = receive(
+        let (section_number, section_offset, whole) = receive(
             &mut self.deliveries,
             self.alloc,
             &tag,

@@ -4,8 +4,8 @@ use Rattle.std.specs.List.{concat}
 use Rattle.std.specs.Prelude.{Option, Some, None, is_none, SomeIff, nat_le}
 use Rattle.std.proofs.lemmas.Bool.Decides.{nat_tests}
 use Rattle.std.proofs.lemmas.Bool.{cases_lt}
-use Rattle.amqp_link_types.specs.Position.{position}
-use Rattle.amqp_link_types.proofs.PositionLemmas.{concat_push}
+use Rattle.amqp_link_payloads.specs.Position.{position}
+use Rattle.amqp_link_payloads.proofs.PositionLemmas.{concat_push}
 use Rattle.amqp_link_core.specs.Held.{IsCountable}
 use Rattle.amqp_link_core.specs.IncompleteRefusals.{is_too_long, long_test}
 use Rattle.amqp_link_types.specs.Refusals.{refusal}

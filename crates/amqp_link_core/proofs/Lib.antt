@@ -1,4 +1,6 @@
 pub mod CountLemmas
+pub mod CutLemmas
 pub mod Halving
 pub mod MergeLemmas
+pub mod ResumingLemmas
 pub mod Worked

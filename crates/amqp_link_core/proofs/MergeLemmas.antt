@@ -4,7 +4,7 @@ use Rattle.std.proofs.lemmas.List.{map-append, append-nil}
 use Rattle.std.specs.Prelude.{Option, Some, None, filter, find, option_and_then, unwrap_or, IsSomeAnd}
 use Rattle.std.specs.List.{list_any, last_or, cons_option}
 use Rattle.std.specs.Option.{option_or, option_map_or}
-use Rattle.amqp_link_core.specs.Merging.{Came, Merged, IsSilent, opening, following, present, first, last, settled_by, state_by}
+use Rattle.amqp_link_core.specs.Merging.{Came, Merged, IsSilent, opening, following, present, first, last, settled_by, state_by, resumed}
 use Rattle.amqp_link_types.specs.DeliveryStates.{is_terminal}
 use Rattle.amqp_link_types.specs.declared.types.delivery_state.DeliveryState.{DeliveryState}
 use Rattle.amqp_link_types.specs.declared.types.transfer.Transfer.{Transfer}
@@ -215,6 +215,10 @@ tag_kept c old new adds = ap (λ (t : Transfer). t.delivery_tag) (added c old ne
 pub id_kept : (t old new : Transfer) → Adds (following t) old new → new.delivery_id ≡ old.delivery_id
 id_kept t old new adds = (added (following t) old new adds).id
 
+-- one that takes the delivery up again gives it its id
+pub id_given : (t old new : Transfer) → Adds (opening t) old new → new.delivery_id ≡ t.delivery_id
+id_given t old new adds = (added (opening t) old new adds).id
+
 -- a format stays once it is there
 pub format_added : (c : Came) (old new : Transfer) → Adds c old new
     → new.message_format ≡ option_or old.message_format c.transfer.message_format
@@ -233,20 +237,33 @@ state_silent known told e =
     ap (λ o. state_by (present (known ∷ o ∷ []))) e
     ∙ ap state_by (present-append-none (known ∷ [])) ∙ sym (state_one known)
 
--- a continuation that tells nothing leaves the fields as they are
-pub silent_kept : (t old new : Transfer) → Adds (following t) old new → IsSilent t → new ≡ old
-silent_kept t old new adds silent =
-    let both : Merged (opening old ∷ following t ∷ []) new = added (following t) old new adds in
+-- one that tells nothing leaves all fields but the id as they are
+silent_but_for_id : (c : Came) (old new : Transfer) → Adds c old new → IsSilent c.transfer
+    → new ≡ record old { delivery_id = new.delivery_id }
+silent_but_for_id c old new adds silent =
+    let both : Merged (opening old ∷ c ∷ []) new = added c old new adds in
     let format : new.message_format ≡ old.message_format
-    = format_added (following t) old new adds ∙ ap (option_or old.message_format) silent.format ∙ or_none old.message_format in
-    let settled : new.settled ≡ old.settled = both.settled ∙ settled_silent old.settled t.settled silent.settled in
-    let state : new.state ≡ old.state = both.state ∙ state_silent old.state t.state silent.state in
+    = format_added c old new adds ∙ ap (option_or old.message_format) silent.format ∙ or_none old.message_format in
+    let settled : new.settled ≡ old.settled = both.settled ∙ settled_silent old.settled c.transfer.settled silent.settled in
+    let state : new.state ≡ old.state = both.state ∙ state_silent old.state c.transfer.state silent.state in
     both.others ∙ (λ i. record old {
-      delivery_id = both.id i;
+      delivery_id = new.delivery_id;
       message_format = format i;
       settled = settled i;
       state = state i;
     })
+
+-- a continuation that tells nothing leaves the fields as they are
+pub silent_kept : (t old new : Transfer) → Adds (following t) old new → IsSilent t → new ≡ old
+silent_kept t old new adds silent =
+    silent_but_for_id (following t) old new adds silent
+    ∙ ap (λ id. record old { delivery_id = id }) (id_kept t old new adds)
+
+-- and one that takes the delivery up again leaves all but the id
+pub silent_resumed : (t old new : Transfer) → Adds (opening t) old new → IsSilent t → new ≡ resumed old t
+silent_resumed t old new adds silent =
+    silent_but_for_id (opening t) old new adds silent
+    ∙ ap (λ id. record old { delivery_id = id }) (id_given t old new adds)
 
 -- ---- what all transfers say of the merged one
 

@@ -1,14 +1,25 @@
 -- Values of the definitions that were worked out by hand: docs/DEFINITIONS.md lists them.
-use Rattle.std.proofs.Common.{◌≡◌, true, false, [], ◌∷◌, refl, Some, None, nat_eq}
-use Rattle.amqp_link_types.specs.Header.{header_len}
-use Rattle.amqp_link_types.specs.Position.{starts}
+use Rattle.std.proofs.Common.{◌≡◌, ℕ, true, false, List, [], ◌∷◌, refl, Some, None, Ok, Err, nat_eq}
+use Rattle.amqp_link_payloads.specs.Header.{header_len}
+use Rattle.amqp_link_payloads.specs.Position.{starts}
 use Rattle.amqp_link_types.specs.Refusals.{refusal}
+use Rattle.amqp_link_types.specs.declared.delivery.UnsettledMessage.{UnsettledMessage}
 use Rattle.amqp_link_types.specs.declared.types.delivery_state.DeliveryState.TheVariants.{Accepted, Received}
-use Rattle.amqp_link_types.specs.declared.types.errors.ReceiverTransferError.TheVariants.{DeliveryIdIsNone, DeliveryTagIsNone}
+use Rattle.amqp_link_types.specs.declared.types.errors.ReceiverTransferError.TheVariants.{DeliveryIdIsNone, DeliveryTagIsNone, InconsistentFieldInMultiFrameDelivery}
 use Rattle.amqp_link_types.specs.declared.types.transfer.Transfer.{Transfer}
 use Rattle.amqp_link_core.specs.Held.{Held, bytes_of}
-use Rattle.amqp_link_core.specs.IncompleteRefusals.{differs, is_too_long, start_tests}
+use Rattle.amqp_link_core.specs.IncompleteRefusals.{differs, is_too_long, start_tests, resume_tests}
 use Rattle.amqp_link_core.specs.Merging.{present, settled_by, state_by}
+use Rattle.amqp_link_core.specs.Resuming.{is_beyond, rest_from, resolution}
+use Rattle.amqp_link_core.specs.declared.resumption.Resolution.TheVariants.{Resuming, Outcome}
+use Rattle.amqp_link_core.specs.declared.resumption.ResumingDelivery.TheVariants.{Abort, Resume}
+use Rattle.std.specs.Prelude.{codes}
+use Rattle.amqp_link_values.specs.Data.{uint}
+use Rattle.amqp_link_types.specs.declared.frame.LinkFrame.TheVariants.{Detach}
+use Rattle.amqp_link_types.specs.declared.types.errors.DetachError.TheVariants.{RemoteClosedWithError}
+use Rattle.amqp_link_types.specs.declared.types.definitions.Error.{Error}
+use Rattle.amqp_link_core.specs.AttachSent.{joined}
+use Rattle.amqp_link_core.specs.Detaching.{detach_frame, recorded, reply_error}
 
 -- a transfer at handle 0 that says nothing else
 abbrev bare : Transfer
@@ -61,3 +72,68 @@ the_id_is_named_first = refl
 then_the_tag : refusal (start_tests (record bare { delivery_id = Some 0 }) []) ≡ Some DeliveryTagIsNone
 unfolding starts header_len
 then_the_tag = refl
+
+-- ---- deliveries that are taken up again
+
+of_another_format : refusal (resume_tests (record three_bytes { performative = record bare { message_format = Some 0 } })
+    (record bare { delivery_id = Some 8; delivery_tag = Some (1 ∷ []); message_format = Some 1 }) []) ≡ Some InconsistentFieldInMultiFrameDelivery
+unfolding starts header_len
+of_another_format = refl
+
+abbrev eight : List ℕ
+eight = 0x00 ∷ 0x53 ∷ 0x70 ∷ 0xC0 ∷ 0x00 ∷ 0x53 ∷ 0x77 ∷ 0x41 ∷ []
+
+rest_of_the_first_section : rest_from eight 0 5 ≡ 0x53 ∷ 0x77 ∷ 0x41 ∷ []
+unfolding starts header_len
+rest_of_the_first_section = refl
+
+no_rest : rest_from eight 1 4 ≡ []
+unfolding starts header_len
+no_rest = refl
+
+all_where_there_is_no_place : rest_from eight 2 0 ≡ eight
+unfolding starts header_len
+all_where_there_is_no_place = refl
+
+a_later_section_is_beyond : is_beyond 1 0 0 6 ≡ true
+a_later_section_is_beyond = refl
+
+no_front_is_beyond_itself : is_beyond 1 2 1 2 ≡ false
+no_front_is_beyond_itself = refl
+
+-- a delivery of format 5, whose state is not known
+abbrev entry_of_eight : UnsettledMessage
+entry_of_eight = record { payload = eight; state = None; message_format = 5 }
+
+resumed_from_the_remote_place : resolution (1 ∷ []) entry_of_eight (Some (Some (Received 0 5)))
+    ≡ Resuming (Resume entry_of_eight (0x53 ∷ 0x77 ∷ 0x41 ∷ []))
+unfolding starts header_len
+resumed_from_the_remote_place = refl
+
+given_up_past_the_remote_place : resolution (1 ∷ []) (record entry_of_eight { state = Some Accepted }) (Some None)
+    ≡ Resuming (Abort 5 (Some (1 ∷ [])))
+unfolding starts header_len
+given_up_past_the_remote_place = refl
+
+ended_at_the_sender_alone : resolution (1 ∷ []) (record entry_of_eight { state = Some Accepted }) None
+    ≡ Outcome (Ok (Some Accepted))
+unfolding starts header_len
+ended_at_the_sender_alone = refl
+
+-- ---- detaches and properties
+
+abbrev failed : Error
+failed = record { condition = codes "x:y"; description = None; info = None }
+
+closing_detach : detach_frame (record { 0 = 4 }) true None ≡ Detach (record { handle = record { 0 = 4 }; closed = true; error = None })
+closing_detach = refl
+
+recorded_without_error : recorded reply_error true None ≡ Ok tt
+recorded_without_error = refl
+
+recorded_with_error : recorded reply_error true (Some failed) ≡ Err (RemoteClosedWithError failed)
+recorded_with_error = refl
+
+properties_are_joined : joined (Some ((codes "a", uint 1) ∷ (codes "b", uint 2) ∷ [])) (Some ((codes "b", uint 3) ∷ (codes "c", uint 4) ∷ []))
+    ≡ Some ((codes "a", uint 1) ∷ (codes "b", uint 3) ∷ (codes "c", uint 4) ∷ [])
+properties_are_joined = refl

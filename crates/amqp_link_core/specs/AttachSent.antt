@@ -1,5 +1,5 @@
 -- The attach that an end sends, and the one that comes (OASIS AMQP 1.0 core, 2.6.3 and 2.7.3).
-use Rattle.std.specs.Prelude.{◌≡◌, ℕ, Bool, true, false, List, [], Option, None, Some, is_none, Result, ◌==◌, min, if◌then◌else◌}
+use Rattle.std.specs.Prelude.{◌≡◌, ℕ, Bool, false, List, [], Option, None, Some, is_none, Result, ◌==◌, min, if◌then◌else◌}
 use Rattle.std.specs.Str.{bytes_eq}
 use Rattle.indexmap.specs.IndexMap.{insert_all}
 use Rattle.amqp_link_types.specs.declared.frame.LinkFrame.{LinkFrame}
@@ -9,7 +9,7 @@ use Rattle.amqp_link_types.specs.declared.types.attach.Attach.{Attach}
 use Rattle.amqp_link_types.specs.declared.types.definitions.OutputHandle.{OutputHandle}
 use Rattle.amqp_link_types.specs.declared.types.delivery_state.DeliveryState.{DeliveryState}
 use Rattle.amqp_link_types.specs.declared.types.terminus.TargetArchetype.{TargetArchetype}
-use Rattle.amqp_link_types.specs.Data.{Data}
+use Rattle.amqp_link_values.specs.Data.{Data}
 use Rattle.amqp_link_types.specs.declared.types.errors.LinkStateError.{LinkStateError}
 use Rattle.amqp_link_types.specs.Entries.{Tag, Entries}
 use Rattle.amqp_link_core.specs.Attaching.{IsDivided, NeverFits}

@@ -1,8 +1,8 @@
 -- A delivery of which not all has come, or been taken.
-use Rattle.std.specs.Prelude.{◌≡◌, ◌<◌, ◌^◌, ℕ, List, length}
+use Rattle.std.specs.Prelude.{◌≡◌, ◌<◌, ◌^◌, ℕ, List, length, take}
 use Rattle.std.specs.List.{concat}
 use Rattle.amqp_link_types.specs.declared.types.transfer.Transfer.{Transfer}
-use Rattle.amqp_link_types.specs.Position.{position}
+use Rattle.amqp_link_payloads.specs.Position.{position}
 
 -- the merged transfer, and the payloads in the order in which they came
 pub record Held : Type 0 where
@@ -18,3 +18,8 @@ pub record IsCountable (bytes : List ℕ) (n : ℕ) : Type 0 where
   pub size : n ≡ length bytes
   pub fits : length bytes < 2 ^ 64
   pub sections : (position bytes).0 < 2 ^ 32
+
+-- new has the bytes of old up to a place, and all else of it
+pub record IsFront (old new : Held) (place : ℕ) : Type 0 where
+  pub bytes : bytes_of new ≡ take place (bytes_of old)
+  pub performative : new.performative ≡ old.performative

@@ -4,7 +4,7 @@ use Rattle.std.specs.Str.{bytes_eq}
 use Rattle.amqp_link_types.specs.declared.types.transfer.Transfer.{Transfer}
 use Rattle.amqp_link_types.specs.declared.types.errors.ReceiverTransferError.{ReceiverTransferError}
 use Rattle.amqp_link_types.specs.declared.types.errors.ReceiverTransferError.TheVariants.{DeliveryIdIsNone, DeliveryTagIsNone, InconsistentFieldInMultiFrameDelivery, PayloadTooLong, OutOfMemory}
-use Rattle.amqp_link_types.specs.Position.{position}
+use Rattle.amqp_link_payloads.specs.Position.{position}
 use Rattle.amqp_link_core.specs.Held.{Held, bytes_of}
 use Rattle.amqp_link_types.specs.Refusals.{refusal}
 
@@ -32,6 +32,12 @@ start_tests t payload =
     ∷ (is_none t.delivery_tag, DeliveryTagIsNone)
     ∷ long_test payload
 
+-- whether a transfer names another tag or format than the delivery's
+abbrev pub is_of_another : Transfer → Transfer → Bool
+is_of_another old t =
+    differs bytes_eq old.delivery_tag t.delivery_tag
+    || differs nat_eq old.message_format t.message_format
+
 -- whether a transfer names another tag, id or format than the delivery's
 abbrev pub is_inconsistent : Transfer → Transfer → Bool
 is_inconsistent old t =
@@ -43,6 +49,14 @@ is_inconsistent old t =
 abbrev pub append_tests : Held → Transfer → List ℕ → List Test
 append_tests held t payload =
     (is_inconsistent held.performative t, InconsistentFieldInMultiFrameDelivery)
+    ∷ long_test (bytes_of held ++ payload)
+
+-- of the first transfer of a delivery that is taken up again, whose id replaces the old one
+abbrev pub resume_tests : Held → Transfer → List ℕ → List Test
+resume_tests held t payload =
+    (is_none t.delivery_id, DeliveryIdIsNone)
+    ∷ (is_none t.delivery_tag, DeliveryTagIsNone)
+    ∷ (is_of_another held.performative t, InconsistentFieldInMultiFrameDelivery)
     ∷ long_test (bytes_of held ++ payload)
 
 -- A result by the first test that holds. Want of memory may come before each of them.

@@ -1,7 +1,8 @@
+pub use Rattle.amqp_link_values.specs.Data
 pub use Rattle.amqp_link_types.specs.DeliveryStates
 pub use Rattle.amqp_link_types.specs.Entries
-pub use Rattle.amqp_link_types.specs.Header
-pub use Rattle.amqp_link_types.specs.Position
+pub use Rattle.amqp_link_payloads.specs.Header
+pub use Rattle.amqp_link_payloads.specs.Position
 pub use Rattle.amqp_link_types.specs.Refusals
 pub use Rattle.amqp_link_types.specs.Size
 pub mod AttachSent
@@ -11,4 +12,5 @@ pub mod Held
 pub mod IncompleteRefusals
 pub mod LinkStates
 pub mod Merging
+pub mod Resuming
 pub mod Targets

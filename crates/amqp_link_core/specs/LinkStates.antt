@@ -1,5 +1,5 @@
 -- The table of link states (OASIS AMQP 1.0 core, 2.6.3 to 2.6.6).
-use Rattle.std.specs.Prelude.{◌≡◌, Bool, true, false, Option, Some, None}
+use Rattle.std.specs.Prelude.{Bool, true, false, Option, Some, None}
 use Rattle.amqp_link_types.specs.declared.state.LinkState.{LinkState}
 use Rattle.amqp_link_types.specs.declared.state.LinkState.TheVariants.{Unattached, AttachSent, IncompleteAttachSent, AttachReceived, IncompleteAttachReceived, Attached, IncompleteAttachExchanged, DetachSent, Detached, CloseSent, Closed}
 

@@ -61,3 +61,7 @@ pub record IsSilent (t : Transfer) : Type 0 where
   pub format : t.message_format ≡ None
   pub settled : t.settled ≡ None
   pub state : t.state ≡ None
+
+-- what a silent transfer gives a delivery that it takes up again: its id
+abbrev pub resumed : Transfer → Transfer → Transfer
+resumed old t = record old { delivery_id = t.delivery_id }

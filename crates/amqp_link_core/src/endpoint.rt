@@ -5,10 +5,10 @@ ghost use Rattle.std.specs.Prelude.{Option, None, Some, Ok, Err, MatchOption, Ma
 ghost use Rattle.std.specs.Borrow.{Lends, sem};
 ghost use Rattle.std.specs.contracts.option.Option.{the_row as option_row};
 ghost use Rattle.amqp_link_types.specs.contracts.types.definitions.OutputHandle.{the_row as handle_row};
-ghost use Rattle.amqp_link_types.specs.contracts.types.fields.Fields.{the_row as fields_row};
+ghost use Rattle.amqp_link_values.specs.contracts.fields.Fields.{the_row as fields_row};
 ghost use Rattle.amqp_link_types.specs.declared.state.LinkState.{LinkState as TheState};
 ghost use Rattle.amqp_link_types.specs.declared.types.definitions.ReceiverSettleMode.{ReceiverSettleMode as TheMode};
-ghost use Rattle.amqp_link_types.specs.Data.{Data};
+ghost use Rattle.amqp_link_values.specs.Data.{Data};
 ghost use Rattle.amqp_link_types.specs.declared.types.definitions.OutputHandle.{OutputHandle as TheHandle};
 ghost use Rattle.amqp_link_types.specs.declared.types.definitions.Error.{Error as TheError};
 ghost use Rattle.amqp_link_types.specs.declared.types.delivery_state.DeliveryState.{DeliveryState as State};
@@ -21,6 +21,7 @@ ghost use Rattle.amqp_link_core.specs.Detaching.{detach_frame, recorded, remote_
 pub mod attached;
 pub mod detached;
 pub mod dividing;
+pub mod steps;
 pub mod table;
 pub mod target;
 
@@ -145,8 +146,8 @@ pub trait LinkAttach: LinkDetach {
     /// answered, in their order.
     ///
     /// Refused in this order, with nothing changed: illegal state without output handle, then where the
-    /// state has no row for it; too large where it fits with no delivery either. Want of memory may
-    /// come before the last.
+    /// state has no row for it; too large where it does not fit with no delivery named either. Want of
+    /// memory may come before the last.
     fn send_attach(
         &mut self,
         is_reattaching: bool,
@@ -190,7 +191,9 @@ pub trait LinkAttach: LinkDetach {
         ensures left { IfErr result (λ error. self.new ≡ left error self.old attach) }
         ensures step { MatchOption (next_state Call.IncomingAttach attach.incomplete_unsettled (Self.state self.old))
             (IsErrAnd result (λ error. error ≡ illegal_attach))
-            (λ next. OnOk result (Self.state self.new ≡ next)) }
+            (λ next. MatchResult result
+            (λ _. Self.state self.new ≡ next)
+            (λ error. (error ≡ out_of_memory) ⊎ (Self.state self.new ≡ next))) }
         ensures kept { IfNone (next_state Call.IncomingAttach attach.incomplete_unsettled (Self.state self.old))
             (self.new ≡ self.old) };
 
@@ -203,6 +206,16 @@ pub trait LinkAttach: LinkDetach {
     ghost state_emptied: { (l : Self) → Self.state (emptied l) ≡ Self.state l };
 
     ghost handle_emptied: { (l : Self) → Self.handle (emptied l) ≡ Self.handle l };
+
+    // It has no deliveries left, and want of memory leaves an end as it is.
+    ghost entries_emptied: { (l : Self) → entries (emptied l) ≡ [] };
+
+    ghost left_by_want: { (l : Self) (a : TheAttach) → left out_of_memory l a ≡ l };
+
+    // A detach leaves what an attach is measured by.
+    ghost moved_leaves_frame_limit: { (l : Self) (s : TheState) (h : Option TheHandle) → frame_limit (Self.moved l s h) ≡ frame_limit l };
+
+    ghost moved_leaves_entries: { (l : Self) (s : TheState) (h : Option TheHandle) → entries (Self.moved l s h) ≡ entries l };
 }
 
 /// A link end that can be attached and detached.
@@ -305,4 +318,20 @@ pub trait LinkExt: Link {
     ghost emptied_leaves_properties: { (l : Self) → properties_of (Self.emptied l) ≡ properties_of l };
 
     ghost emptied_leaves_flow: { (l : Self) → flow (Self.emptied l) ≡ flow l };
+
+    // Other properties are those that are shown then, and leave all else that is shown here but the
+    // flow, of which they are a part.
+    ghost properties_given: { (l : Self) (p : Option (List (List ℕ × Data))) → properties_of (with_properties l p) ≡ p };
+
+    ghost properties_leave_state: { (l : Self) (p : Option (List (List ℕ × Data))) → Self.state (with_properties l p) ≡ Self.state l };
+
+    ghost properties_leave_handle: { (l : Self) (p : Option (List (List ℕ × Data))) → Self.handle (with_properties l p) ≡ Self.handle l };
+
+    ghost properties_leave_name: { (l : Self) (p : Option (List (List ℕ × Data))) → name_of (with_properties l p) ≡ name_of l };
+
+    ghost properties_leave_deliveries: { (l : Self) (p : Option (List (List ℕ × Data))) → deliveries (with_properties l p) ≡ deliveries l };
+
+    ghost properties_leave_mode: { (l : Self) (p : Option (List (List ℕ × Data))) → receiver_mode (with_properties l p) ≡ receiver_mode l };
+
+    ghost properties_leave_limit: { (l : Self) (p : Option (List (List ℕ × Data))) → size_limit (with_properties l p) ≡ size_limit l };
 }

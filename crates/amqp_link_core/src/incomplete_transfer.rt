@@ -7,7 +7,7 @@ ghost use Rattle.std.specs.Prelude.{◌≡◌, ◌++◌, [], ◌∷◌};
 ghost use Rattle.std.specs.Prelude.{List, Some, not, nat_eq, length, IfOk, OnOk, OnErr};
 ghost use Rattle.std.specs.Str.{bytes_eq};
 ghost use Rattle.std.specs.Option.{option_or};
-ghost use Rattle.amqp_link_types.specs.Position.{position};
+ghost use Rattle.amqp_link_payloads.specs.Position.{position};
 ghost use Rattle.amqp_link_core.specs.Merging.{Came, Merged, IsSilent, opening, following};
 ghost use Rattle.amqp_link_core.specs.Held.{bytes_of};
 ghost use Rattle.amqp_link_core.specs.IncompleteRefusals.{Answers, start_tests, append_tests};
@@ -15,12 +15,13 @@ ghost use Rattle.amqp_link_core.specs.IncompleteRefusals.{differs as fields_diff
 
 mod merging;
 mod pieces;
+mod resuming;
 #[cfg(test)]
 mod tests;
 
 use crate::incomplete_transfer::merging::merge;
 use crate::incomplete_transfer::pieces::push_piece;
-use amqp_link_types::position::position_of;
+use amqp_link_payloads::position::position_of;
 use amqp_link_types::types::{DeliveryTag, Payload, ReceiverTransferError, Transfer};
 use std::alloc::{AllocError, Global};
 use std::marker::Model;
@@ -40,7 +41,7 @@ impl Model for IncompleteTransfer {
     ghost use Rattle.std.specs.Prelude.{◌≡◌, is_some, IsTrue};
     ghost use Rattle.std.specs.List.{concat};
     ghost use Rattle.std.specs.Coded.{codes};
-    ghost use Rattle.amqp_link_types.specs.contracts.types.fields.Fields as fields;
+    ghost use Rattle.amqp_link_values.specs.contracts.fields.Fields as fields;
     ghost use Rattle.amqp_link_core.specs.Held.{Held, IsCountable};
 
     ghost Value = { Held };
@@ -117,7 +118,7 @@ impl IncompleteTransfer {
         }
         self.size = push_piece(&mut self.pieces, self.size, payload)?;
         // All tests are behind, and all memory is taken.
-        merge(&mut self.performative, transfer);
+        merge(&mut self.performative, transfer, false);
         Ok(())
     }
 

@@ -4,5 +4,8 @@
 pub mod endpoint;
 pub mod incomplete_transfer;
 pub mod laws;
+pub mod link_parts;
+pub mod resumption;
 
 pub use incomplete_transfer::IncompleteTransfer;
+pub use link_parts::LinkParts;

@@ -1,3 +1,1 @@
-pub mod SendRefusals
-pub mod SplitLemmas
 pub mod Worked

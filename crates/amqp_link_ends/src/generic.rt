@@ -2,11 +2,12 @@
 ghost use Rattle.std.specs.Prelude.{◌≡◌, Some, OnOk};
 ghost use Rattle.amqp_link_types.specs.declared.state.LinkState.TheVariants.{Attached, Detached};
 
-use crate::receiver_link::ReceiverLink;
-use crate::samples::{parts, went};
-use crate::sender_link::SenderLink;
-use crate::table::{attached, coming, taken};
+use crate::samples::{coming, parts};
 use amqp_link_core::endpoint::LinkExt;
+use amqp_link_receiver::receiver_link::ReceiverLink;
+use amqp_link_samples::links::went;
+use amqp_link_samples::table::{attached, taken};
+use amqp_link_sender::sender_link::SenderLink;
 use amqp_link_types::state::LinkState;
 use amqp_link_types::types::{Detach, Handle, OutputHandle, Role, SenderSettleMode};
 use std::process::Abort;

@@ -1,13 +1,6 @@
-pub mod Entries
 pub mod EntriesLemmas
-pub mod HeaderLemmas
 pub mod MapLemmas
-pub mod PositionLemmas
-pub mod SameLevels
-pub mod ScanLemmas
 pub mod SizeLemmas
 pub mod Sizes
-pub mod StartsLemmas
 pub mod StatesLemmas
-pub mod TailLemmas
 pub mod Worked

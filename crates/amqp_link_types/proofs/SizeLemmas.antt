@@ -2,8 +2,8 @@
 use Rattle.std.proofs.Common.{ℕ, ◌≤◌, Option, Some, None, true, false, [], ◌∷◌, arith}
 use Rattle.std.proofs.lemmas.Bool.Decides.{nat_tests}
 use Rattle.std.specs.Prelude.{option_map}
-use Rattle.amqp_link_types.specs.Length.{array_len, fields_len}
-use Rattle.amqp_link_types.specs.Size.{before, content, list_of, uint_len, ulong_len, attach_len}
+use Rattle.amqp_link_values.specs.Length.{uint_len, ulong_len, array_len, fields_len}
+use Rattle.amqp_link_types.specs.Size.{before, content, list_of, attach_len}
 use Rattle.amqp_link_types.specs.declared.types.attach.Attach.{Attach}
 
 -- more bytes after a field, or in a list, make no fewer in all

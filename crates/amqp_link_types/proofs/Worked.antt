@@ -2,11 +2,9 @@
 use Rattle.std.proofs.Common.{◌≡◌, ℕ, pos, negsuc, true, false, List, [], ◌∷◌, replicate, refl, Option, Some, None}
 use Rattle.std.specs.Prelude.{codes}
 use Rattle.amqp_link_types.specs.Counts.{sdiff, granted, limit_of, after_consuming}
-use Rattle.amqp_link_types.specs.Data.{null, uint, int, map, described, no_pairs}
+use Rattle.amqp_link_types.specs.Counts.{flow_of, credit_after, sender_after, sender_reply, receiver_after, receiver_reply}
 use Rattle.amqp_link_types.specs.Entries.{Entries, with_entry, without_entry}
-use Rattle.amqp_link_types.specs.Header.{header_len}
-use Rattle.amqp_link_types.specs.Length.{encoded_len, fields_len}
-use Rattle.amqp_link_types.specs.Position.{starts, position}
+use Rattle.amqp_link_types.specs.Counts.{with_stated, stated_flow}
 use Rattle.amqp_link_types.specs.Size.{attach_len, transfer_len, before, list_of, state_len}
 use Rattle.amqp_link_types.specs.Size.{outcome_len, source_len, target_len, expiry_field}
 use Rattle.amqp_link_types.specs.declared.state.LinkFlowStateInner.{LinkFlowStateInner}
@@ -17,13 +15,15 @@ use Rattle.amqp_link_types.specs.declared.types.definitions.SenderSettleMode.The
 use Rattle.amqp_link_types.specs.declared.types.delivery_state.DeliveryState.{DeliveryState}
 use Rattle.amqp_link_types.specs.declared.types.delivery_state.DeliveryState.TheVariants.{Accepted, Received}
 use Rattle.amqp_link_types.specs.declared.types.delivery_state.Outcome.TheVariants as outcome
+use Rattle.amqp_link_types.specs.declared.types.performatives.LinkFlow.{LinkFlow}
 use Rattle.amqp_link_types.specs.declared.types.terminus.Source.{Source}
 use Rattle.amqp_link_types.specs.declared.types.terminus.Target.{Target}
 use Rattle.amqp_link_types.specs.declared.types.terminus.TargetArchetype.TheVariants as archetype
 use Rattle.amqp_link_types.specs.declared.types.terminus.TerminusDurability.TheVariants as durable
 use Rattle.amqp_link_types.specs.declared.types.terminus.TerminusExpiryPolicy.TheVariants as expiry
 use Rattle.amqp_link_types.specs.declared.types.transfer.Transfer.{Transfer}
-use Rattle.amqp_link_types.specs.declared.types.value.Descriptor.TheVariants.{Code}
+use Rattle.amqp_link_types.specs.DeliveryStates.{is_terminal}
+use Rattle.amqp_link_types.specs.Unsettled.{states_of}
 
 -- ---- counts
 
@@ -58,6 +58,66 @@ limit_at_the_wrap = refl
 limit_stays : limit_of (after_consuming 1 at_the_wrap) ≡ 2
 limit_stays = refl
 
+-- a receiver that has seen three deliveries fewer grants 10 and drains
+abbrev draining : LinkFlow
+draining = record {
+  handle = record { 0 = 4 };
+  delivery_count = Some 4294967292;
+  link_credit = Some 10;
+  available = Some 6;
+  drain = true;
+  echo = false;
+  properties = None;
+}
+
+granted_by_a_flow : credit_after draining at_the_wrap ≡ 7
+granted_by_a_flow = refl
+
+nothing_granted : credit_after (record draining { link_credit = None }) at_the_wrap ≡ 3
+nothing_granted = refl
+
+-- where the flow has no count, the initial count 0 is meant: one ahead of the own
+granted_at_the_initial_count : credit_after (record draining { delivery_count = None }) at_the_wrap ≡ 11
+granted_at_the_initial_count = refl
+
+drained_sender : sender_after draining at_the_wrap ≡ record at_the_wrap { delivery_count = 6; link_credit = 0; drain = true }
+drained_sender = refl
+
+reply_to_a_drain : sender_reply draining at_the_wrap (record { 0 = 9 }) ≡ Some (record {
+  handle = record { 0 = 9 };
+  delivery_count = Some 6;
+  link_credit = Some 0;
+  available = Some 0;
+  drain = true;
+  echo = false;
+  properties = None;
+})
+reply_to_a_drain = refl
+
+receiver_keeps_its_credit : receiver_after draining at_the_wrap ≡ record at_the_wrap { delivery_count = 4294967292; available = 6 }
+receiver_keeps_its_credit = refl
+
+no_echo_is_asked : receiver_reply draining at_the_wrap (record { 0 = 9 }) ≡ None
+no_echo_is_asked = refl
+
+echo_is_answered : receiver_reply (record draining { echo = true }) at_the_wrap (record { 0 = 9 }) ≡
+    Some (flow_of (receiver_after draining at_the_wrap) (record { 0 = 9 }) false)
+echo_is_answered = refl
+
+credit_alone_is_set : with_stated (Some 8) None at_the_wrap ≡ record at_the_wrap { link_credit = 8 }
+credit_alone_is_set = refl
+
+stated_to_the_sender : stated_flow (with_stated (Some 8) None at_the_wrap) (record { 0 = 9 }) true false ≡ record {
+  handle = record { 0 = 9 };
+  delivery_count = Some 4294967295;
+  link_credit = Some 8;
+  available = None;
+  drain = false;
+  echo = true;
+  properties = None;
+}
+stated_to_the_sender = refl
+
 -- ---- maps
 
 put_in_place : with_entry {V = ℕ} ((1 ∷ [], 5) ∷ (2 ∷ [], 6) ∷ []) (1 ∷ []) 7 ≡ (1 ∷ [], 7) ∷ (2 ∷ [], 6) ∷ []
@@ -69,50 +129,7 @@ put_last = refl
 last_takes_the_gap : without_entry {V = ℕ} ((1 ∷ [], 5) ∷ (2 ∷ [], 6) ∷ (3 ∷ [], 7) ∷ []) (1 ∷ []) ≡ (3 ∷ [], 7) ∷ (2 ∷ [], 6) ∷ []
 last_takes_the_gap = refl
 
--- ---- positions
-
-abbrev eight : List ℕ
-eight = 0x00 ∷ 0x53 ∷ 0x70 ∷ 0xC0 ∷ 0x00 ∷ 0x53 ∷ 0x77 ∷ 0x41 ∷ []
-
-header_there : header_len (0x00 ∷ 0x80 ∷ 0x78 ∷ []) ≡ 3
-unfolding header_len
-header_there = refl
-
-no_header : header_len (0x00 ∷ 0x53 ∷ 0x79 ∷ []) ≡ 0
-unfolding header_len
-no_header = refl
-
-eight_starts : starts eight ≡ 0 ∷ 4 ∷ []
-unfolding starts header_len
-eight_starts = refl
-
-eight_ends : position eight ≡ (1, 4)
-unfolding starts header_len
-eight_ends = refl
-
-nothing_ends : position [] ≡ (0, 0)
-unfolding starts header_len
-nothing_ends = refl
-
 -- ---- lengths
-
-uint_at_255 : encoded_len (uint 255) ≡ 2
-uint_at_255 = refl
-
-uint_at_256 : encoded_len (uint 256) ≡ 5
-uint_at_256 = refl
-
-int_at_128 : encoded_len (int (pos 128)) ≡ 5
-int_at_128 = refl
-
-empty_map : encoded_len (map no_pairs) ≡ 3
-empty_map = refl
-
-one_pair : fields_len ((codes "k", uint 7) ∷ []) ≡ 8
-one_pair = refl
-
-described_null : encoded_len (described (Code 117) null) ≡ 4
-described_null = refl
 
 state_at_the_start : state_len (Received 0 0) ≡ 8
 unfolding before list_of
@@ -232,3 +249,11 @@ four_entries = (replicate 4 0, None) ∷ (replicate 4 1, None) ∷ (replicate 4 
 attach_of_four : attach_len (record plain_attach { unsettled = Some four_entries }) ≡ 54
 unfolding attach_len before list_of
 attach_of_four = refl
+
+-- ---- states
+
+received_is_not_terminal : is_terminal (Received 0 2) ≡ false
+received_is_not_terminal = refl
+
+state_of_one_just_sent : states_of ((1 ∷ [], record { payload = 7 ∷ []; state = None; message_format = 0 }) ∷ []) ≡ (1 ∷ [], None) ∷ []
+state_of_one_just_sent = refl

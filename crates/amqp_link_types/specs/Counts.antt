@@ -1,8 +1,12 @@
 -- Delivery counts, which wrap, and link credit (OASIS AMQP 1.0 core, 2.6.7). A count is a serial
 -- number of 32 bits (RFC 1982).
 use Rattle.std.specs.Prelude.{ℕ, ◌+◌, ◌-◌, ◌%◌, ◌^◌, ℤ, pos, ◌+ℤ◌, ◌-ℤ◌, nat_lt, if◌then◌else◌}
+use Rattle.std.specs.Prelude.{Bool, true, false, ◌||◌, Option, Some, None, unwrap_or}
 use Rattle.std.specs.Int.{w32, saturate_unsigned}
+use Rattle.std.specs.Option.{option_map_or}
 use Rattle.amqp_link_types.specs.declared.state.LinkFlowStateInner.{LinkFlowStateInner}
+use Rattle.amqp_link_types.specs.declared.types.definitions.OutputHandle.{OutputHandle}
+use Rattle.amqp_link_types.specs.declared.types.performatives.LinkFlow.{LinkFlow}
 
 -- the one number from -2^31 to 2^31 - 1 that is a - b but for a multiple of 2^32, of two counts
 abbrev pub sdiff : ℕ → ℕ → ℤ
@@ -24,4 +28,69 @@ abbrev pub after_consuming : ℕ → LinkFlowStateInner → LinkFlowStateInner
 after_consuming n flow = record flow {
   delivery_count = (flow.delivery_count + n) % 2 ^ 32;
   link_credit = flow.link_credit - n;
+}
+
+-- ---- flows
+
+-- how an end stands, as a flow at its handle, without properties
+abbrev pub flow_of : LinkFlowStateInner → OutputHandle → Bool → LinkFlow
+flow_of own handle echo = record {
+  handle = record { 0 = handle.0 };
+  delivery_count = Some own.delivery_count;
+  link_credit = Some own.link_credit;
+  available = Some own.available;
+  drain = own.drain;
+  echo = echo;
+  properties = None;
+}
+
+-- the receiver's count, by its flow: where it has seen no delivery, the initial one
+abbrev pub count_in : LinkFlow → LinkFlowStateInner → ℕ
+count_in flow own = unwrap_or flow.delivery_count own.initial_delivery_count
+
+-- a sender's credit once a receiver's flow came, before any drain
+abbrev pub credit_after : LinkFlow → LinkFlowStateInner → ℕ
+credit_after flow own = option_map_or
+    (λ credit. granted (count_in flow own) credit own.delivery_count) flow.link_credit own.link_credit
+
+-- a sender once that flow came: a drain takes all credit to the count
+abbrev pub sender_after : LinkFlow → LinkFlowStateInner → LinkFlowStateInner
+sender_after flow own =
+    if flow.drain
+    then record own {
+      delivery_count = (own.delivery_count + credit_after flow own) % 2 ^ 32;
+      link_credit = 0;
+      drain = true;
+    }
+    else record own { link_credit = credit_after flow own; drain = false }
+
+-- a drain is always answered
+abbrev pub sender_reply : LinkFlow → LinkFlowStateInner → OutputHandle → Option LinkFlow
+sender_reply flow own handle =
+    if flow.drain || flow.echo then Some (flow_of (sender_after flow own) handle false) else None
+
+-- a receiver once a sender's flow came: it keeps its credit and its drain
+abbrev pub receiver_after : LinkFlow → LinkFlowStateInner → LinkFlowStateInner
+receiver_after flow own = record own {
+  delivery_count = unwrap_or flow.delivery_count own.delivery_count;
+  available = unwrap_or flow.available own.available;
+}
+
+abbrev pub receiver_reply : LinkFlow → LinkFlowStateInner → OutputHandle → Option LinkFlow
+receiver_reply flow own handle =
+    if flow.echo then Some (flow_of (receiver_after flow own) handle false) else None
+
+-- a receiver with the credit and the drain flag that its user sets
+abbrev pub with_stated : Option ℕ → Option Bool → LinkFlowStateInner → LinkFlowStateInner
+with_stated credit drain own = record own {
+  link_credit = unwrap_or credit own.link_credit;
+  drain = unwrap_or drain own.drain;
+}
+
+-- what a receiver states of itself: nothing of what waits at the sender, and its properties where
+-- they are to be included
+abbrev pub stated_flow : LinkFlowStateInner → OutputHandle → Bool → Bool → LinkFlow
+stated_flow own handle echo include_properties = record (flow_of own handle echo) {
+  available = None;
+  properties = if include_properties then own.properties else None;
 }

@@ -2,10 +2,10 @@
 -- core, 1.6, 2.7 and 3.4). A length is a sum over the list of a type's fields, in the order of the
 -- standard's table.
 use Rattle.std.specs.Prelude.{◌+◌, ◌==◌, if◌then◌else◌, [], ◌∷◌}
-use Rattle.std.specs.Prelude.{ℕ, Bool, true, false, List, length, sum_by, codes, Option, Some, None, option_map}
-use Rattle.amqp_link_types.specs.Length.{unsigned_len, text_len, compound_len, array_len, fields_len}
+use Rattle.std.specs.Prelude.{ℕ, Bool, true, false, List, sum_by, codes, Option, Some, None, option_map}
+use Rattle.amqp_link_values.specs.Length.{bool_len, uint_len, ulong_len, bytes_len, compound_len, array_len, fields_len}
 use Rattle.amqp_link_types.specs.Entries.{Tag, Entries}
-use Rattle.amqp_link_types.specs.Data.{Data}
+use Rattle.amqp_link_values.specs.Data.{Data}
 use Rattle.amqp_link_types.specs.declared.types.attach.Attach.{Attach}
 use Rattle.amqp_link_types.specs.declared.types.definitions.Error.{Error}
 use Rattle.amqp_link_types.specs.declared.types.definitions.ReceiverSettleMode.{ReceiverSettleMode}
@@ -57,22 +57,6 @@ described_len fields = list_of (content fields)
 abbrev pub flag : Bool → Option ℕ
 flag false = None
 flag true = Some 1
-
--- an unsigned number of 32 bits
-abbrev pub uint_len : ℕ → ℕ
-uint_len n = unsigned_len 5 n
-
--- an unsigned number of 64 bits
-abbrev pub ulong_len : ℕ → ℕ
-ulong_len n = unsigned_len 9 n
-
--- a binary, a text or a symbol
-abbrev pub bytes_len : List ℕ → ℕ
-bytes_len bytes = text_len (length bytes)
-
--- a truth value that is there: 41 or 42
-abbrev pub bool_len : Bool → ℕ
-bool_len b = 1
 
 -- a settle mode that is there is a number of 8 bits (2.8.3)
 abbrev pub mode_len : ReceiverSettleMode → ℕ

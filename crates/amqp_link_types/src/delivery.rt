@@ -1,7 +1,14 @@
-//! What a sender keeps of a delivery, and what it answers for one (2.6.12).
-ghost use Rattle.std.specs.Prelude.{◌≡◌};
+//! Deliveries: what a sender keeps of one and answers for it, and what a receiver hands out (2.6.12).
+ghost use Rattle.std.specs.Prelude.{◌≡◌, Ok, Err};
+
+pub mod complete;
+pub mod info;
+#[cfg(test)]
+mod tests;
 
 use crate::types::{DeliveryState, DeliveryTag, LinkStateError, MessageFormat, Payload};
+pub use complete::Delivery;
+pub use info::DeliveryInfo;
 
 /// What became of a delivery: its state at the other end, if one was told, or why none will be.
 pub type DeliveryOutcome = Result<Option<DeliveryState>, LinkStateError>;
@@ -34,6 +41,30 @@ impl UnsettledMessage {
             state,
             message_format,
         }
+    }
+
+    /// What became of it where it is settled with what is known: its state, if any. Takes no memory.
+    pub fn settle(self) -> DeliveryOutcome
+        ensures { result ≡ Ok self.state }
+    {
+        Ok(self.state)
+    }
+
+    /// What became of it where it is settled with this state, or with none, whatever was known
+    /// before. Takes no memory.
+    pub fn settle_with_state(self, state: Option<DeliveryState>) -> DeliveryOutcome
+        ensures { result ≡ Ok state }
+    {
+        drop(self);
+        Ok(state)
+    }
+
+    /// What became of it where its outcome will never be told, for this reason. Takes no memory.
+    pub fn fail(self, error: LinkStateError) -> DeliveryOutcome
+        ensures { result ≡ Err error }
+    {
+        drop(self);
+        Err(error)
     }
 }
 

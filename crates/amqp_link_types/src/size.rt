@@ -4,10 +4,10 @@
 //! something follows it.
 #![tactic(auto, using(crate::proofs::Sizes::sizes))]
 
-ghost use Rattle.std.specs.Prelude.{ℕ, Some, option_map};
-ghost use Rattle.amqp_link_types.specs.Length.{IsU64Of, fields_len};
-ghost use Rattle.amqp_link_types.specs.Size.{before as slot, list_of, flag, bool_len, uint_len};
-ghost use Rattle.amqp_link_types.specs.Size.{ulong_len, bytes_len, mode_len, error_len, state_len};
+ghost use Rattle.std.specs.Prelude.{Some, option_map};
+ghost use Rattle.amqp_link_values.specs.Length.{IsU64Of};
+ghost use Rattle.amqp_link_types.specs.Size.{before as slot, list_of, flag};
+ghost use Rattle.amqp_link_types.specs.Size.{mode_len, error_len, state_len};
 ghost use Rattle.amqp_link_types.specs.Size.{rejected_len as rejected_length, transfer_len};
 ghost use Rattle.amqp_link_types.specs.Size.{modified_len as modified_length, outcome_len};
 
@@ -15,23 +15,10 @@ mod attach;
 mod terminus;
 #[cfg(test)]
 mod tests;
-pub(crate) mod value;
 
-use crate::size::value::{compound_len, text_len, unsigned_len};
-use crate::types::{
-    DeliveryState, DeliveryTag, Error, Fields, Outcome, ReceiverSettleMode, Symbol, Text, Transfer,
-};
-
-/// What has a length in bytes when it is written.
-pub trait EncodedLen {
-    // The length, which may pass u64.
-    ghost len_of: { Self → ℕ };
-
-    /// The number of bytes that this takes in its shortest code; none exactly where it passes u64.
-    /// Takes no memory.
-    fn encoded_len(&self) -> Option<u64>
-        ensures { IsU64Of (len_of self.now) result };
-}
+use crate::types::{DeliveryState, Error, Fields, Outcome, ReceiverSettleMode, Transfer};
+use amqp_link_values::length::EncodedLen;
+use amqp_link_values::length::value::compound_len;
 
 // ---- described lists
 
@@ -87,72 +74,7 @@ pub(crate) fn described(content: u64) -> Option<u64>
     }
 }
 
-// ---- plain values
-
-impl EncodedLen for bool {
-    ghost len_of = { bool_len };
-
-    fn encoded_len(&self) -> Option<u64> {
-        Some(1)
-    }
-}
-
-impl EncodedLen for u32 {
-    ghost len_of = { uint_len };
-
-    fn encoded_len(&self) -> Option<u64> {
-        Some(unsigned_len(5, u64::from(*self)))
-    }
-}
-
-impl EncodedLen for u64 {
-    ghost len_of = { ulong_len };
-
-    fn encoded_len(&self) -> Option<u64> {
-        Some(unsigned_len(9, *self))
-    }
-}
-
-impl EncodedLen for Text {
-    ghost len_of = { bytes_len };
-
-    fn encoded_len(&self) -> Option<u64> {
-        let words = self.as_str();
-        text_len(words.len())
-    }
-}
-
-impl EncodedLen for Symbol {
-    ghost len_of = { bytes_len };
-
-    fn encoded_len(&self) -> Option<u64> {
-        let name = self.as_str();
-        text_len(name.len())
-    }
-}
-
-impl EncodedLen for DeliveryTag {
-    ghost len_of = { bytes_len };
-
-    fn encoded_len(&self) -> Option<u64> {
-        text_len(self.as_bytes().len())
-    }
-}
-
-impl EncodedLen for Fields {
-    ghost len_of = { fields_len };
-
-    fn encoded_len(&self) -> Option<u64> {
-        let mut content = 0u64;
-        for (name, value) in self.entries().iter() {
-            let name = name.encoded_len()?;
-            content = content
-                .checked_add(name)?
-                .checked_add(value.encoded_len()?)?;
-        }
-        compound_len(content)
-    }
-}
+// ---- modes
 
 impl EncodedLen for ReceiverSettleMode {
     ghost len_of = { mode_len };

@@ -1,15 +1,14 @@
 //! The state and the flow state of a link endpoint (2.6.7).
 //!
-//! Only the receiver grants credit; a sender spends it, one for each delivery. Counts are serial
-//! numbers that wrap, so no line here compares two of them by `<`.
-ghost use Rattle.std.specs.Prelude.{◌≡◌, ◌↔◌, ◌<◌, IfOk, IsErr, OnErr, OnOk};
+//! Only the receiver grants credit; each delivery takes one at both ends. Counts are serial numbers
+//! that wrap, so no line here compares two of them by `<`.
+ghost use Rattle.std.specs.Prelude.{◌≡◌};
 ghost use Rattle.std.specs.Borrow.{Lends, sem};
-ghost use Rattle.std.specs.Int.{w32, to_be_bytes};
 ghost use Rattle.std.specs.contracts.option.Option.{the_row as option_row};
 ghost use Rattle.amqp_link_types.specs.contracts.state.LinkFlowState.{the_row as flow_row};
-ghost use Rattle.amqp_link_types.specs.contracts.types.fields.Fields.{the_row as fields_row};
-ghost use Rattle.amqp_link_types.specs.Counts.{after_consuming, limit_of};
+ghost use Rattle.amqp_link_values.specs.contracts.fields.Fields.{the_row as fields_row};
 
+mod flow;
 #[cfg(test)]
 mod tests;
 
@@ -105,7 +104,7 @@ pub struct LinkFlowState<R> {
 
 impl<R> Model for LinkFlowState<R> {
     ghost use Rattle.std.specs.Coded.{codes};
-    ghost use Rattle.amqp_link_types.specs.contracts.types.fields.Fields as fields;
+    ghost use Rattle.amqp_link_values.specs.contracts.fields.Fields as fields;
     ghost use Rattle.amqp_link_types.specs.declared.state.LinkFlowStateInner.{LinkFlowStateInner as Inner};
 
     ghost Value = { Inner };
@@ -202,34 +201,5 @@ impl LinkFlowState<SenderMarker> {
             inner,
             role: PhantomData,
         }
-    }
-
-    /// Moves `n` credits to the count, which wraps, and answers the count before as four bytes, the
-    /// highest first: the tag of the delivery that spends them. Takes no memory.
-    ///
-    /// Refused, with nothing changed, where there is less credit.
-    pub fn consume(&mut self, n: u32) -> Result<[u8; 4], InsufficientCredit>
-        ensures tag { IfOk result (λ tag. tag ≡ to_be_bytes w32 self.old.delivery_count) }
-        ensures spent { OnOk result (self.new ≡ after_consuming n self.old) }
-        ensures limit { OnOk result (limit_of self.new ≡ limit_of self.old) }
-        ensures refused { IsErr result ↔ (self.old.link_credit < n) }
-        ensures kept { OnErr result (self.new ≡ self.old) }
-    {
-        let flow = &mut self.inner;
-        if flow.link_credit < n {
-            return Err(InsufficientCredit);
-        }
-        let tag = flow.delivery_count.to_be_bytes();
-        flow.delivery_count = flow.delivery_count.wrapping_add(n);
-        flow.link_credit -= n;
-        Ok(tag)
-    }
-
-    /// Sets the credit. It stands in for an incoming flow until that is there.
-    pub fn set_link_credit(&mut self, credit: u32)
-        ensures { self.new ≡ record self.old { link_credit = credit } }
-    {
-        let flow = &mut self.inner;
-        flow.link_credit = credit;
     }
 }

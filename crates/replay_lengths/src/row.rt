@@ -3,8 +3,8 @@ ghost use Rattle.std.specs.Prelude.{◌≡◌, ◌↔◌, Some, IsTrue};
 
 use crate::error::RowError;
 use crate::reader::{ReadFrom, Reader};
-use amqp_link_types::size::EncodedLen;
 use amqp_link_types::types::{Attach, DeliveryState, Error, Source, Target, Transfer, Value};
+use amqp_link_values::length::EncodedLen;
 use std::alloc::Global;
 use std::fmt;
 

@@ -23,7 +23,7 @@ pub(crate) struct Deliveries {
 impl Model for Deliveries {
     ghost use Rattle.std.specs.Coded.{codes};
     ghost use Rattle.amqp_link_types.specs.Entries.{Entries};
-    ghost use Rattle.amqp_link_types.specs.contracts.types.fields.Fields as fields;
+    ghost use Rattle.amqp_link_values.specs.contracts.fields.Fields as fields;
     ghost use Rattle.amqp_link.specs.declared.pair.progress.Progress.{Progress as Kept};
 
     ghost Value = { Entries Kept };

@@ -4,13 +4,16 @@ ghost use Rattle.std.specs.Prelude.{◌≡◌};
 use std::alloc::{AllocError, AllocFailed};
 use thiserror::Error;
 
-/// Why a pair refused a call. Nothing has changed.
+/// Why a pair refused a call. Nothing has changed, but where an attach is half-way.
 #[derive(Clone, Copy, Debug, PartialEq, Eq, Error)]
 pub enum PairError {
     /// Both ends are attached already.
     #[error("the ends are attached already")]
     AlreadyAttached,
-    /// The frame limit leaves no room for a transfer. Try a greater one.
+    /// The ends have begun to attach at another limit. Go on with that one.
+    #[error("the ends are attaching at another frame limit")]
+    LimitChanged,
+    /// The frame limit leaves no room for a transfer, or for an attach. Try a greater one.
     #[error("the frame limit is too small")]
     LimitTooSmall,
     /// The ends are not attached. Attach them first.

@@ -3,7 +3,7 @@ ghost use Rattle.std.specs.Prelude.{◌≡◌, ◌++◌, None, Some, IfOk, OnOk,
 ghost use Rattle.amqp_link_types.specs.Entries.{Entries, entry_at, with_entry};
 ghost use Rattle.amqp_link_types.specs.Frames.{payload_of};
 ghost use Rattle.amqp_link_core.specs.Held.{bytes_of};
-ghost use Rattle.amqp_link_types.specs.Position.{position};
+ghost use Rattle.amqp_link_payloads.specs.Position.{position};
 ghost use Rattle.amqp_link.specs.Receiving.{CanReceive, IsReceived};
 ghost use Rattle.amqp_link.specs.Steps.{held_after, received, begun};
 ghost use Rattle.amqp_link.specs.Worlds.{bytes_in};
@@ -66,34 +66,36 @@ fn go_on(held: &mut IncompleteTransfer, next: &LinkTransfer) -> Result<(u32, u64
 }
 
 impl Progress {
-    // The next transfer comes, with this id where it is the first. Answers the position after it.
+    // The next transfer comes, with this id where it is the first. Answers the position after it, and
+    // whether the last has come.
     fn receive(
         &mut self,
         alloc: Global,
         frame: &LinkFrame,
         id: DeliveryNumber,
-    ) -> Result<(u32, u64), AllocError>
+    ) -> Result<(u32, u64, bool), AllocError>
         requires { CanReceive self.old.held frame.now }
         ensures done { OnOk result (self.new ≡ received self.old id frame.now) }
-        ensures place { IfOk result (λ place.
-            place ≡ position (bytes_in self.old.held ++ payload_of frame.now)) }
+        ensures place { IfOk result (λ came.
+            (came.0, came.1) ≡ position (bytes_in self.old.held ++ payload_of frame.now)) }
+        ensures whole { IfOk result (λ came. came.2 ≡ self.new.whole) }
         ensures left { OnErr result (self.new ≡ self.old) }
     {
         match frame {
             LinkFrame::FirstTransfer(first) => {
                 let held = begin(alloc, first, id)?;
-                let place = (held.section_number(), held.section_offset());
+                let (number, offset) = (held.section_number(), held.section_offset());
                 self.held = Some(held);
                 self.whole = self.whole || !first.performative.more;
-                Ok(place)
+                Ok((number, offset, self.whole))
             }
             LinkFrame::TransferContinuation(next) => {
                 let Some(held) = &mut self.held else {
                     unreachable!()
                 };
-                let place = go_on(held, next)?;
+                let (number, offset) = go_on(held, next)?;
                 self.whole = self.whole || !next.performative.more;
-                Ok(place)
+                Ok((number, offset, self.whole))
             }
             _ => unreachable!(),
         }
@@ -105,7 +107,7 @@ fn put_back(deliveries: &mut Deliveries, tag: &DeliveryTag, progress: Progress)
     requires { IsSome (entry_at deliveries.old tag.now) }
     ensures { deliveries.new ≡ with_entry deliveries.old tag.now progress }
 {
-    let _ = deliveries.replace(tag, progress);
+    drop(deliveries.replace(tag, progress));
 }
 
 // A delivery of which nothing has come.
@@ -136,17 +138,17 @@ pub(crate) fn close(deliveries: &mut Deliveries, tag: &DeliveryTag)
 }
 
 /// The next transfer of a delivery comes, with this id where it is the first. Answers the position
-/// after it. Only memory can be wanting, and nothing has changed then.
+/// after it, and whether the last has come. Only memory can be wanting, and nothing has changed then.
 pub(crate) fn receive(
     deliveries: &mut Deliveries,
     alloc: Global,
     tag: &DeliveryTag,
     frame: &LinkFrame,
     id: DeliveryNumber,
-) -> Result<(u32, u64), AllocError>
+) -> Result<(u32, u64, bool), AllocError>
     requires { IsSomeAnd (entry_at deliveries.old tag.now) (λ p. CanReceive p.held frame.now) }
-    ensures done { IfOk result (λ place.
-        IsReceived deliveries.old tag.now id frame.now place deliveries.new) }
+    ensures done { IfOk result (λ came.
+        IsReceived deliveries.old tag.now id frame.now (came.0, came.1) came.2 deliveries.new) }
     ensures left { OnErr result (deliveries.new ≡ deliveries.old) }
 {
     let Ok(mut progress) = deliveries.replace(tag, blank()) else {

@@ -47,10 +47,10 @@ fn run(pair: &mut Pair, events: &[Event])
 // Two sends with an arrival between them, and as many arrivals as are left.
 fn two_deliveries(alloc: Global) -> Result<Vec<Event>, AllocError> {
     let mut events = Vec::new(alloc);
-    let seven = Payload::copy_from_slice(alloc, &[1, 2, 3, 4, 5, 6, 7])?;
-    let two = Payload::copy_from_slice(alloc, &[8, 9])?;
+    let eight = Payload::copy_from_slice(alloc, &[1, 2, 3, 4, 5, 6, 7, 8])?;
+    let two = Payload::copy_from_slice(alloc, &[9, 10])?;
     events.push(Event::Grant(2))?;
-    events.push(Event::Send(seven))?;
+    events.push(Event::Send(eight))?;
     events.push(Event::Arrive(3))?;
     events.push(Event::Send(two))?;
     events.push(Event::Arrive(4))?;
@@ -58,13 +58,14 @@ fn two_deliveries(alloc: Global) -> Result<Vec<Event>, AllocError> {
     Ok(events)
 }
 
-// At a limit of 31, seven bytes go as six and one, and the count wraps between the deliveries.
+// At a limit of 32, eight bytes go as seven and one, and the count wraps between the deliveries.
 #[test]
 fn two_deliveries_come_whole(rt: HostRuntime) {
     let mut pair = Pair::new(rt.alloc(), 4294967295).expect(&rt, "memory");
     let events = two_deliveries(rt.alloc()).expect(&rt, "memory");
-    assert_eq!(rt; pair.attach(31), Ok(0));
+    assert_eq!(rt; pair.attach(32), Ok(0));
     run(&mut pair, &events);
     let empty = matches!(pair.arrive(0), Err(PairError::WireEmpty));
     assert!(rt; empty, "all came");
+    drop(pair);
 }

@@ -1,57 +1,18 @@
 //! The sender's end of a pair.
-ghost use Rattle.std.specs.Prelude.{◌≡◌, [], None, Some, length, IfOk, OnOk, OnErr, true, false};
+ghost use Rattle.std.specs.Prelude.{◌≡◌, length, IfOk, OnOk, OnErr};
 ghost use Rattle.std.specs.Int.{w32, to_be_bytes};
-ghost use Rattle.amqp_link_ends.specs.Room.{payload_limit};
+ghost use Rattle.amqp_link_sender.specs.Room.{payload_limit};
 ghost use Rattle.amqp_link.specs.Sendable.{CanSend};
-ghost use Rattle.amqp_link_ends.specs.Senders.{IsSent, next_tag as tag_of_next};
-ghost use Rattle.amqp_link_ends.specs.Split.{Least};
-ghost use Rattle.amqp_link.specs.Steps.{after_sending, delivery_transfer, new_sender as first_sender};
+ghost use Rattle.amqp_link_sender.specs.Senders.{IsSent, next_tag as tag_of_next};
+ghost use Rattle.amqp_link_sender.specs.Split.{Least};
+ghost use Rattle.amqp_link.specs.Steps.{after_sending, delivery_transfer};
 
 use amqp_link_core::endpoint::LinkExt;
-use amqp_link_ends::link_parts::LinkParts;
-use amqp_link_ends::sender_link::{SenderLink, Sending, Waiting};
+use amqp_link_sender::sender_link::{SenderLink, Sending, Waiting};
 use amqp_link_types::delivery::Settlement;
 use amqp_link_types::frame::LinkFrame;
-use amqp_link_types::state::LinkFlowStateInner;
-use amqp_link_types::types::{
-    DeliveryTag, LinkStateError, Payload, ReceiverSettleMode, SenderSettleMode, SequenceNo, Source,
-    Target, Text,
-};
+use amqp_link_types::types::{DeliveryTag, LinkStateError, Payload, Target};
 use std::alloc::{AllocError, Global};
-
-// A sender that is not attached, with this count and no credit.
-pub(crate) fn new_sender(
-    alloc: Global,
-    initial_delivery_count: SequenceNo,
-) -> Result<SenderLink<Target>, AllocError>
-    ensures { IfOk result (λ sender. sender ≡ first_sender initial_delivery_count) }
-{
-    let name = Text::from(String::from_str(alloc, "l")?);
-    Ok(SenderLink::new(
-        alloc,
-        LinkParts {
-            name,
-            snd_settle_mode: SenderSettleMode::Mixed,
-            rcv_settle_mode: ReceiverSettleMode::First,
-            source: Some(Source::default()),
-            target: Some(Target::default()),
-            max_message_size: 0,
-            offered_capabilities: None,
-            desired_capabilities: None,
-            flow_state: LinkFlowStateInner {
-                initial_delivery_count,
-                delivery_count: initial_delivery_count,
-                link_credit: 0,
-                available: 0,
-                drain: false,
-                properties: None,
-            },
-            max_frame_size: 0,
-            verify_incoming_source: false,
-            verify_incoming_target: false,
-        },
-    ))
-}
 
 // The tag of the sender's next delivery.
 pub(crate) fn next_tag(

@@ -1,5 +1,4 @@
 //! Worked values of a pair.
-use crate::pair::credit::granted;
 use crate::pair::{Arrived, Pair, PairError, Sent};
 use amqp_link_types::types::{DeliveryTag, Payload};
 use std::alloc::{AllocError, Global};
@@ -40,6 +39,7 @@ fn refusals_come_in_order(rt: HostRuntime) {
     assert_eq!(rt; pair.attach(28), Err(PairError::AlreadyAttached));
     assert_eq!(rt; place(pair.arrive(7)), Err(PairError::WireEmpty));
     assert_eq!(rt; frames(pair.send(&bytes)), Err(PairError::CreditMissing));
+    drop((pair, bytes));
 }
 
 // Twelve bytes at a limit of 30 go as five, five and two.
@@ -61,6 +61,8 @@ fn payload_comes_whole(rt: HostRuntime) {
     assert_eq!(rt; held.performative().delivery_id, Some(7));
     assert_eq!(rt; held.pieces().len(), 3);
     assert_eq!(rt; held.pieces()[2].as_slice(), [11, 12].as_slice());
+    drop((pair, bytes));
+    drop(first);
 }
 
 // Sends; where memory is refused nothing is under way, and the same call is made again.
@@ -86,6 +88,22 @@ fn arrive_again(
     came
 }
 
+// Attaches; where memory is refused no other limit is taken than the one that was begun with, and the
+// same call is made again.
+fn attach_again(pair: &mut Pair, limit: u32) -> Result<usize, PairError> {
+    let attached = pair.attach(limit);
+    let refused = attached == Err(PairError::OutOfMemory);
+    if refused
+        && matches!(
+            pair.attach(28),
+            Err(PairError::LimitTooSmall | PairError::LimitChanged)
+        )
+    {
+        return pair.attach(limit);
+    }
+    attached
+}
+
 // With one growth refused, whichever it is, the answers are those of a run where none is.
 #[test]
 fn refused_growth_loses_nothing(rt: HostRuntime) {
@@ -97,30 +115,13 @@ fn refused_growth_loses_nothing(rt: HostRuntime) {
     let bytes = bytes.expect(&rt, "memory");
     let pair = Pair::new(alloc, 0).or_else(|_| Pair::new(alloc, 0));
     let mut pair = pair.expect(&rt, "memory");
-    assert_eq!(rt; pair.attach(30), Ok(0));
+    assert_eq!(rt; attach_again(&mut pair, 30), Ok(0));
     assert_eq!(rt; pair.grant(1), Ok(1));
     assert_eq!(rt; send_again(&mut pair, &bytes), Ok(3));
     assert_eq!(rt; arrive_again(&mut pair, &first, 7), Ok((0, 5, false)));
     assert_eq!(rt; arrive_again(&mut pair, &first, 0), Ok((0, 10, false)));
     assert_eq!(rt; arrive_again(&mut pair, &first, 0), Ok((0, 12, true)));
     assert_eq!(rt; held_bytes(&pair, &first), Some(12));
-}
-
-// A receiver at the first count grants the second number to a sender at the third.
-#[test]
-fn grants_count_serially(rt: HostRuntime) {
-    for (count, grant, own, credit) in [
-        (4294967295u32, 10u32, 4294967295u32, 10u32),
-        (4294967290, 10, 2, 2),
-        (2147483648, 10, 0, 0),
-        (3, 4294967295, 5, 4294967293),
-        (5, 4294967295, 0, 4294967295),
-        (0, 1, 0, 1),
-    ] {
-        assert_eq!(rt;
-            granted(count, grant, own),
-            credit,
-            "{count} + {grant} at {own}"
-        );
-    }
+    drop((pair, bytes));
+    drop(first);
 }

@@ -33,7 +33,7 @@ impl Model for Wire {
     ghost Value = { WireSeen };
 
     ghost use Rattle.std.specs.Coded.{codes};
-    ghost use Rattle.amqp_link_types.specs.contracts.types.fields.Fields as fields;
+    ghost use Rattle.amqp_link_values.specs.contracts.fields.Fields as fields;
 
     ghost coded = { Prim.hlevel (codes, fields.the_row.coded) };
 

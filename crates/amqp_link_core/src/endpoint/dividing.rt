@@ -9,8 +9,8 @@ ghost use Rattle.amqp_link_core.specs.Attaching.{with_entries, Fits, NeverFits, 
 #[cfg(test)]
 mod tests;
 
-use amqp_link_types::size::EncodedLen;
 use amqp_link_types::types::{Attach, DeliveryState, UnsettledMap};
+use amqp_link_values::length::EncodedLen;
 
 /// Whether the attach fits in a frame of at most `max_frame_size` bytes, of which four are the
 /// frame's header. Takes no memory.

@@ -3,7 +3,7 @@ ghost use Rattle.std.specs.Prelude.{◌≡◌, ◌++◌, [], ◌∷◌, List, Op
 ghost use Rattle.std.specs.Option.{option_map_or};
 ghost use Rattle.amqp_link_types.specs.declared.types.delivery_state.DeliveryState.{DeliveryState as State};
 ghost use Rattle.amqp_link_types.specs.DeliveryStates.{is_terminal};
-ghost use Rattle.amqp_link_core.specs.Merging.{Came, Merged, following, present, settled_by, state_by};
+ghost use Rattle.amqp_link_core.specs.Merging.{Came, Merged, present, settled_by, state_by};
 
 use amqp_link_types::types::{DeliveryState, Transfer};
 
@@ -42,11 +42,15 @@ fn state_with(known: Option<DeliveryState>, told: Option<DeliveryState>) -> Opti
     }
 }
 
-// Merges a continuation into the transfers of a delivery. Takes no memory.
-pub(crate) fn merge(held: &mut Transfer, transfer: Transfer)
+// Merges one more transfer into those of a delivery; one that opens it again gives it its id. Takes
+// no memory.
+pub(crate) fn merge(held: &mut Transfer, transfer: Transfer, opens: bool)
     ensures { (came : List Came) → Merged came held.old
-        → Merged (came ++ following transfer ∷ []) held.new }
+        → Merged (came ++ record { opens = opens; transfer = transfer } ∷ []) held.new }
 {
+    if opens {
+        held.delivery_id = transfer.delivery_id;
+    }
     held.message_format = held.message_format.or(transfer.message_format);
     held.settled = settled_with(held.settled, transfer.settled);
     held.state = state_with(held.state.take(), transfer.state);

@@ -1,11 +1,13 @@
 //! The pieces of a payload, and whether they can be counted.
-ghost use Rattle.std.specs.Prelude.{◌≡◌, ◌++◌, ◌∷◌, [], length, OnOk, OnErr, IfOk};
+ghost use Rattle.std.specs.Prelude.{◌≡◌, ◌+◌, ◌<◌, ◌≤◌, ◌++◌, ◌∷◌, []};
+ghost use Rattle.std.specs.Prelude.{length, take, slice_get, OnOk, OnErr, IfOk, IsSomeAnd};
 ghost use Rattle.std.specs.List.{concat};
 ghost use Rattle.amqp_link_core.specs.Held.{IsCountable};
 ghost use Rattle.amqp_link_core.specs.IncompleteRefusals.{Answers, long_test};
 
-use amqp_link_types::position::position_of;
+use amqp_link_payloads::position::position_of;
 use amqp_link_types::types::{Payload, ReceiverTransferError};
+use std::alloc::AllocError;
 
 // Adds a piece to pieces of that size, and answers the size of all. Where it is refused they stay
 // as they are.
@@ -29,4 +31,40 @@ pub(crate) fn push_piece(
         return Err(ReceiverTransferError::PayloadTooLong);
     }
     Ok(size)
+}
+
+// Keeps that many bytes of the pieces: some of them whole, and of the next a front. Where memory for
+// it is refused they stay as they are.
+pub(crate) fn cut_pieces(pieces: &mut Vec<Payload>, size: u64) -> Result<(), AllocError>
+    requires { size ≤ length (concat pieces.old.items) }
+    ensures kept { OnOk result (concat pieces.new.items ≡ take size (concat pieces.old.items)) }
+    ensures err { OnErr result (pieces.new.items ≡ pieces.old.items) }
+{
+    let (whole, rest) = cut_at(pieces.as_slice(), size);
+    if rest > 0 {
+        let front = pieces[whole].slice(..rest)?;
+        // All memory is taken.
+        pieces[whole] = front;
+        pieces.truncate(whole + 1);
+    } else {
+        pieces.truncate(whole);
+    }
+    Ok(())
+}
+
+// How many pieces lie within that many bytes, and how many bytes of the next one.
+fn cut_at(pieces: &[Payload], size: u64) -> (usize, usize)
+    requires { size ≤ length (concat pieces.now) }
+    ensures size { length (concat (take result.0 pieces.now)) + result.1 ≡ size }
+    ensures within { 0 < result.1
+        → IsSomeAnd (slice_get pieces.now result.0) (λ piece. result.1 ≤ length piece) }
+{
+    let mut rest = size;
+    for (i, piece) in pieces.iter().enumerate() {
+        if rest < piece.len() as u64 {
+            return (i, rest as usize);
+        }
+        rest -= piece.len() as u64;
+    }
+    (pieces.len(), 0)
 }

@@ -7,6 +7,8 @@ use bytes::Bytes;
 use std::alloc::{AllocError, Global};
 use std::test::Fail;
 
+mod resuming;
+
 // What a transfer tells of the delivery's state.
 #[derive(Clone, Copy, Debug, PartialEq, Eq)]
 enum Told {
@@ -167,6 +169,7 @@ fn continuation_fits_delivery(rt: HostRuntime) -> Result<(), Fail> {
     assert_eq!(rt; append(&mut held, alloc, FIRST, b""), Ok(()));
     assert_eq!(rt; seen(&held), (FIRST, 3, 21, (0, 21)));
     assert_eq!(rt; held.delivery_tag().as_bytes(), [1].as_slice());
+    drop(held);
     Ok(())
 }
 
@@ -183,6 +186,7 @@ fn delivery_is_known_by_tag(rt: HostRuntime) -> Result<(), Fail> {
     for (tag, want) in [(Some(1), true), (None, true), (Some(2), false)] {
         assert_eq!(rt; is_same(&held, alloc, tag), Ok(want), "{tag:?}");
     }
+    drop(held);
     Ok(())
 }
 
@@ -280,6 +284,7 @@ fn first_format_stays(rt: HostRuntime) -> Result<(), Fail> {
         Err(Refused::InconsistentFieldInMultiFrameDelivery)
     );
     assert_eq!(rt; seen(&held), (merged, 2, 0, (0, 0)));
+    drop(held);
     Ok(())
 }
 
@@ -297,7 +302,7 @@ fn position_is_of_joined_pieces(rt: HostRuntime) -> Result<(), Fail> {
     assert_eq!(rt; append(&mut held, alloc, BARE, b""), Ok(()));
     assert_eq!(rt; append(&mut held, alloc, BARE, b"\x53\x77\x41"), Ok(()));
     assert_eq!(rt; seen(&held), (FIRST, 3, 8, (1, 4)));
-    let copy = held.clone()?;
+    let copy = held.clone().expect(&rt, "memory");
     assert_eq!(rt; seen(&copy), (FIRST, 3, 8, (1, 4)));
     assert_eq!(rt; parts_of(held), (FIRST, 3, (1, 4)));
     assert_eq!(rt; parts_of(copy), (FIRST, 3, (1, 4)));

@@ -2,15 +2,16 @@
 #![tactic(auto, using(crate::proofs::Sizes::sizes))]
 
 ghost use Rattle.std.specs.Prelude.{◌≡◌};
-ghost use Rattle.amqp_link_types.specs.Length.{IsU64Of};
+ghost use Rattle.amqp_link_values.specs.Length.{IsU64Of};
 ghost use Rattle.amqp_link_types.specs.Size.{snd_mode_field, rcv_mode_field, entry_len as entry_length};
 ghost use Rattle.amqp_link_types.specs.Size.{unsettled_len, attach_len};
 
-use crate::size::value::compound_len;
-use crate::size::{EncodedLen, before, before_flag, before_given, before_optional, described};
+use crate::size::{before, before_flag, before_given, before_optional, described};
 use crate::types::{
     Attach, DeliveryState, DeliveryTag, ReceiverSettleMode, SenderSettleMode, UnsettledMap,
 };
+use amqp_link_values::length::EncodedLen;
+use amqp_link_values::length::value::compound_len;
 
 // ---- fields with a default, which is a null
 

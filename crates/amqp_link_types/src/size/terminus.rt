@@ -2,24 +2,15 @@
 #![tactic(auto, using(crate::proofs::Sizes::sizes))]
 
 ghost use Rattle.std.specs.Prelude.{◌≡◌};
-ghost use Rattle.amqp_link_types.specs.Length.{IsU64Of, array_len as array_length};
 ghost use Rattle.amqp_link_types.specs.Size.{durable_field, expiry_field, timeout_field};
 ghost use Rattle.amqp_link_types.specs.Size.{distribution_len, source_len, target_len, archetype_len};
 
-use crate::size::value::{array_len, unsigned_len};
-use crate::size::{EncodedLen, before, before_flag, before_optional, described};
+use crate::size::{before, before_flag, before_optional, described};
 use crate::types::{
-    DistributionMode, Source, Symbols, Target, TargetArchetype, TerminusDurability,
-    TerminusExpiryPolicy,
+    DistributionMode, Source, Target, TargetArchetype, TerminusDurability, TerminusExpiryPolicy,
 };
-
-impl EncodedLen for Symbols {
-    ghost len_of = { array_length };
-
-    fn encoded_len(&self) -> Option<u64> {
-        array_len(self.as_slice())
-    }
-}
+use amqp_link_values::length::EncodedLen;
+use amqp_link_values::length::value::unsigned_len;
 
 // The symbols `move` and `copy` have four letters each.
 impl EncodedLen for DistributionMode {

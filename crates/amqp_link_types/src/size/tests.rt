@@ -1,11 +1,11 @@
 //! The lengths that the documents name, and one of each type. The other lengths that were worked by
 //! hand are rows of the program `replay_lengths`.
-use crate::size::EncodedLen;
 use crate::types::{
     Attach, DeliveryState, DeliveryTag, DistributionMode, Error, Fields, Handle, Outcome,
-    ReceiverSettleMode, Role, SenderSettleMode, Source, Symbol, Symbols, Target, TargetArchetype,
-    Text, Transfer, UnsettledMap, Value,
+    ReceiverSettleMode, Role, SenderSettleMode, Source, Symbol, Target, TargetArchetype, Text,
+    Transfer, UnsettledMap, Value,
 };
+use amqp_link_values::length::EncodedLen;
 use std::process::Abort;
 
 // What is measured, its length, and why.
@@ -29,12 +29,6 @@ fn symbol(rt: &(impl Abort + AllocGlobal), name: &str) -> Symbol {
 fn tag(rt: &(impl Abort + AllocGlobal), byte: u8) -> DeliveryTag {
     let bytes = vec![in rt.alloc(); byte; 4];
     DeliveryTag::from(bytes.expect(rt, "memory"))
-}
-
-// A symbol of 3 bytes, which takes 4, and 4 of array.
-fn symbols(rt: &(impl Abort + AllocGlobal)) -> Symbols {
-    let names = vec![in rt.alloc(); symbol(rt, "x:y")];
-    Symbols::from(names.expect(rt, "memory"))
 }
 
 // A field of one letter with the number 7: 3 of map, 3 of name and 2 of number.
@@ -140,17 +134,8 @@ fn a_first_transfer_has_21_bytes(rt: HostRuntime) {
 }
 
 #[test]
-fn types_without_fields_are_measured(rt: HostRuntime) {
-    row(&rt, true, 1, "a flag is a code");
-    row(&rt, 256u32, 5, "code and four bytes");
-    row(&rt, 256u64, 9, "code and eight bytes");
-    row(&rt, text(&rt, "q1"), 4, "code, size and two bytes");
-    row(&rt, symbol(&rt, "x:y"), 5, "code, size and three bytes");
-    row(&rt, tag(&rt, 0), 6, "code, size and four bytes");
-    row(&rt, symbols(&rt), 8, "one element of 4");
-    row(&rt, fields(&rt), 8, "one field of 5");
+fn maps_and_modes_are_measured(rt: HostRuntime) {
     row(&rt, unsettled(&rt), 31, "four entries of 7");
-    row(&rt, Value::Null, 1, "null is a code");
     row(&rt, ReceiverSettleMode::First, 2, "a mode is an ubyte");
     row(
         &rt,

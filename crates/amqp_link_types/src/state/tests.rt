@@ -1,17 +1,199 @@
 //! Worked values of flow states.
 use crate::role::{IntoRole, ReceiverMarker, SenderMarker};
 use crate::state::{InsufficientCredit, LinkFlowState, LinkFlowStateInner};
-use crate::types::Role;
+use crate::types::{Fields, LinkFlow, OutputHandle, Role, SequenceNo, Symbol, Value};
+use std::alloc::AllocError;
+use std::process::Abort;
+
+const HANDLE: OutputHandle = OutputHandle(7);
+
+// A sender's flow state at this count, without credit.
+fn sender_at(delivery_count: SequenceNo) -> LinkFlowState<SenderMarker> {
+    LinkFlowState::sender(LinkFlowStateInner {
+        delivery_count,
+        ..LinkFlowStateInner::default()
+    })
+}
+
+// Handle, count, credit, what is available, drain and echo of a flow without properties.
+fn told(flow: &LinkFlow) -> Option<(u32, u32, u32, u32, bool, bool)> {
+    if flow.properties.is_some() {
+        return None;
+    }
+    Some((
+        flow.handle.0,
+        flow.delivery_count?,
+        flow.link_credit?,
+        flow.available?,
+        flow.drain,
+        flow.echo,
+    ))
+}
 
 #[test]
 fn credit_is_spent_one_by_one(rt: HostRuntime) {
-    let mut flow = LinkFlowState::sender(LinkFlowStateInner::default());
-    assert_eq!(rt; flow.consume(1), Err(InsufficientCredit));
-    flow.set_link_credit(2);
-    assert_eq!(rt; flow.consume(1), Ok([0, 0, 0, 0]));
-    assert_eq!(rt; flow.consume(1), Ok([0, 0, 0, 1]));
-    assert_eq!(rt; flow.consume(1), Err(InsufficientCredit));
-    assert_eq!(rt; flow.delivery_count(), 2);
+    let mut state = sender_at(0);
+    assert_eq!(rt; state.consume(1), Err(InsufficientCredit));
+    assert!(rt;
+        state
+            .on_incoming_flow(&LinkFlow::default(), HANDLE)
+            .is_none()
+    );
+    assert_eq!(rt; state.consume(1), Err(InsufficientCredit));
+    let grant = LinkFlow {
+        link_credit: Some(2),
+        ..LinkFlow::default()
+    };
+    assert!(rt; state.on_incoming_flow(&grant, HANDLE).is_none());
+    assert_eq!(rt; state.consume(1), Ok([0, 0, 0, 0]));
+    assert_eq!(rt; state.consume(1), Ok([0, 0, 0, 1]));
+    assert_eq!(rt; state.consume(1), Err(InsufficientCredit));
+    assert_eq!(rt; state.delivery_count(), 2);
+}
+
+#[test]
+fn credit_is_counted_from_the_count_of_the_flow(rt: HostRuntime) {
+    let rows = [
+        (4294967295, 4294967295, 10, 10),
+        (2, 4294967290, 10, 2),
+        (0, 2147483648, 10, 0),
+        (5, 3, 4294967295, 4294967293),
+        (0, 5, 4294967295, 4294967295),
+    ];
+    for (own, count, credit, wanted) in rows {
+        let mut state = sender_at(own);
+        let grant = LinkFlow {
+            delivery_count: Some(count),
+            link_credit: Some(credit),
+            ..LinkFlow::default()
+        };
+        assert!(rt; state.on_incoming_flow(&grant, HANDLE).is_none());
+        assert_eq!(rt; state.link_credit(), wanted, "at {own}");
+        assert_eq!(rt; state.delivery_count(), own, "at {own}");
+    }
+}
+
+#[test]
+fn drain_takes_all_credit_to_the_count(rt: HostRuntime) {
+    let mut state = sender_at(4294967294);
+    let drain = LinkFlow {
+        delivery_count: Some(4294967294),
+        link_credit: Some(3),
+        drain: true,
+        ..LinkFlow::default()
+    };
+    let reply = state.on_incoming_flow(&drain, HANDLE);
+    assert_eq!(rt;
+        reply.as_ref().and_then(told),
+        Some((7, 1, 0, 0, true, false))
+    );
+    assert_eq!(rt; state.delivery_count(), 1);
+    assert_eq!(rt; state.link_credit(), 0);
+}
+
+#[test]
+fn receiver_takes_count_and_available(rt: HostRuntime) {
+    let mut state = LinkFlowState::receiver(LinkFlowStateInner {
+        delivery_count: 5,
+        link_credit: 4,
+        drain: true,
+        ..LinkFlowStateInner::default()
+    });
+    let flow = LinkFlow {
+        delivery_count: Some(7),
+        link_credit: Some(9),
+        available: Some(3),
+        echo: true,
+        ..LinkFlow::default()
+    };
+    let reply = state.on_incoming_flow(&flow, HANDLE);
+    assert_eq!(rt;
+        reply.as_ref().and_then(told),
+        Some((7, 7, 4, 3, true, false))
+    );
+    assert!(rt;
+        state
+            .on_incoming_flow(&LinkFlow::default(), HANDLE)
+            .is_none()
+    );
+    assert!(rt; state.consume(5).is_err());
+    assert!(rt; state.consume(4).is_ok());
+    assert_eq!(rt; state.delivery_count(), 11);
+    assert_eq!(rt; state.link_credit(), 0);
+}
+
+// Counts, a credit, what is available and a drain flag, with properties of one pair.
+fn draining(rt: &(impl Abort + AllocGlobal)) -> LinkFlowStateInner {
+    let mut properties = Fields::new(rt.alloc());
+    let name = String::from_str(rt.alloc(), "k").expect(rt, "memory");
+    drop(properties.insert(Symbol::from(name), Value::Uint(7)));
+    LinkFlowStateInner {
+        initial_delivery_count: 1,
+        delivery_count: 5,
+        link_credit: 4,
+        available: 6,
+        drain: true,
+        properties: Some(properties),
+    }
+}
+
+// What a flow tells: how many properties, count, credit, what is available, drain and echo.
+type Seen = (usize, Option<u32>, Option<u32>, Option<u32>, bool, bool);
+
+fn properties_in(flow: &LinkFlow) -> usize {
+    match &flow.properties {
+        Some(properties) => properties.len(),
+        None => 0,
+    }
+}
+
+fn seen(flow: &LinkFlow) -> Seen {
+    (
+        properties_in(flow),
+        flow.delivery_count,
+        flow.link_credit,
+        flow.available,
+        flow.drain,
+        flow.echo,
+    )
+}
+
+fn seen_in(answer: &Result<LinkFlow, AllocError>) -> Option<Seen> {
+    match answer {
+        Ok(flow) => Some(seen(flow)),
+        Err(_) => None,
+    }
+}
+
+fn flow_of(rt: &(impl Abort + AllocGlobal), echo: bool, included: bool) -> Option<Seen> {
+    let state = draining(rt);
+    let seen = seen_in(&state.as_link_flow(HANDLE, echo, included));
+    drop(state);
+    seen
+}
+
+// What a flow tells that sets the credit and the drain flag.
+fn stated(rt: &(impl Abort + AllocGlobal), included: bool) -> Option<Seen> {
+    let mut state = LinkFlowState::receiver(draining(rt));
+    let seen = seen_in(&state.state_flow(Some(9), Some(false), HANDLE, true, included));
+    drop(state);
+    seen
+}
+
+#[test]
+fn flows_tell_how_an_end_stands(rt: HostRuntime) {
+    let with_properties = Some((1, Some(5), Some(4), Some(6), true, true));
+    assert_eq!(rt; flow_of(&rt, true, true), with_properties);
+    let bare = Some((0, Some(5), Some(4), Some(6), true, false));
+    assert_eq!(rt; flow_of(&rt, false, false), bare);
+}
+
+#[test]
+fn receiver_states_what_it_sets(rt: HostRuntime) {
+    for (included, number) in [(true, 1), (false, 0)] {
+        let wanted = Some((number, Some(5), Some(9), None, false, true));
+        assert_eq!(rt; stated(&rt, included), wanted);
+    }
 }
 
 #[test]

@@ -1,14 +1,14 @@
 //! The attach performative (2.7.3).
 ghost use Rattle.std.specs.Prelude.{◌≡◌};
 
-use crate::types::copy::copies_of;
 use crate::types::definitions::{Handle, ReceiverSettleMode, Role, SenderSettleMode, SequenceNo};
 use crate::types::delivery_state::DeliveryState;
-use crate::types::fields::Fields;
-use crate::types::symbols::Symbols;
 use crate::types::terminus::{Source, TargetArchetype};
-use crate::types::text::Text;
 use crate::types::unsettled_map::UnsettledMap;
+use amqp_link_values::copy::copies_of;
+use amqp_link_values::fields::Fields;
+use amqp_link_values::symbols::Symbols;
+use amqp_link_values::text::Text;
 use std::alloc::AllocError;
 
 /// The attach performative (2.7.3): what an end says of a link as it takes it up.
@@ -32,7 +32,8 @@ pub struct Attach {
     pub unsettled: Option<UnsettledMap<Option<DeliveryState>>>,
     /// Whether there are more of those than the map says.
     pub incomplete_unsettled: bool,
-    /// The sender's delivery count as the link is taken up; a receiver has none to tell.
+    /// The delivery count with which the link is taken up: the sender's, or the one that a receiver
+    /// knows of.
     pub initial_delivery_count: Option<SequenceNo>,
     /// The bytes that a message may have; none and 0 are no limit.
     pub max_message_size: Option<u64>,

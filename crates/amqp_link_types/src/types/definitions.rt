@@ -1,11 +1,10 @@
 //! The small types of the definitions section (2.8).
 ghost use Rattle.std.specs.Prelude.{◌≡◌};
 
-use crate::types::copy::copy_of;
-use crate::types::fields::Fields;
-use crate::types::symbol::Symbol;
-use crate::types::text::Text;
-use bytes::Bytes;
+use amqp_link_values::copy::copy_of;
+use amqp_link_values::fields::Fields;
+use amqp_link_values::symbol::Symbol;
+use amqp_link_values::text::Text;
 use std::alloc::AllocError;
 
 /// The number that a session gives a delivery (2.8.8). It wraps.
@@ -16,9 +15,6 @@ pub type SequenceNo = u32;
 
 /// The format of a message (2.8.11); 0 is that of the standard.
 pub type MessageFormat = u32;
-
-/// The bytes of a delivery, or of one of its transfers. Its cuts and copies share the buffer.
-pub type Payload = Bytes;
 
 /// Which end of a link one is (2.8.1).
 #[derive(Clone, Copy, Debug, PartialEq, Eq, Hash)]

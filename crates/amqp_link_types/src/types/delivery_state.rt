@@ -2,9 +2,9 @@
 ghost use Rattle.std.specs.Prelude.{◌≡◌};
 ghost use Rattle.amqp_link_types.specs.DeliveryStates.{is_terminal, state_of};
 
-use crate::types::copy::copy_of;
 use crate::types::definitions::Error;
-use crate::types::fields::Fields;
+use amqp_link_values::copy::copy_of;
+use amqp_link_values::fields::Fields;
 use std::alloc::AllocError;
 
 /// The state of a delivery at one end (3.4).

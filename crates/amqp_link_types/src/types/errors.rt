@@ -1,8 +1,10 @@
 //! Why a call of a link is refused.
 ghost use Rattle.std.specs.Prelude.{◌≡◌};
 
+use crate::delivery::DeliveryInfo;
 use crate::types::definitions::Error as RemoteError;
 use crate::types::stop_reason::SessionStopReason;
+use amqp_link_payloads::DecodeError;
 use std::alloc::{AllocError, AllocFailed};
 use thiserror::Error;
 
@@ -158,21 +160,46 @@ impl From<AllocError> for ReceiverAttachError {
     }
 }
 
-/// Why a transfer that came was refused. What was held of the delivery is as it was.
+/// A delivery came whole, and its bytes were not read as a message. It is to be settled by its
+/// user, as any other.
+#[derive(Debug, PartialEq, Eq, Drop, Error)]
+#[error("the message of a delivery was not read")]
+pub struct MessageDecodeError {
+    /// Why the bytes were not read.
+    pub source: DecodeError,
+    /// Which delivery it is, and how it is to be settled.
+    pub info: DeliveryInfo,
+}
+
+/// Why a transfer that came was refused. What was held of the delivery is as it was; what becomes
+/// of the link is said at the call.
 #[derive(Debug, PartialEq, Eq, Drop, Error)]
 pub enum ReceiverTransferError {
+    /// The link is not in a state in which transfers come, or has no output handle.
+    #[error("the link is not in a state for this call")]
+    IllegalState,
+    /// There is less credit than the delivery takes. The sender's fault (2.6.7).
+    #[error("there is less link credit than the delivery takes")]
+    TransferLimitExceeded,
     /// The first transfer of a delivery has no delivery id. The sender's fault (2.7.5).
     #[error("the first transfer has no delivery id")]
     DeliveryIdIsNone,
     /// The first transfer of a delivery has no delivery tag. The sender's fault (2.7.5).
     #[error("the first transfer has no delivery tag")]
     DeliveryTagIsNone,
+    /// The transfer asks the receiver to settle second on a link whose receiver settles first. The
+    /// sender's fault (2.7.5).
+    #[error("the transfer asks for a receiver settle mode that the link does not have")]
+    IllegalRcvSettleModeInTransfer,
     /// A tag, an id or a format is not the delivery's. The sender's fault (2.7.5).
     #[error("a field is not that of the delivery")]
     InconsistentFieldInMultiFrameDelivery,
     /// The delivery's size passes u64, or the number of its sections past the first passes u32.
     #[error("the payload is too long")]
     PayloadTooLong,
+    /// The delivery came, and its bytes were not read as a message.
+    #[error("the message of the delivery was not read")]
+    MessageDecode(MessageDecodeError),
     /// There was no memory.
     #[error("out of memory")]
     OutOfMemory,
@@ -195,5 +222,50 @@ impl<T: Drop> From<AllocFailed<T>> for ReceiverTransferError {
 
     fn from(_error: AllocFailed<T>) -> ReceiverTransferError {
         ReceiverTransferError::OutOfMemory
+    }
+}
+
+/// Why a flow was not stated. Nothing has changed.
+#[derive(Clone, Copy, Debug, PartialEq, Eq, Error)]
+pub enum FlowError {
+    /// The link has no output handle by which the flow could name it.
+    #[error("the link has no output handle")]
+    IllegalState,
+    /// There was no memory for a copy of the properties.
+    #[error("out of memory")]
+    OutOfMemory,
+}
+
+impl From<AllocError> for FlowError {
+    ghost use Rattle.amqp_link_types.specs.declared.types.errors.FlowError.TheVariants.{OutOfMemory};
+
+    ghost from_gives = { λ _ error. error ≡ OutOfMemory };
+
+    fn from(_error: AllocError) -> FlowError {
+        FlowError::OutOfMemory
+    }
+}
+
+/// Why a frame that the session hands to a link was not taken. Nothing has changed.
+#[derive(Clone, Copy, Debug, PartialEq, Eq, Error)]
+pub enum LinkRelayError {
+    /// The link has no output handle: it is not attached to the session.
+    #[error("the link has no output handle")]
+    UnattachedHandle,
+    /// A transfer came to the sending end. The other end's fault (2.6.12).
+    #[error("a transfer came to a sender")]
+    TransferFrameToSender,
+    /// There was no memory.
+    #[error("out of memory")]
+    OutOfMemory,
+}
+
+impl From<AllocError> for LinkRelayError {
+    ghost use Rattle.amqp_link_types.specs.declared.types.errors.LinkRelayError.TheVariants.{OutOfMemory};
+
+    ghost from_gives = { λ _ error. error ≡ OutOfMemory };
+
+    fn from(_error: AllocError) -> LinkRelayError {
+        LinkRelayError::OutOfMemory
     }
 }

@@ -2,10 +2,10 @@
 //! (2.7.4, 2.7.6 and 2.7.7).
 ghost use Rattle.std.specs.Prelude.{◌≡◌};
 
-use crate::types::copy::copy_of;
 use crate::types::definitions::{DeliveryNumber, Error, Handle, Role, SequenceNo};
 use crate::types::delivery_state::DeliveryState;
-use crate::types::fields::Fields;
+use amqp_link_values::copy::copy_of;
+use amqp_link_values::fields::Fields;
 use std::alloc::AllocError;
 
 /// The part of a flow that concerns a link (2.7.4). The session adds its windows.

@@ -1,11 +1,11 @@
 //! The two ends of a link's way through a node: its source and its target (3.5).
 ghost use Rattle.std.specs.Prelude.{◌≡◌};
 
-use crate::types::copy::{copies_of, copy_of};
 use crate::types::delivery_state::Outcome;
-use crate::types::fields::{Fields, FilterSet};
-use crate::types::symbols::Symbols;
-use crate::types::text::Text;
+use amqp_link_values::copy::{copies_of, copy_of};
+use amqp_link_values::fields::{Fields, FilterSet};
+use amqp_link_values::symbols::Symbols;
+use amqp_link_values::text::Text;
 use std::alloc::AllocError;
 
 /// What of a terminus outlives its container (3.5.5).

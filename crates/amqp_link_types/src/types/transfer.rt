@@ -1,10 +1,10 @@
 //! The transfer performative (2.7.5).
 ghost use Rattle.std.specs.Prelude.{◌≡◌};
 
-use crate::types::copy::copy_of;
 use crate::types::definitions::{DeliveryNumber, Handle, MessageFormat, ReceiverSettleMode};
 use crate::types::delivery_state::DeliveryState;
-use crate::types::delivery_tag::DeliveryTag;
+use amqp_link_values::copy::copy_of;
+use amqp_link_values::delivery_tag::DeliveryTag;
 use std::alloc::AllocError;
 
 /// The transfer performative (2.7.5): the fields of one frame of a delivery, without its payload.

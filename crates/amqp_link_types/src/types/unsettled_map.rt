@@ -15,7 +15,7 @@ ghost use Rattle.amqp_link_types.specs.Unsettled.{states_of};
 
 use crate::delivery::UnsettledMessage;
 use crate::types::delivery_state::DeliveryState;
-use crate::types::delivery_tag::DeliveryTag;
+use amqp_link_values::delivery_tag::DeliveryTag;
 use std::alloc::{AllocError, AllocFailed, Global};
 use std::marker::Model;
 use std::mem;
@@ -90,7 +90,8 @@ impl<V> UnsettledMap<V> {
     pub fn into_pairs(self) -> Vec<(DeliveryTag, V)>
         ensures { result.items ≡ self }
     {
-        self.pairs
+        let UnsettledMap { pairs } = self;
+        pairs
     }
 
     /// Takes all deliveries out. Takes no memory.

@@ -59,16 +59,25 @@ fn carried_by(attach: &Attach) -> Carried {
 // What is carried of so many entries in a frame of that size, if an attach fits.
 fn sent(rt: &(impl Abort + AllocGlobal), count: u8, max_frame_size: u32) -> Option<Carried> {
     let sent = divided(attach(rt), entries(rt, count), max_frame_size);
-    match &sent {
+    let carried = match &sent {
         Some(sent) => Some(carried_by(sent)),
         None => None,
-    }
+    };
+    drop(sent);
+    carried
+}
+
+fn fits_at(rt: &(impl Abort + AllocGlobal), max_frame_size: u32) -> bool {
+    let attach = attach(rt);
+    let fits = fits(&attach, max_frame_size);
+    drop(attach);
+    fits
 }
 
 #[test]
 fn the_frame_has_four_bytes_of_its_own(rt: HostRuntime) {
-    assert!(rt; fits(&attach(&rt), 28));
-    assert!(rt; !fits(&attach(&rt), 27));
+    assert!(rt; fits_at(&rt, 28));
+    assert!(rt; !fits_at(&rt, 27));
     assert!(rt; fits_whole(attach(&rt), entries(&rt, 4), 58));
     assert!(rt; !fits_whole(attach(&rt), entries(&rt, 4), 57));
 }

@@ -1,8 +1,8 @@
 //! Copies, while there is memory.
-use super::samples::{attach, error, fields, source, symbol, symbols, tag, target, unsettled};
+use super::samples::{attach, error, fields, source, tag, target, unsettled};
 use crate::types::{
     ConnectionStopReason, DeliveryState, Detach, Disposition, Handle, LinkFlow, Role,
-    SessionStopReason, TargetArchetype, TerminusDurability,
+    SessionStopReason, TargetArchetype, TerminusDurability, Transfer,
 };
 use std::process::Abort;
 
@@ -13,12 +13,23 @@ fn copied<T: Clone + PartialEq + Drop>(rt: &impl Abort, original: T, other: T, w
     assert!(rt; copy != other, "{what}: not as the other");
 }
 
+fn transfer(rt: &(impl Abort + AllocGlobal)) -> Transfer {
+    let error = Some(error(rt));
+    Transfer {
+        delivery_tag: Some(tag(rt, 1)),
+        state: Some(DeliveryState::Rejected { error }),
+        ..Transfer::default()
+    }
+}
+
 #[test]
-fn a_copied_list_of_symbols_is_equal(rt: HostRuntime) {
-    let original = symbols(&rt, "a", "b");
-    copied(&rt, original, symbols(&rt, "b", "a"), "in two orders");
-    let original = symbols(&rt, "a", "b");
-    copied(&rt, original, symbols(&rt, "a", "c"), "the last differs");
+fn a_copied_transfer_is_equal(rt: HostRuntime) {
+    let mut other = transfer(&rt);
+    other.delivery_tag = None;
+    copied(&rt, transfer(&rt), other, "the tag");
+    let mut other = transfer(&rt);
+    other.state = Some(DeliveryState::Accepted);
+    copied(&rt, transfer(&rt), other, "the state");
 }
 
 #[test]
@@ -148,13 +159,4 @@ fn a_copied_stop_reason_is_equal(rt: HostRuntime) {
     let closed = ConnectionStopReason::Closed;
     let other = SessionStopReason::ConnectionStopped(closed);
     copied(&rt, SessionStopReason::Ended, other, "an ended one");
-}
-
-#[test]
-fn a_list_of_symbols_comes_back(rt: HostRuntime) {
-    let list = symbols(&rt, "a", "b");
-    assert_eq!(rt; list.as_slice().len(), 2, "lent");
-    let given_back = list.into_vec();
-    let names = [symbol(&rt, "a"), symbol(&rt, "b")];
-    assert!(rt; given_back.as_slice() == names.as_slice(), "in order");
 }

@@ -1,4 +1,4 @@
-use Rattle.amqp_link_ends.specs.Senders.{payload_tests}
+use Rattle.amqp_link_sender.specs.Senders.{payload_tests}
 use Rattle.amqp_link.proofs.SendLemmas.{unsettled_delivery, no_refusal, only_memory}
 use Rattle.amqp_link.proofs.pair.sending.send_unsettled.Goals as goal
 

@@ -3,7 +3,7 @@ use Rattle.std.specs.Prelude.{is_some}
 use Rattle.std.specs.List.{concat}
 use Rattle.amqp_link_core.specs.Merging.{following}
 use Rattle.amqp_link_core.proofs.MergeLemmas.{tag_kept, id_kept, format_added, silent_kept}
-use Rattle.amqp_link_types.proofs.PositionLemmas.{concat_push}
+use Rattle.amqp_link_payloads.proofs.PositionLemmas.{concat_push}
 use Rattle.amqp_link_core.proofs.incomplete_transfer.IncompleteTransfer.try_append.Goals as goal
 
 pub invariant_of-self-2 : goal.invariant_of-self-2

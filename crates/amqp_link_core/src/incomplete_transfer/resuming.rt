@@ -1,0 +1,92 @@
+//! A delivery that was cut off, as it is taken up again (2.6.13).
+ghost use Rattle.std.specs.Prelude.{◌≡◌, ◌++◌, [], ◌∷◌, List, OnOk, OnErr, MatchOption};
+ghost use Rattle.std.specs.Option.{option_or};
+ghost use Rattle.amqp_link_payloads.specs.Position.{place};
+ghost use Rattle.amqp_link_core.specs.Merging.{Came, Merged, IsSilent, opening, resumed};
+ghost use Rattle.amqp_link_core.specs.Held.{bytes_of, IsFront};
+ghost use Rattle.amqp_link_core.specs.IncompleteRefusals.{Answers, resume_tests, is_of_another};
+
+use crate::incomplete_transfer::merging::merge;
+use crate::incomplete_transfer::pieces::{cut_pieces, push_piece};
+use crate::incomplete_transfer::{IncompleteTransfer, differs};
+use amqp_link_payloads::position::place_in;
+use amqp_link_types::types::{Payload, ReceiverTransferError, Transfer};
+use std::alloc::AllocError;
+
+impl IncompleteTransfer {
+    /// Takes the delivery up again with the first transfer of its resumption, whose id is the
+    /// delivery's from now on. The payload is what follows the bytes that are held.
+    ///
+    /// Refused in this order, with nothing changed: `DeliveryIdIsNone`, `DeliveryTagIsNone`,
+    /// `InconsistentFieldInMultiFrameDelivery` (another tag or format), `PayloadTooLong`. Takes
+    /// memory, which may be refused before the last of them.
+    pub fn try_resume(
+        &mut self,
+        transfer: Transfer,
+        payload: Payload,
+    ) -> Result<(), ReceiverTransferError>
+        // Whatever came before, the fields are those of all of it and this transfer.
+        ensures merged { OnOk result ((came : List Came) → Merged came self.old.performative
+            → Merged (came ++ opening transfer ∷ []) self.new.performative) }
+        ensures pieces { OnOk result (self.new.pieces ≡ self.old.pieces ++ payload ∷ []) }
+        ensures bytes { OnOk result (bytes_of self.new ≡ bytes_of self.old ++ payload) }
+
+        // What of it a caller needs most.
+        ensures tag { OnOk result
+            (self.new.performative.delivery_tag ≡ self.old.performative.delivery_tag) }
+        ensures id { OnOk result
+            (self.new.performative.delivery_id ≡ transfer.delivery_id) }
+        ensures format { OnOk result (self.new.performative.message_format
+            ≡ option_or self.old.performative.message_format transfer.message_format) }
+        ensures silent { OnOk result (IsSilent transfer
+            → self.new.performative ≡ resumed self.old.performative transfer) }
+
+        ensures refused { Answers result (resume_tests self.old transfer payload) }
+        ensures err { OnErr result (self.new ≡ self.old) }
+    {
+        if transfer.delivery_id.is_none() {
+            return Err(ReceiverTransferError::DeliveryIdIsNone); // asked of a first transfer (2.7.5)
+        }
+        if transfer.delivery_tag.is_none() {
+            return Err(ReceiverTransferError::DeliveryTagIsNone);
+        }
+        if self.is_another_than_of(&transfer) {
+            let refused = ReceiverTransferError::InconsistentFieldInMultiFrameDelivery;
+            return Err(refused);
+        }
+        self.size = push_piece(&mut self.pieces, self.size, payload)?;
+        // All tests are behind, and all memory is taken.
+        merge(&mut self.performative, transfer, true);
+        Ok(())
+    }
+
+    // Whether a transfer names another tag or format than the delivery's.
+    fn is_another_than_of(&self, transfer: &Transfer) -> bool
+        ensures { result ≡ is_of_another self.now.performative transfer.now }
+    {
+        !self.is_same_delivery_as(transfer)
+            || differs(self.performative.message_format, transfer.message_format)
+    }
+
+    /// Keeps the bytes up to the place of this offset in the section of this number, and tells the
+    /// position and the size of that front from now on. Where there is no such place nothing
+    /// changes. Reads all bytes and copies none.
+    ///
+    /// Takes memory for the piece in which the front ends. Where it is refused nothing changes.
+    pub fn keep_buffer_till_section_number_and_offset( // up to a position (3.4.1)
+        &mut self,
+        number: u32,
+        offset: u64,
+    ) -> Result<(), AllocError>
+        ensures kept { OnOk result (MatchOption (place (bytes_of self.old) number offset)
+            (self.new ≡ self.old) (λ place. IsFront self.old self.new place)) }
+        ensures err { OnErr result (self.new ≡ self.old) }
+    {
+        let Some(place) = place_in(self.pieces.as_slice(), number, offset) else {
+            return Ok(());
+        };
+        cut_pieces(&mut self.pieces, place)?;
+        self.size = place;
+        Ok(())
+    }
+}

@@ -1,0 +1,76 @@
+//! What a sender asks of the states of a delivery before it resumes it (2.6.13, 3.4).
+ghost use Rattle.std.specs.Prelude.{◌≡◌, false, IfOk};
+ghost use Rattle.std.specs.Option.{option_map_or};
+ghost use Rattle.amqp_link_types.specs.DeliveryStates.{is_terminal};
+ghost use Rattle.amqp_link_core.specs.Resuming.{local_said, rest_from, is_past, is_same_outcome};
+
+use amqp_link_payloads::position::place_of;
+use amqp_link_types::types::{DeliveryState, Payload};
+use std::alloc::AllocError;
+
+pub(crate) fn has_ended(state: &Option<DeliveryState>) -> bool
+    ensures { result ≡ option_map_or is_terminal state.now false }
+{
+    match state {
+        Some(state) => state.is_terminal(),
+        None => false,
+    }
+}
+
+// Whether it has ended, or a front of it came that ends beyond this offset in this section.
+pub(crate) fn is_past(
+    state: &Option<DeliveryState>,
+    section_number: u32,
+    section_offset: u64,
+) -> bool
+    ensures { result ≡ is_past (local_said state.now) section_number section_offset }
+{
+    match state {
+        Some(
+            DeliveryState::Received {
+                section_number: section,
+                section_offset: offset,
+            },
+        ) => {
+            section_number < *section || (section_number == *section && section_offset < *offset)
+        }
+        Some(_) => true,
+        None => false,
+    }
+}
+
+// Whether it has ended in the same way. What the state tells besides is not compared.
+pub(crate) fn has_ended_as(state: &Option<DeliveryState>, other: &DeliveryState) -> bool
+    ensures { result ≡ option_map_or (λ own. is_same_outcome own other.now) state.now false }
+{
+    match state {
+        Some(state) => is_same_outcome(state, other),
+        None => false,
+    }
+}
+
+fn is_same_outcome(state: &DeliveryState, other: &DeliveryState) -> bool
+    ensures { result ≡ is_same_outcome state.now other.now }
+{
+    match state {
+        DeliveryState::Accepted => matches!(other, DeliveryState::Accepted),
+        DeliveryState::Rejected { .. } => matches!(other, DeliveryState::Rejected { .. }),
+        DeliveryState::Released => matches!(other, DeliveryState::Released),
+        DeliveryState::Modified { .. } => matches!(other, DeliveryState::Modified { .. }),
+        DeliveryState::Received { .. } => false,
+    }
+}
+
+// What of the payload stands behind that place, or all of it where there is no such place.
+pub(crate) fn rest_of(
+    payload: &Payload,
+    section_number: u32,
+    section_offset: u64,
+) -> Result<Payload, AllocError>
+    ensures { IfOk result (λ rest. rest ≡ rest_from payload.now section_number section_offset) }
+{
+    match place_of(payload, section_number, section_offset) {
+        Some(place) => payload.slice(place..),
+        None => payload.clone(),
+    }
+}

@@ -1,0 +1,9 @@
+pub mod FrontLemmas
+pub mod HeaderLemmas
+pub mod PositionLemmas
+pub mod ScanLemmas
+pub mod SectionLemmas
+pub mod SeekLemmas
+pub mod StartsLemmas
+pub mod TailLemmas
+pub mod Worked

@@ -1,0 +1,130 @@
+//! A search for a place in bytes that come in pieces (3.4.1).
+ghost use Rattle.std.specs.Prelude.{◌≡◌, ◌+◌, ◌^◌, ◌<◌, ◌≤◌, [], ◌∷◌, ◌++◌};
+ghost use Rattle.std.specs.Prelude.{ℕ, List, Some, length, nat_eq, nat_lt, ◌&&◌, if◌then◌else◌};
+ghost use Rattle.amqp_link_payloads.specs.Places.{place_by};
+
+use crate::position::header::Tail;
+
+// What a search for a place in a section keeps of the bytes that it has seen.
+#[derive(Clone, Copy)]
+pub(crate) struct Seek {
+    // the number of the section in which the place is sought
+    number: u64,
+    // the starts past the first byte
+    seen: u64,
+    // the bytes
+    length: u64,
+    // the section's start
+    start: Option<u64>,
+    // the end of the header with which the next section starts
+    end: Option<u64>,
+    tail: Tail,
+    ghost numbered: { number < 2 ^ 32 },
+    ghost apart: { seen ≤ length },
+}
+
+impl Seek {
+    ghost use Rattle.amqp_link_payloads.specs.Position.{place};
+    ghost use Rattle.amqp_link_payloads.specs.Seek.{HasSought};
+
+    // Nothing was seen: the first section starts before the first byte.
+    pub(crate) fn new(number: u32) -> Seek
+        ensures number { result.number ≡ number }
+        ensures length { result.length ≡ 0 }
+        ensures sought { HasSought result [] }
+    {
+        Seek {
+            number: number as u64,
+            seen: 0,
+            length: 0,
+            start: told(None, number == 0, 0),
+            end: None,
+            tail: Tail::new(),
+        }
+    }
+
+    // A header that ends in this byte is a start, unless it begins with the first byte of all.
+    fn feed(&mut self, byte: u8)
+        requires { self.old.length + 1 < 2 ^ 64 }
+        ensures number { self.new.number ≡ self.old.number }
+        ensures length { self.new.length ≡ self.old.length + 1 }
+        ensures sought { (F : List ℕ) → HasSought self.old F → HasSought self.new (F ++ byte ∷ []) }
+    {
+        let mut tail = self.tail;
+        let header = tail.read(byte);
+        let length = self.length + 1;
+        let is_start = is_start(header, length);
+        let seen = counted(self.seen, is_start);
+        let start = length.saturating_sub(header);
+        *self = Seek {
+            number: self.number,
+            seen,
+            length,
+            start: told(self.start, is_number(is_start, seen, self.number), start),
+            end: told(self.end, is_number(is_start, seen, self.number + 1), length),
+            tail,
+        };
+    }
+
+    pub(crate) fn feed_all(&mut self, bytes: &[u8])
+        requires { self.old.length + length bytes.now < 2 ^ 64 }
+        ensures number { self.new.number ≡ self.old.number }
+        ensures length { self.new.length ≡ self.old.length + length bytes.now }
+        ensures sought { (F : List ℕ) → HasSought self.old F → HasSought self.new (F ++ bytes.now) }
+    {
+        for byte in bytes {
+            self.feed(*byte);
+        }
+    }
+
+    // The place of that offset in the section, once all bytes were seen.
+    pub(crate) fn place(&self, offset: u64) -> Option<u64>
+        ensures { (F : List ℕ) → HasSought self.now F → result ≡ place F self.now.number offset }
+    {
+        place_within(self.start, self.end, self.length, offset)
+    }
+}
+
+// Whether a header that ends where this many bytes end is a start: it does not begin with the first.
+fn is_start(header: u64, length: u64) -> bool
+    ensures { result ≡ (nat_lt 0 header && nat_lt header length) }
+{
+    header > 0 && header < length
+}
+
+fn counted(seen: u64, is_start: bool) -> u64
+    requires { seen + 1 < 2 ^ 64 }
+    ensures { result ≡ (if is_start then seen + 1 else seen) }
+{
+    if is_start { seen + 1 } else { seen }
+}
+
+// Whether a start was seen, and of this number.
+fn is_number(is_start: bool, seen: u64, number: u64) -> bool
+    ensures { result ≡ (is_start && nat_eq seen number) }
+{
+    is_start && seen == number
+}
+
+// The place, if it is told now, else the one that is known.
+fn told(known: Option<u64>, is_it: bool, place: u64) -> Option<u64>
+    ensures { result ≡ (if is_it then Some place else known) }
+{
+    if is_it { Some(place) } else { known }
+}
+
+// The place at an offset from a start, within the bytes and short of the next header's end.
+fn place_within(start: Option<u64>, end: Option<u64>, length: u64, offset: u64) -> Option<u64>
+    ensures { result ≡ place_by start end length offset }
+{
+    let place = start?.checked_add(offset)?;
+    let is_short = match end {
+        Some(end) => place < end,
+        None => true,
+    };
+    if is_short && place <= length {
+        Some(place)
+    } else {
+        None
+    }
+}

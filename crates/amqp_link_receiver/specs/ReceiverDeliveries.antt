@@ -1,0 +1,62 @@
+-- What transfers that come make of the deliveries that a receiver keeps (OASIS AMQP 1.0 core,
+-- 2.6.12, 2.7.5 and 3.4).
+use Rattle.std.specs.Prelude.{ℕ, Bool, true, false, ◌||◌, List, Option, Some, None, unwrap_or, if◌then◌else◌}
+use Rattle.amqp_link_types.specs.declared.frame.LinkFrame.{LinkFrame}
+use Rattle.amqp_link_types.specs.declared.frame.LinkFrame.TheVariants as frame
+use Rattle.amqp_link_types.specs.declared.types.definitions.ReceiverSettleMode.{ReceiverSettleMode}
+use Rattle.amqp_link_types.specs.declared.types.definitions.ReceiverSettleMode.TheVariants.{First, Second}
+use Rattle.amqp_link_types.specs.declared.types.delivery_state.DeliveryState.{DeliveryState}
+use Rattle.amqp_link_types.specs.declared.types.transfer.Transfer.{Transfer}
+use Rattle.amqp_link_types.specs.DeliveryStates.{is_terminal}
+use Rattle.amqp_link_types.specs.Entries.{Tag, entry_at, with_entry, without_entry}
+use Rattle.amqp_link_receiver.specs.Receivers.{Receiver}
+
+-- a transfer that does not say so is not settled
+abbrev pub is_settled : Transfer → Bool
+is_settled t = unwrap_or t.settled false
+
+-- a receiver in this mode settles as deliveries come, by itself
+abbrev pub settles_at_once : ReceiverSettleMode → Bool
+settles_at_once First = true
+settles_at_once Second = false
+
+-- whether what is kept of a delivery is a terminal state
+abbrev pub has_ended : Option (Option DeliveryState) → Bool
+has_ended (Some (Some state)) = is_terminal state
+has_ended _ = false
+
+-- the frame in which a transfer that came goes on
+abbrev pub frame_come : Transfer → List ℕ → LinkFrame
+frame_come t payload = frame.RemoteTransfer (record {
+  input_handle = record { 0 = t.handle.0 };
+  performative = t;
+  payload = payload;
+})
+
+-- both a number and a tag, where both are there
+abbrev pub named_by : Option ℕ → Option Tag → Option (ℕ × Tag)
+named_by (Some id) (Some tag) = Some (id, tag)
+named_by _ _ = None
+
+module _ {T : Type 0} where
+  -- this state is kept of the delivery
+  abbrev pub with_state : Tag → DeliveryState → Receiver T → Receiver T
+  with_state tag state r = record r { unsettled = with_entry r.unsettled tag (Some state) }
+
+  -- nothing is kept of it any more
+  abbrev pub forgotten : Tag → Receiver T → Receiver T
+  forgotten tag r = record r { unsettled = without_entry r.unsettled tag }
+
+  -- the sender tells a state: a settled delivery is forgotten, and a terminal state stays
+  abbrev pub after_state : Tag → Option Bool → DeliveryState → Receiver T → Receiver T
+  after_state tag settled state r =
+      if unwrap_or settled false then forgotten tag r
+      else if has_ended (entry_at r.unsettled tag) then r
+      else with_state tag state r
+
+  -- the number and the tag that the session is told as a transfer begins a delivery which the
+  -- receiver settles only after the sender has
+  abbrev pub told_of : Receiver T → Transfer → Option (ℕ × Tag)
+  told_of r t =
+      if is_settled t || r.more || settles_at_once r.rcv_settle_mode then None
+      else named_by t.delivery_id t.delivery_tag

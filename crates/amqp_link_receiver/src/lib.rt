@@ -1,0 +1,8 @@
+//! The receiver's end of a link of AMQP 1.0 (OASIS AMQP 1.0 core, 2.6).
+#![tactic(auto)]
+
+pub mod receiver_link;
+#[cfg(test)]
+mod samples;
+
+pub use receiver_link::{ReceiverAttachExchange, ReceiverLink, get_max_message_size};

@@ -1,0 +1,370 @@
+//! A receiver's end is attached (2.6.3, 2.6.4).
+ghost use Rattle.std.specs.Prelude.{◌≡◌, ◌↔◌, ◌⊎◌, true, false, List, [], if◌then◌else◌};
+ghost use Rattle.std.specs.Prelude.{None, Some, Ok, Err, IfOk, IfErr, IsTrue, unwrap_or};
+ghost use Rattle.amqp_link_types.specs.declared.frame.LinkFrame.TheVariants as frame;
+ghost use Rattle.amqp_link_core.specs.AttachSent.{SendsAttach, IsTooLarge};
+ghost use Rattle.amqp_link_core.specs.Attaching.{Fits, with_entries};
+ghost use Rattle.amqp_link_core.specs.LinkStates.{Call, next_state};
+ghost use Rattle.amqp_link_receiver.specs.ReceiverAttaches.{has_entries as names_any, exchanged as exchanged_in};
+ghost use Rattle.amqp_link_receiver.specs.ReceiverAttaches.{counted_attach, receiver_attach};
+
+use crate::receiver_link::ReceiverLink;
+use amqp_link_core::endpoint::LinkAttach;
+use amqp_link_core::endpoint::attached::{
+    capabilities_of, get_max_message_size, is_foreign, name_and_properties_of, sent_limit,
+    termini_of, with_properties,
+};
+use amqp_link_core::endpoint::dividing::{divided, fits_whole};
+use amqp_link_core::endpoint::steps::{handle_or_zero, step_of};
+use amqp_link_core::endpoint::table::{after_incoming_attach, after_sent_attach};
+use amqp_link_core::endpoint::target::LinkTarget;
+use amqp_link_types::delivery::Outcomes;
+use amqp_link_types::frame::LinkFrame;
+use amqp_link_types::state::LinkState;
+use amqp_link_types::types::unsettled_map::UnsettledMap;
+use amqp_link_types::types::{
+    Attach, DeliveryState, Fields, Handle, InputHandle, OutputHandle, ReceiverAttachError, Role,
+    SenderSettleMode, SequenceNo, Source, TargetArchetype,
+};
+use std::alloc::{AllocError, Global};
+
+/// What follows once a receiver's end has exchanged attaches.
+#[derive(Clone, Copy, Debug, PartialEq, Eq)]
+pub enum ReceiverAttachExchange {
+    /// The sender has named no delivery: there is nothing to resume.
+    Complete,
+    /// One of the ends has not named all its deliveries. Those that it has named are resumed first.
+    IncompleteUnsettled,
+    /// The sender resumes deliveries.
+    Resume,
+}
+
+impl ReceiverAttachExchange {
+    ghost use Rattle.amqp_link_receiver.specs.declared.receiver_link.attach.ReceiverAttachExchange.TheVariants.{Complete};
+
+    /// Whether all is complete: else this error.
+    pub fn complete_or<E: Drop>(self, error: E) -> Result<(), E>
+        ensures complete { self ≡ Complete → result ≡ Ok tt }
+        ensures incomplete { (self ≡ Complete → ⊥) → result ≡ Err error }
+    {
+        match self {
+            ReceiverAttachExchange::Complete => Ok(()),
+            _ => Err(error),
+        }
+    }
+}
+
+// What an attach says of the deliveries: nothing where the link is attached anew.
+fn entries_to_send(
+    alloc: Global,
+    is_reattaching: bool,
+    unsettled: &UnsettledMap<Option<DeliveryState>>,
+) -> Result<UnsettledMap<Option<DeliveryState>>, AllocError>
+    ensures { IfOk result (λ entries. entries ≡ (if is_reattaching then [] else unsettled.now)) }
+{
+    if is_reattaching {
+        Ok(UnsettledMap::new(alloc))
+    } else {
+        unsettled.clone()
+    }
+}
+
+impl<T: LinkTarget> ReceiverLink<T> {
+    // What the link says at an output handle with this count, without its deliveries.
+    fn whole_attach(&self, handle: OutputHandle, count: SequenceNo) -> Result<Attach, AllocError>
+        requires { (t c : T) → T.is_clone t c → c ≡ t }
+        ensures { IfOk result (λ attach. attach ≡ counted_attach T.sent_as self.now count handle) }
+    {
+        let (name, properties) = name_and_properties_of(&self.name, self.flow_state.properties())?;
+        let (offered_capabilities, desired_capabilities) = capabilities_of(
+            &self.offered_capabilities,
+            &self.desired_capabilities,
+        )?;
+        let (source, target) = termini_of(&self.source, &self.target)?;
+        Ok(Attach {
+            name,
+            handle: handle.into(),
+            role: Role::Receiver,
+            snd_settle_mode: self.snd_settle_mode,
+            rcv_settle_mode: self.rcv_settle_mode,
+            source,
+            target,
+            unsettled: None,
+            incomplete_unsettled: false,
+            initial_delivery_count: Some(count),
+            max_message_size: sent_limit(self.max_message_size),
+            offered_capabilities,
+            desired_capabilities,
+            properties,
+        })
+    }
+
+    /// Whether an attach that says all deliveries and states this count fits such a frame (a header of
+    /// four bytes, and the body). Without an output handle it is measured with handle 0.
+    ///
+    /// Refused where memory is wanting.
+    pub fn complete_attach_fits(
+        &self,
+        max_frame_size: u32,
+        count: SequenceNo,
+    ) -> Result<bool, AllocError>
+        requires { (t c : T) → T.is_clone t c → c ≡ t }
+        ensures { IfOk result (λ fits. IsTrue fits ↔ Fits (with_entries
+            (counted_attach T.sent_as self.now count (unwrap_or self.now.output_handle (record { 0 = 0 })))
+            self.now.unsettled 0) max_frame_size) }
+    {
+        let entries = self.unsettled.clone()?;
+        let attach = self.whole_attach(handle_or_zero(self.output_handle), count)?;
+        Ok(fits_whole(attach, entries, max_frame_size))
+    }
+
+    // The attach that is sent, and the state after it: all tests, and all that takes memory.
+    fn plan_attach(&self, is_reattaching: bool) -> Result<(Attach, LinkState), ReceiverAttachError>
+        requires { (t c : T) → T.is_clone t c → c ≡ t }
+        ensures sent { IfOk result (λ plan. SendsAttach self.now.local_state self.now.output_handle
+            (receiver_attach T.sent_as self.now)
+            (if is_reattaching then [] else self.now.unsettled) self.now.max_frame_size
+            (frame.Attach plan.0) plan.1) }
+        ensures refused { IfErr result (λ error. (error ≡ ReceiverAttachError.OutOfMemory)
+            ⊎ ((error ≡ ReceiverAttachError.IllegalState) × ((self.now.output_handle ≡ None)
+            ⊎ (next_state Call.SendAttach false self.now.local_state ≡ None)))
+            ⊎ ((error ≡ ReceiverAttachError.AttachTooLarge) × IsTooLarge self.now.local_state
+            self.now.output_handle (receiver_attach T.sent_as self.now)
+            (if is_reattaching then [] else self.now.unsettled) self.now.max_frame_size)) }
+    {
+        let Some(handle) = self.output_handle else {
+            return Err(ReceiverAttachError::IllegalState);
+        };
+        let Some(steps) = after_sent_attach(self.local_state) else {
+            return Err(ReceiverAttachError::IllegalState);
+        };
+        let entries = entries_to_send(self.alloc, is_reattaching, &self.unsettled)?;
+        let whole = self.whole_attach(handle, self.flow_state.initial_delivery_count())?;
+        let Some(attach) = divided(whole, entries, self.max_frame_size) else {
+            return Err(ReceiverAttachError::AttachTooLarge);
+        };
+        let next = step_of(attach.incomplete_unsettled, steps);
+        Ok((attach, next))
+    }
+}
+
+// What a receiver reads of an attach that comes.
+#[derive(Drop)]
+struct Incoming {
+    handle: Handle,
+    snd_settle_mode: SenderSettleMode,
+    source: Option<Source>,
+    target: Option<TargetArchetype>,
+    incomplete: bool,
+    has_entries: bool,
+    count: Option<SequenceNo>,
+    max_message_size: Option<u64>,
+    properties: Option<Fields>,
+}
+
+fn has_entries(unsettled: &Option<UnsettledMap<Option<DeliveryState>>>) -> bool
+    ensures { result ≡ names_any unsettled.now }
+{
+    match unsettled {
+        Some(entries) => entries.len() != 0,
+        None => false,
+    }
+}
+
+fn read(attach: Attach) -> Incoming
+    ensures { result ≡ record {
+      handle = attach.handle;
+      snd_settle_mode = attach.snd_settle_mode;
+      source = attach.source;
+      target = attach.target;
+      incomplete = attach.incomplete_unsettled;
+      has_entries = names_any attach.unsettled;
+      count = attach.initial_delivery_count;
+      max_message_size = attach.max_message_size;
+      properties = attach.properties;
+    } }
+{
+    let has_entries = has_entries(&attach.unsettled);
+    Incoming {
+        handle: attach.handle,
+        snd_settle_mode: attach.snd_settle_mode,
+        source: attach.source,
+        target: attach.target,
+        incomplete: attach.incomplete_unsettled,
+        has_entries,
+        count: attach.initial_delivery_count,
+        max_message_size: attach.max_message_size,
+        properties: attach.properties,
+    }
+}
+
+fn exchange(state: LinkState, has_entries: bool) -> ReceiverAttachExchange
+    ensures { result ≡ exchanged_in state has_entries }
+{
+    if !has_entries {
+        return ReceiverAttachExchange::Complete;
+    }
+    match state {
+        LinkState::IncompleteAttachExchanged
+        | LinkState::IncompleteAttachReceived
+        | LinkState::IncompleteAttachSent => ReceiverAttachExchange::IncompleteUnsettled,
+        _ => ReceiverAttachExchange::Resume,
+    }
+}
+
+impl<T: LinkTarget> ReceiverLink<T> {
+    // An attach has moved the link, which answers at its handle; no delivery is under way any more.
+    fn come(&mut self, handle: Handle, next: LinkState)
+        ensures { self.new ≡ record self.old {
+          local_state = next;
+          input_handle = Some (record { 0 = handle.0 });
+          more = false;
+        } }
+    {
+        self.local_state = next;
+        self.input_handle = Some(InputHandle(handle.0));
+        self.more = false;
+    }
+
+    fn take_source(&mut self, source: Source, mode: SenderSettleMode)
+        ensures { self.new ≡ record self.old { source = Some source; snd_settle_mode = mode } }
+    {
+        drop(self.source.replace(source));
+        self.snd_settle_mode = mode;
+    }
+
+    // The link counts from where the sender begins.
+    fn take_flow(&mut self, count: SequenceNo, properties: Option<Fields>)
+        ensures { self.new ≡ record self.old {
+          flow_state = record self.old.flow_state {
+            initial_delivery_count = count;
+            delivery_count = count;
+            properties = properties;
+          };
+        } }
+    {
+        self.flow_state.initial_delivery_count_mut(|_| count);
+        self.flow_state.delivery_count_mut(|_| count);
+        *self.flow_state.properties_mut() = properties;
+    }
+}
+
+impl<T: LinkTarget> LinkAttach for ReceiverLink<T> {
+    ghost use Rattle.std.specs.Prelude.{◌≡◌, [], refl};
+    ghost use Rattle.amqp_link_types.specs.declared.types.errors.ReceiverAttachError.TheVariants.{IllegalState, AttachTooLarge, OutOfMemory};
+    ghost use Rattle.amqp_link_receiver.specs.ReceiverAttaches.{receiver_attach};
+    ghost use Rattle.amqp_link_receiver.specs.ReceiverAttaches.{receiver_refusal, receiver_taken, receiver_left, exchanged_with};
+
+    type AttachExchange = ReceiverAttachExchange;
+
+    type AttachError = ReceiverAttachError;
+
+    ghost frame_limit = { λ link. link.max_frame_size };
+
+    ghost whole = { λ link. receiver_attach T.sent_as link };
+
+    ghost entries = { λ link. link.unsettled };
+
+    ghost attached = { λ link state. record link { local_state = state } };
+
+    ghost emptied = { λ link. record link { unsettled = [] } };
+
+    ghost ended = { λ link. [] };
+
+    ghost copies = { (t c : T) → T.is_clone t c → c ≡ t };
+
+    ghost illegal_attach = { IllegalState };
+
+    ghost too_large = { AttachTooLarge };
+
+    ghost out_of_memory = { OutOfMemory };
+
+    ghost refusal_of = { receiver_refusal T.admitted };
+
+    ghost taken = { receiver_taken };
+
+    ghost exchanged = { λ link attach answer. answer ≡ exchanged_with link attach };
+
+    ghost left = { receiver_left };
+
+    ghost state_attached = { λ link s. refl };
+
+    ghost handle_attached = { λ link s. refl };
+
+    ghost state_emptied = { λ link. refl };
+
+    ghost handle_emptied = { λ link. refl };
+
+    ghost entries_emptied = { λ link. refl };
+
+    ghost left_by_want = { λ link a. refl };
+
+    ghost moved_leaves_frame_limit = { λ link s h. refl };
+
+    ghost moved_leaves_entries = { λ link s h. refl };
+
+    fn send_attach(
+        &mut self,
+        is_reattaching: bool,
+    ) -> Result<(LinkFrame, Outcomes), ReceiverAttachError> {
+        let (attach, next) = self.plan_attach(is_reattaching)?;
+        // All tests are behind, and all growths: from here on nothing can fail.
+        self.local_state = next;
+        if is_reattaching {
+            drop(self.unsettled.take_all(self.alloc));
+        }
+        Ok((LinkFrame::Attach(attach), Vec::new(self.alloc)))
+    }
+
+    /// Takes the sender's attach. Want of memory may come after any test, and leaves all as it was.
+    ///
+    /// Refused in this order: illegal state, with nothing changed, where the state has no row for it.
+    /// From here on the state has moved, the other's handle is known, and no delivery goes on: no
+    /// source; past it the source and the sender's mode are taken: no coordinator here, where the target
+    /// is not of the link's kind; no initial count.
+    fn on_incoming_attach(
+        &mut self,
+        attach: Attach,
+    ) -> Result<ReceiverAttachExchange, ReceiverAttachError> {
+        let Incoming {
+            handle,
+            snd_settle_mode,
+            source,
+            target,
+            incomplete,
+            has_entries,
+            count,
+            max_message_size,
+            properties,
+        } = read(attach);
+        let is_foreign = is_foreign::<T>(target);
+        let Some(next) = after_incoming_attach(self.local_state, incomplete) else {
+            drop((source, properties));
+            return Err(ReceiverAttachError::IllegalState);
+        };
+        let Some(source) = source else {
+            self.come(handle, next);
+            drop(properties);
+            return Err(ReceiverAttachError::IncomingSourceIsNone);
+        };
+        let Some(count) = count else {
+            self.come(handle, next);
+            self.take_source(source, snd_settle_mode);
+            drop(properties);
+            return Err(ReceiverAttachError::InitialDeliveryCountIsNone);
+        };
+        if is_foreign {
+            self.come(handle, next);
+            self.take_source(source, snd_settle_mode);
+            drop(properties);
+            return Err(ReceiverAttachError::CoordinatorIsNotImplemented);
+        }
+        let properties = with_properties(self.alloc, self.flow_state.properties(), properties)?;
+        // All tests are behind, and all growths: from here on nothing can fail.
+        self.come(handle, next);
+        self.take_source(source, snd_settle_mode);
+        self.take_flow(count, properties);
+        self.max_message_size = get_max_message_size(self.max_message_size, max_message_size);
+        Ok(exchange(next, has_entries))
+    }
+}

@@ -1,0 +1,236 @@
+//! The last transfer of a delivery at a receiver's end (2.6.7, 2.6.12, 2.7.5).
+ghost use Rattle.std.specs.Prelude.{◌≡◌, ◌⊎◌, ◌≢◌, ◌<◌, ℕ, true, Some, None};
+ghost use Rattle.std.specs.Prelude.{IfOk, IsErrOf, IsSome, OnOk, OnErr, MatchResult};
+ghost use Rattle.std.specs.List.{concat};
+ghost use Rattle.amqp_link_receiver.specs.Completing.{may_receive as takes_deliveries, info_of as said_of};
+ghost use Rattle.amqp_link_receiver.specs.Completing.{link_refusal, transfer_refusal, delivery_refusal};
+ghost use Rattle.amqp_link_receiver.specs.Completing.{IsDelivery, completion_refusal, unsettled_tag};
+ghost use Rattle.amqp_link_receiver.specs.Completing.{entered, spent, reported};
+
+use crate::receiver_link::ReceiverLink;
+use crate::receiver_link::deliveries::is_settled;
+use amqp_link_core::endpoint::target::LinkTarget;
+use amqp_link_types::delivery::{Delivery, DeliveryInfo};
+use amqp_link_types::state::LinkState;
+use amqp_link_types::types::{
+    DecodeError, DeliveryNumber, DeliveryState, DeliveryTag, FromBody, MessageDecodeError, Payload,
+    ReceiverSettleMode, ReceiverTransferError, Transfer,
+};
+use std::alloc::AllocError;
+
+// What the last transfer of a delivery enters and answers, made before anything is changed.
+#[derive(Drop)]
+struct Completion<B> {
+    key: Option<DeliveryTag>,
+    answer: Result<Delivery<B>, ReceiverTransferError>,
+}
+
+impl<T: LinkTarget> ReceiverLink<T> {
+    /// Takes the last transfer of a delivery whose payload came in these pieces, up to this place
+    /// (3.4.1), and answers the delivery with its message. It takes one credit (2.6.7). An
+    /// unsettled delivery is kept as received up to that place until it is settled; a settled one
+    /// is not kept, and is given without a settle mode.
+    ///
+    /// Refused in this order. With nothing changed: `IllegalState` unless both attaches were
+    /// exchanged; `TransferLimitExceeded` without credit. With the credit spent:
+    /// `DeliveryIdIsNone`; `DeliveryTagIsNone`; `IllegalRcvSettleModeInTransfer` where an
+    /// unsettled transfer asks for mode `Second` on a link of mode `First`. With the credit spent
+    /// and an unsettled delivery kept: `MessageDecode`, where the body refuses the bytes;
+    /// `IllegalState` without output handle. `OutOfMemory` comes only where none of the first five
+    /// does, and has changed nothing.
+    pub fn on_complete_transfer<B: FromBody>(
+        &mut self,
+        transfer: &Transfer,
+        pieces: &[Payload],
+        section_number: u32,
+        section_offset: u64,
+    ) -> Result<Delivery<B>, ReceiverTransferError>
+        ensures delivered { IfOk result (λ delivery.
+            IsDelivery self.old transfer.now (B.decoded (concat pieces.now)) delivery
+            × (self.new ≡ entered transfer.now section_number section_offset self.old)) }
+        ensures refused { MatchResult result
+            (λ _. completion_refusal self.old transfer.now section_number section_offset
+            (B.decoded (concat pieces.now)) ≡ None)
+            (λ error. (error ≡ ReceiverTransferError.OutOfMemory)
+            ⊎ (completion_refusal self.old transfer.now section_number section_offset
+            (B.decoded (concat pieces.now)) ≡ Some (error, self.new))) }
+        ensures memory { IsErrOf result ReceiverTransferError.OutOfMemory
+            → (self.new ≡ self.old) × (link_refusal self.old ≡ None)
+            × (transfer_refusal self.old transfer.now ≡ None) }
+    {
+        if !may_receive(self.local_state) {
+            return Err(ReceiverTransferError::IllegalState);
+        }
+        if self.flow_state.link_credit() == 0 {
+            return Err(ReceiverTransferError::TransferLimitExceeded);
+        }
+        let Ok(Completion { key, answer }) = self.complete(transfer, pieces) else {
+            return Err(ReceiverTransferError::OutOfMemory);
+        };
+        let Ok(()) = self.enter(key, section_number, section_offset) else {
+            return Err(ReceiverTransferError::OutOfMemory);
+        };
+        answer
+    }
+
+    // Keeps the place of the delivery with this tag, if there is one, and spends one credit.
+    fn enter(
+        &mut self,
+        key: Option<DeliveryTag>,
+        section_number: u32,
+        section_offset: u64,
+    ) -> Result<(), AllocError>
+        requires { 0 < self.old.flow_state.link_credit }
+        ensures ok { OnOk result
+            (self.new ≡ spent (reported key section_number section_offset self.old)) }
+        ensures memory { OnErr result (IsSome key) }
+        ensures left { OnErr result (self.new ≡ self.old) }
+    {
+        if let Some(tag) = key {
+            let state = DeliveryState::Received {
+                section_number,
+                section_offset,
+            };
+            match self.unsettled.put(tag, Some(state)) {
+                Ok(old) => drop(old),
+                Err(_) => return Err(AllocError),
+            }
+        }
+        let _ = self.flow_state.consume(1);
+        Ok(())
+    }
+
+    // What a transfer enters and answers once the state and the credit admit it.
+    fn complete<B: FromBody>(
+        &self,
+        transfer: &Transfer,
+        pieces: &[Payload],
+    ) -> Result<Completion<B>, AllocError>
+        requires open { takes_deliveries self.now.local_state ≡ true }
+        requires credit { 0 < self.now.flow_state.link_credit }
+        ensures answer { IfOk result (λ completion. MatchResult completion.answer
+            (λ delivery. (completion.key ≡ unsettled_tag transfer.now)
+            × IsDelivery self.now transfer.now (B.decoded (concat pieces.now)) delivery
+            × ((number offset : ℕ) → completion_refusal self.now transfer.now number offset
+            (B.decoded (concat pieces.now)) ≡ None))
+            (λ error. (error ≢ ReceiverTransferError.OutOfMemory)
+            × ((number offset : ℕ) → completion_refusal self.now transfer.now number offset
+            (B.decoded (concat pieces.now))
+            ≡ Some (error, spent (reported completion.key number offset self.now))))) }
+        ensures kept { IfOk result (λ completion. IsSome completion.key
+            → transfer_refusal self.now transfer.now ≡ None) }
+        ensures memory { OnErr result (transfer_refusal self.now transfer.now ≡ None) }
+    {
+        match self.identify(transfer) {
+            Ok((delivery_id, tag)) => {
+                let key = key_of(transfer, tag)?;
+                let info = info_of(transfer, delivery_id, tag)?;
+                let answer = self.deliver(transfer, info, pieces)?;
+                Ok(Completion { key, answer })
+            }
+            Err(refusal) => Ok(Completion {
+                key: None,
+                answer: Err(refusal),
+            }),
+        }
+    }
+
+    // The delivery, or why it is not given.
+    fn deliver<B: FromBody>(
+        &self,
+        transfer: &Transfer,
+        info: DeliveryInfo,
+        pieces: &[Payload],
+    ) -> Result<Result<Delivery<B>, ReceiverTransferError>, AllocError>
+        requires { info ≡ said_of transfer.now }
+        ensures { IfOk result (λ answer. MatchResult answer
+            (λ delivery. IsDelivery self.now transfer.now (B.decoded (concat pieces.now)) delivery
+            × (delivery_refusal self.now transfer.now (B.decoded (concat pieces.now)) ≡ None))
+            (λ error. (error ≢ ReceiverTransferError.OutOfMemory)
+            × (delivery_refusal self.now transfer.now (B.decoded (concat pieces.now))
+            ≡ Some error))) }
+    {
+        let message = match B::decode_from_pieces(self.alloc, pieces) {
+            Ok(message) => message,
+            Err(DecodeError::OutOfMemory) => return Err(AllocError),
+            Err(source) => {
+                let refused = MessageDecodeError { source, info };
+                return Ok(Err(ReceiverTransferError::MessageDecode(refused)));
+            }
+        };
+        let Some(handle) = self.output_handle else {
+            drop(message);
+            drop(info);
+            return Ok(Err(ReceiverTransferError::IllegalState));
+        };
+        let delivery = Delivery::new(handle, info, transfer.message_format, message);
+        Ok(Ok(delivery))
+    }
+
+    // The number and the tag of a transfer that may complete a delivery here. Takes no memory.
+    fn identify<'a>(
+        &self,
+        transfer: &'a Transfer,
+    ) -> Result<(DeliveryNumber, &'a DeliveryTag), ReceiverTransferError>
+        ensures { MatchResult result
+            (λ named. (transfer_refusal self.now transfer.now ≡ None)
+            × (transfer.now.delivery_id ≡ Some named.0)
+            × (transfer.now.delivery_tag ≡ Some named.1.now))
+            (λ error. transfer_refusal self.now transfer.now ≡ Some error) }
+    {
+        let Some(delivery_id) = transfer.delivery_id else {
+            let refused = ReceiverTransferError::DeliveryIdIsNone;
+            return Err(refused);
+        };
+        let Some(tag) = &transfer.delivery_tag else {
+            return Err(ReceiverTransferError::DeliveryTagIsNone);
+        };
+        if !is_settled(transfer)
+            && self.rcv_settle_mode == ReceiverSettleMode::First
+            && transfer.rcv_settle_mode == Some(ReceiverSettleMode::Second)
+        {
+            return Err(ReceiverTransferError::IllegalRcvSettleModeInTransfer);
+        }
+        Ok((delivery_id, tag))
+    }
+}
+
+// Whether a link in this state takes deliveries.
+fn may_receive(state: LinkState) -> bool
+    ensures { result ≡ takes_deliveries state }
+{
+    matches!(
+        state,
+        LinkState::Attached | LinkState::IncompleteAttachExchanged
+    )
+}
+
+// The tag under which the delivery is kept, if it is.
+fn key_of(transfer: &Transfer, tag: &DeliveryTag) -> Result<Option<DeliveryTag>, AllocError>
+    requires { transfer.now.delivery_tag ≡ Some tag.now }
+    ensures { IfOk result (λ key. key ≡ unsettled_tag transfer.now) }
+{
+    if is_settled(transfer) {
+        Ok(None)
+    } else {
+        Ok(Some(tag.clone()?))
+    }
+}
+
+// What is said of the delivery.
+fn info_of(
+    transfer: &Transfer,
+    delivery_id: DeliveryNumber,
+    tag: &DeliveryTag,
+) -> Result<DeliveryInfo, AllocError>
+    requires id { transfer.now.delivery_id ≡ Some delivery_id }
+    requires tag { transfer.now.delivery_tag ≡ Some tag.now }
+    ensures { IfOk result (λ info. info ≡ said_of transfer.now) }
+{
+    let mode = if is_settled(transfer) {
+        None
+    } else {
+        transfer.rcv_settle_mode
+    };
+    Ok(DeliveryInfo::new(delivery_id, tag.clone()?, mode))
+}

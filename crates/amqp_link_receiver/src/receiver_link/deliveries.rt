@@ -1,0 +1,179 @@
+//! Transfers that come to a receiver's end, and what it keeps of their deliveries (2.6.12, 2.7.5).
+ghost use Rattle.std.specs.Prelude.{◌≡◌, false, None, Some, IfOk, IfErr, IsSome, IsSomeAnd};
+ghost use Rattle.std.specs.Prelude.{⊤, OnOk, OnErr, MatchOption, unwrap_or};
+ghost use Rattle.amqp_link_types.specs.Entries.{entry_at};
+ghost use Rattle.amqp_link_receiver.specs.ReceiverDeliveries.{frame_come, named_by, told_of};
+ghost use Rattle.amqp_link_receiver.specs.ReceiverDeliveries.{with_state, after_state};
+ghost use Rattle.amqp_link_receiver.specs.ReceiverDeliveries.{has_ended as is_terminal_at};
+ghost use Rattle.amqp_link_receiver.specs.ReceiverDeliveries.{is_settled as says_settled};
+
+use crate::receiver_link::ReceiverLink;
+use amqp_link_core::endpoint::target::LinkTarget;
+use amqp_link_types::frame::{LinkFrame, LinkTransfer};
+use amqp_link_types::types::{
+    DeliveryNumber, DeliveryState, DeliveryTag, InputHandle, LinkRelayError, Payload,
+    ReceiverSettleMode, ReceiverTransferError, Transfer,
+};
+use std::alloc::AllocError;
+
+impl<T: LinkTarget> ReceiverLink<T> {
+    /// Takes a transfer off the session, and answers the frame in which it goes on. Beside it stand
+    /// the delivery's number and tag, where the transfer begins a delivery that is not settled and
+    /// that this end settles only after the sender has: the session hands the sender's disposition,
+    /// which names the number, on with this tag (2.7.6).
+    ///
+    /// Refused with `OutOfMemory` and nothing changed; only a tag that is answered takes memory.
+    pub fn on_incoming_transfer(
+        &mut self,
+        transfer: Transfer,
+        payload: Payload,
+    ) -> Result<(LinkFrame, Option<(DeliveryNumber, DeliveryTag)>), LinkRelayError>
+        ensures frame { IfOk result (λ came. came.0 ≡ frame_come transfer payload) }
+        ensures told { IfOk result (λ came. came.1 ≡ told_of self.old transfer) }
+        ensures after { OnOk result (self.new ≡ record self.old { more = transfer.more }) }
+        ensures refused { IfErr result (λ error. error ≡ LinkRelayError.OutOfMemory) }
+        ensures memory { OnErr result (IsSome (told_of self.old transfer)) }
+        ensures left { OnErr result (self.new ≡ self.old) }
+    {
+        let told = self.told(&transfer)?;
+        // All memory is taken: from here on nothing can fail.
+        self.more = transfer.more;
+        Ok((frame_of(transfer, payload), told))
+    }
+
+    // What the session is told of a transfer that comes.
+    fn told(&self, transfer: &Transfer) -> Result<Option<(DeliveryNumber, DeliveryTag)>, AllocError>
+        ensures told { IfOk result (λ told. told ≡ told_of self.now transfer.now) }
+        ensures memory { OnErr result (IsSome (told_of self.now transfer.now)) }
+    {
+        if is_settled(transfer) || self.more || self.rcv_settle_mode == ReceiverSettleMode::First {
+            return Ok(None);
+        }
+        name_of(transfer)
+    }
+
+    /// Takes the state that a transfer tells of its delivery, which is settled with it or not. A
+    /// settled delivery is forgotten; a terminal state stays as it is; else the state is kept,
+    /// also of a delivery of which nothing was kept before.
+    ///
+    /// Refused with nothing changed: `DeliveryTagIsNone`, then `OutOfMemory`. Only a delivery of
+    /// which nothing was kept takes memory.
+    pub fn on_transfer_state(
+        &mut self,
+        delivery_tag: &Option<DeliveryTag>,
+        settled: Option<bool>,
+        state: DeliveryState,
+    ) -> Result<(), ReceiverTransferError>
+        ensures after { OnOk result (IsSomeAnd delivery_tag.now (λ tag.
+            self.new ≡ after_state tag settled state self.old)) }
+        ensures refused { IfErr result (λ error. MatchOption delivery_tag.now
+            (error ≡ ReceiverTransferError.DeliveryTagIsNone)
+            (λ tag. error ≡ ReceiverTransferError.OutOfMemory)) }
+        ensures memory { OnErr result (MatchOption delivery_tag.now ⊤ (λ tag.
+            (unwrap_or settled false ≡ false) × (entry_at self.old.unsettled tag ≡ None))) }
+        ensures left { OnErr result (self.new ≡ self.old) }
+    {
+        let Some(tag) = delivery_tag else {
+            drop(state);
+            return Err(ReceiverTransferError::DeliveryTagIsNone);
+        };
+        if settled.unwrap_or(false) {
+            drop(self.unsettled.remove(tag));
+            drop(state);
+            return Ok(());
+        }
+        if self.has_ended(tag) {
+            drop(state);
+            return Ok(());
+        }
+        Ok(self.keep(tag, state)?)
+    }
+
+    /// A front of a delivery has come, up to this place (3.4.1): that is kept of it.
+    ///
+    /// Refused where memory is wanting, with nothing changed. Only a delivery of which nothing was
+    /// kept takes memory.
+    pub fn on_incomplete_transfer(
+        &mut self,
+        delivery_tag: &DeliveryTag,
+        section_number: u32,
+        section_offset: u64,
+    ) -> Result<(), AllocError>
+        ensures after { OnOk result (self.new ≡ with_state delivery_tag.now
+            (DeliveryState.Received section_number section_offset) self.old) }
+        ensures memory { OnErr result (entry_at self.old.unsettled delivery_tag.now ≡ None) }
+        ensures left { OnErr result (self.new ≡ self.old) }
+    {
+        let state = DeliveryState::Received {
+            section_number,
+            section_offset,
+        };
+        self.keep(delivery_tag, state)
+    }
+
+    // Whether the delivery has a terminal state.
+    fn has_ended(&self, tag: &DeliveryTag) -> bool
+        ensures { result ≡ is_terminal_at (entry_at self.now.unsettled tag.now) }
+    {
+        match self.unsettled.get(tag) {
+            Some(Some(state)) => state.is_terminal(),
+            _ => false,
+        }
+    }
+
+    // Keeps a state of a delivery. Takes no memory where something is kept of it.
+    fn keep(&mut self, tag: &DeliveryTag, state: DeliveryState) -> Result<(), AllocError>
+        ensures after { OnOk result (self.new ≡ with_state tag.now state self.old) }
+        ensures memory { OnErr result (entry_at self.old.unsettled tag.now ≡ None) }
+        ensures left { OnErr result (self.new ≡ self.old) }
+    {
+        match self.unsettled.replace(tag, Some(state)) {
+            Ok(old) => drop(old),
+            Err(state) => {
+                let Ok(tag) = tag.clone() else {
+                    drop(state);
+                    return Err(AllocError);
+                };
+                let Ok(old) = self.unsettled.put(tag, state) else {
+                    return Err(AllocError);
+                };
+                drop(old);
+            }
+        }
+        Ok(())
+    }
+}
+
+// The frame of a transfer that came, with its own handle.
+fn frame_of(transfer: Transfer, payload: Payload) -> LinkFrame
+    ensures { result ≡ frame_come transfer payload }
+{
+    LinkFrame::RemoteTransfer(LinkTransfer {
+        input_handle: InputHandle::from(transfer.handle),
+        performative: transfer,
+        payload,
+    })
+}
+
+// Whether a delivery is settled by its transfer; absent means false (2.7.5).
+pub(super) fn is_settled(transfer: &Transfer) -> bool
+    ensures { result ≡ says_settled transfer.now }
+{
+    transfer.settled.unwrap_or(false)
+}
+
+// The number and the tag of a transfer, where it has both.
+fn name_of(transfer: &Transfer) -> Result<Option<(DeliveryNumber, DeliveryTag)>, AllocError>
+    ensures named { IfOk result (λ named.
+        named ≡ named_by transfer.now.delivery_id transfer.now.delivery_tag) }
+    ensures memory { OnErr result
+        (IsSome (named_by transfer.now.delivery_id transfer.now.delivery_tag)) }
+{
+    let Some(id) = transfer.delivery_id else {
+        return Ok(None);
+    };
+    let Some(tag) = &transfer.delivery_tag else {
+        return Ok(None);
+    };
+    Ok(Some((id, tag.clone()?)))
+}

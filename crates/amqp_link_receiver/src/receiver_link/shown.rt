@@ -1,0 +1,117 @@
+//! What a receiver's end shows of itself.
+use crate::receiver_link::ReceiverLink;
+use amqp_link_core::endpoint::attached::sent_limit;
+use amqp_link_core::endpoint::target::LinkTarget;
+use amqp_link_core::endpoint::{Link, LinkExt};
+use amqp_link_types::role::ReceiverMarker;
+use amqp_link_types::state::{LinkFlowState, LinkState};
+use amqp_link_types::types::unsettled_map::UnsettledMap;
+use amqp_link_types::types::{self, DeliveryState, Fields};
+
+impl<T: LinkTarget> Link for ReceiverLink<T> {}
+
+impl<T: LinkTarget> LinkExt for ReceiverLink<T> {
+    ghost use Rattle.std.specs.Prelude.{refl};
+
+    type FlowState = LinkFlowState<ReceiverMarker>;
+
+    type Unsettled = UnsettledMap<Option<DeliveryState>>;
+
+    ghost name_of = { λ link. link.name };
+
+    ghost flow = { λ link. link.flow_state };
+
+    ghost deliveries = { λ link. link.unsettled };
+
+    ghost receiver_mode = { λ link. link.rcv_settle_mode };
+
+    ghost size_limit = { λ link. link.max_message_size };
+
+    ghost properties_of = { λ link. link.flow_state.properties };
+
+    ghost with_properties = { λ link properties. record link {
+      flow_state = record link.flow_state { properties = properties };
+    } };
+
+    ghost moved_leaves_name = { λ link s h. refl };
+
+    ghost moved_leaves_deliveries = { λ link s h. refl };
+
+    ghost moved_leaves_mode = { λ link s h. refl };
+
+    ghost moved_leaves_limit = { λ link s h. refl };
+
+    ghost moved_leaves_properties = { λ link s h. refl };
+
+    ghost moved_leaves_flow = { λ link s h. refl };
+
+    ghost attached_leaves_name = { λ link s. refl };
+
+    ghost attached_leaves_deliveries = { λ link s. refl };
+
+    ghost attached_leaves_mode = { λ link s. refl };
+
+    ghost attached_leaves_limit = { λ link s. refl };
+
+    ghost attached_leaves_properties = { λ link s. refl };
+
+    ghost emptied_leaves_name = { λ link. refl };
+
+    ghost emptied_leaves_mode = { λ link. refl };
+
+    ghost emptied_leaves_limit = { λ link. refl };
+
+    ghost emptied_leaves_properties = { λ link. refl };
+
+    ghost emptied_leaves_flow = { λ link. refl };
+
+    ghost properties_given = { λ link p. refl };
+
+    ghost properties_leave_state = { λ link p. refl };
+
+    ghost properties_leave_handle = { λ link p. refl };
+
+    ghost properties_leave_name = { λ link p. refl };
+
+    ghost properties_leave_deliveries = { λ link p. refl };
+
+    ghost properties_leave_mode = { λ link p. refl };
+
+    ghost properties_leave_limit = { λ link p. refl };
+
+    fn local_state(&self) -> &LinkState {
+        &self.local_state
+    }
+
+    fn name(&self) -> &str {
+        self.name.as_str()
+    }
+
+    fn output_handle_mut(&mut self) -> &mut Option<types::OutputHandle> {
+        &mut self.output_handle
+    }
+
+    fn flow_state(&self) -> &LinkFlowState<ReceiverMarker> {
+        &self.flow_state
+    }
+
+    fn unsettled(&self) -> &UnsettledMap<Option<DeliveryState>> {
+        &self.unsettled
+    }
+
+    fn rcv_settle_mode(&self) -> &types::ReceiverSettleMode {
+        &self.rcv_settle_mode
+    }
+
+    fn max_message_size(&self) -> Option<u64> {
+        sent_limit(self.max_message_size)
+    }
+
+    fn properties(&self) -> &Option<Fields> {
+        self.flow_state.properties()
+    }
+
+    fn properties_mut(&mut self) -> &mut Option<Fields> {
+        self.flow_state.properties_mut()
+    }
+}

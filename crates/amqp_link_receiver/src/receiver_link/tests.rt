@@ -1,0 +1,358 @@
+//! Worked values of a receiver's attaches and detaches.
+use crate::receiver_link::{ReceiverAttachExchange, ReceiverLink, get_max_message_size};
+use crate::samples::{attach_of, coming, count_tag, parts};
+use amqp_link_core::endpoint::{LinkAttach, LinkDetach, LinkExt};
+use amqp_link_samples::table::{
+    Call, STATES, answered, attached, detach, is_illegal, is_illegal_outcome, left, let_go, taken,
+    wanted,
+};
+use amqp_link_types::delivery::Outcomes;
+use amqp_link_types::frame::LinkFrame;
+use amqp_link_types::state::LinkState;
+use amqp_link_types::types::{
+    Attach, OutputHandle, ReceiverAttachError, Role, SenderSettleMode, Target, UnsettledMap,
+};
+use amqp_link_values::length::EncodedLen;
+use std::process::Abort;
+
+mod completing;
+mod deliveries;
+mod flows;
+
+// The link "l" with output handle 0 in this state. One delivery is unsettled, which an attach names
+// only where the limit is more than 30.
+fn link_in(rt: &(impl Abort + AllocGlobal), state: LinkState, limit: u32) -> ReceiverLink<Target> {
+    let mut link = ReceiverLink::new(rt.alloc(), parts(rt, SenderSettleMode::Mixed, limit));
+    drop(link.unsettled.put(count_tag(rt, 0), None));
+    link.local_state = state;
+    link.with_output_handle(OutputHandle(0))
+}
+
+fn attached_in(rt: &(impl Abort + AllocGlobal), state: LinkState, limit: u32) -> (bool, LinkState) {
+    let mut link = link_in(rt, state, limit);
+    let told = attached(&mut link);
+    drop(link);
+    told
+}
+
+#[test]
+fn attaches_that_are_sent(rt: HostRuntime) {
+    for (incomplete, limit) in [(false, 512), (true, 30)] {
+        let call = Call::SendAttach(incomplete);
+        for (place, state) in STATES.iter().enumerate() {
+            let told = attached_in(&rt, *state, limit);
+            assert_eq!(rt; told, wanted(call, place), "{call:?} in {state:?}");
+        }
+    }
+}
+
+fn taken_in(
+    rt: &(impl Abort + AllocGlobal),
+    state: LinkState,
+    incomplete: bool,
+) -> (bool, LinkState) {
+    let mut link = link_in(rt, state, 512);
+    let told = taken(&mut link, coming(rt, Role::Sender, incomplete));
+    drop(link);
+    told
+}
+
+#[test]
+fn attaches_that_come(rt: HostRuntime) {
+    for incomplete in [false, true] {
+        let call = Call::IncomingAttach(incomplete);
+        for (place, state) in STATES.iter().enumerate() {
+            let told = taken_in(&rt, *state, incomplete);
+            assert_eq!(rt; told, wanted(call, place), "{call:?} in {state:?}");
+        }
+    }
+}
+
+fn let_go_in(rt: &(impl Abort + AllocGlobal), state: LinkState, closed: bool) -> (bool, LinkState) {
+    let mut link = link_in(rt, state, 512);
+    let told = let_go(&mut link, closed);
+    drop(link);
+    told
+}
+
+#[test]
+fn detaches_that_are_sent(rt: HostRuntime) {
+    for closed in [false, true] {
+        let call = Call::SendDetach(closed);
+        for (place, state) in STATES.iter().enumerate() {
+            let told = let_go_in(&rt, *state, closed);
+            assert_eq!(rt; told, wanted(call, place), "{call:?} in {state:?}");
+        }
+    }
+}
+
+fn answered_in(
+    rt: &(impl Abort + AllocGlobal),
+    state: LinkState,
+    closed: bool,
+) -> (bool, LinkState) {
+    let mut link = link_in(rt, state, 512);
+    let told = answered(&mut link, closed);
+    drop(link);
+    told
+}
+
+#[test]
+fn detaches_that_answer(rt: HostRuntime) {
+    for closed in [false, true] {
+        let call = Call::DetachReply(closed);
+        for (place, state) in STATES.iter().enumerate() {
+            let told = answered_in(&rt, *state, closed);
+            assert_eq!(rt; told, wanted(call, place), "{call:?} in {state:?}");
+        }
+    }
+}
+
+fn left_in(rt: &(impl Abort + AllocGlobal), state: LinkState, closed: bool) -> (bool, LinkState) {
+    let mut link = link_in(rt, state, 512);
+    let told = left(&mut link, closed);
+    drop(link);
+    told
+}
+
+#[test]
+fn detaches_of_the_other_end(rt: HostRuntime) {
+    for closed in [false, true] {
+        let call = Call::RemoteDetach(closed);
+        for (place, state) in STATES.iter().enumerate() {
+            let told = left_in(&rt, *state, closed);
+            assert_eq!(rt; told, wanted(call, place), "{call:?} in {state:?}");
+        }
+    }
+}
+
+// Whether these are refused for the state, by its name: a detach without output handle, and a
+// closing reply to it.
+fn refused_without_handle(rt: &(impl Abort + AllocGlobal)) -> (bool, bool) {
+    let mut link = link_in(rt, LinkState::Attached, 512);
+    link.output_handle = None;
+    let sent = is_illegal(link.send_detach(false, None));
+    let replied = is_illegal(link.on_detach_reply(detach(true)));
+    drop(link);
+    (sent, replied)
+}
+
+// So of a detach of the other end on a link that was never attached.
+fn refused_unattached(rt: &(impl Abort + AllocGlobal)) -> bool {
+    let mut link = link_in(rt, LinkState::Unattached, 512);
+    let left = is_illegal_outcome(link.apply_remote_detach_outcome(detach(false)));
+    drop(link);
+    left
+}
+
+#[test]
+fn refused_detaches_name_the_state(rt: HostRuntime) {
+    assert_eq!(rt; refused_without_handle(&rt), (true, true));
+    assert!(rt; refused_unattached(&rt));
+}
+
+#[test]
+fn smaller_limit_of_a_message_stands(rt: HostRuntime) {
+    for (own, theirs, wanted) in [
+        (0u64, Some(5u64), 5u64),
+        (7, None, 7),
+        (7, Some(5), 5),
+        (5, Some(7), 5),
+        (7, Some(0), 7),
+        (0, None, 0),
+    ] {
+        assert_eq!(rt;
+            get_max_message_size(own, theirs),
+            wanted,
+            "{own} and {theirs:?}"
+        );
+    }
+}
+
+// What a link shows after an attach came.
+#[derive(Clone, Copy, Debug, PartialEq, Eq)]
+struct Left {
+    told: Result<ReceiverAttachExchange, ReceiverAttachError>,
+    state: LinkState,
+    has_handle: bool,
+    snd_settle_mode: SenderSettleMode,
+    count: u32,
+    more: bool,
+}
+
+// What an attach leaves of a link in this state that awaits more of a delivery.
+fn left_by(rt: &(impl Abort + AllocGlobal), state: LinkState, attach: Attach) -> Left {
+    let mut link = link_in(rt, state, 512);
+    link.more = true;
+    let told = link.on_incoming_attach(attach);
+    let left = Left {
+        told,
+        state: *link.local_state(),
+        has_handle: link.input_handle.is_some(),
+        snd_settle_mode: link.snd_settle_mode,
+        count: link.flow_state().delivery_count(),
+        more: link.more,
+    };
+    drop(link);
+    left
+}
+
+// An attach of a sender that settles and begins at 5.
+fn settled_from_five(rt: &(impl Abort + AllocGlobal)) -> Attach {
+    let mut attach = attach_of(rt, Role::Sender, SenderSettleMode::Settled);
+    attach.initial_delivery_count = Some(5);
+    attach
+}
+
+#[test]
+fn incoming_attach_is_taken_as_far_as_it_goes(rt: HostRuntime) {
+    let taken = Left {
+        told: Ok(ReceiverAttachExchange::Complete),
+        state: LinkState::AttachReceived,
+        has_handle: true,
+        snd_settle_mode: SenderSettleMode::Settled,
+        count: 5,
+        more: false,
+    };
+    assert_eq!(rt;
+        left_by(&rt, LinkState::Unattached, settled_from_five(&rt)),
+        taken
+    );
+    let uncounted = Left {
+        told: Err(ReceiverAttachError::InitialDeliveryCountIsNone),
+        count: 0,
+        ..taken
+    };
+    let mut attach = settled_from_five(&rt);
+    attach.initial_delivery_count = None;
+    assert_eq!(rt; left_by(&rt, LinkState::Unattached, attach), uncounted);
+    let sourceless = Left {
+        told: Err(ReceiverAttachError::IncomingSourceIsNone),
+        snd_settle_mode: SenderSettleMode::Mixed,
+        ..uncounted
+    };
+    let mut attach = settled_from_five(&rt);
+    attach.source = None;
+    assert_eq!(rt; left_by(&rt, LinkState::Unattached, attach), sourceless);
+    let untouched = Left {
+        told: Err(ReceiverAttachError::IllegalState),
+        state: LinkState::Attached,
+        has_handle: false,
+        more: true,
+        ..sourceless
+    };
+    assert_eq!(rt;
+        left_by(&rt, LinkState::Attached, settled_from_five(&rt)),
+        untouched
+    );
+}
+
+// What follows where the sender names a delivery, in full or not.
+fn exchanged(
+    rt: &(impl Abort + AllocGlobal),
+    state: LinkState,
+    incomplete: bool,
+) -> Result<ReceiverAttachExchange, ReceiverAttachError> {
+    let mut entries = UnsettledMap::new(rt.alloc());
+    drop(entries.put(count_tag(rt, 0), None));
+    let mut attach = coming(rt, Role::Sender, incomplete);
+    attach.unsettled = Some(entries);
+    let mut link = link_in(rt, state, 512);
+    let told = link.on_incoming_attach(attach);
+    drop(link);
+    told
+}
+
+#[test]
+fn named_deliveries_are_resumed(rt: HostRuntime) {
+    for (state, incomplete, wanted) in [
+        (LinkState::AttachSent, false, ReceiverAttachExchange::Resume),
+        (
+            LinkState::AttachSent,
+            true,
+            ReceiverAttachExchange::IncompleteUnsettled,
+        ),
+        (
+            LinkState::IncompleteAttachSent,
+            false,
+            ReceiverAttachExchange::IncompleteUnsettled,
+        ),
+        (LinkState::Detached, false, ReceiverAttachExchange::Resume),
+        (
+            LinkState::Detached,
+            true,
+            ReceiverAttachExchange::IncompleteUnsettled,
+        ),
+    ] {
+        assert_eq!(rt;
+            exchanged(&rt, state, incomplete),
+            Ok(wanted),
+            "{incomplete} in {state:?}"
+        );
+    }
+}
+
+#[test]
+fn unfinished_exchanges_are_errors(rt: HostRuntime) {
+    assert_eq!(rt; ReceiverAttachExchange::Complete.complete_or(7u8), Ok(()));
+    assert_eq!(rt; ReceiverAttachExchange::Resume.complete_or(7u8), Err(7));
+}
+
+// What an attach says: its length, and whether it has a map.
+fn said_by(frame: &LinkFrame) -> Option<(Option<u64>, bool)> {
+    match frame {
+        LinkFrame::Attach(attach) => Some((attach.encoded_len(), attach.unsettled.is_some())),
+        _ => None,
+    }
+}
+
+fn said_of(
+    sent: &Result<(LinkFrame, Outcomes), ReceiverAttachError>,
+) -> Option<(Option<u64>, bool)> {
+    match sent {
+        Ok((frame, _)) => said_by(frame),
+        Err(_) => None,
+    }
+}
+
+fn said_in(
+    sent: Result<(LinkFrame, Outcomes), ReceiverAttachError>,
+) -> Option<(Option<u64>, bool)> {
+    let said = said_of(&sent);
+    drop(sent);
+    said
+}
+
+// What a detached link says, and how many deliveries are left.
+fn said_after_a_detach(
+    rt: &(impl Abort + AllocGlobal),
+    is_reattaching: bool,
+) -> (Option<(Option<u64>, bool)>, usize) {
+    let mut link = link_in(rt, LinkState::Detached, 512);
+    let said = said_in(link.send_attach(is_reattaching));
+    let left = link.unsettled().len();
+    drop(link);
+    (said, left)
+}
+
+// The map takes three bytes and each entry seven; a link that attaches anew keeps none.
+#[test]
+fn reattach_forgets_what_was_unsettled(rt: HostRuntime) {
+    assert_eq!(rt;
+        said_after_a_detach(&rt, false),
+        (Some((Some(33), true)), 1)
+    );
+    assert_eq!(rt;
+        said_after_a_detach(&rt, true),
+        (Some((Some(24), false)), 0)
+    );
+}
+
+// Whether all fits in a frame of that size.
+#[test]
+fn complete_attach_is_measured(rt: HostRuntime) {
+    let link = link_in(&rt, LinkState::Unattached, 512);
+    assert_eq!(rt; link.complete_attach_fits(37, 0), Ok(true));
+    assert_eq!(rt; link.complete_attach_fits(36, 0), Ok(false));
+    drop(link);
+}

@@ -1,0 +1,415 @@
+//! Worked values of deliveries that come whole.
+use crate::receiver_link::ReceiverLink;
+use crate::samples::{count_tag, parts, payload_of};
+use amqp_link_core::endpoint::LinkExt;
+use amqp_link_types::delivery::{Delivery, DeliveryInfo};
+use amqp_link_types::state::{LinkFlowStateInner, LinkState};
+use amqp_link_types::types::{
+    DataBody, DecodeError, DeliveryState, DeliveryTag, FromBody, MessageDecodeError, OutputHandle,
+    Payload, ReceiverSettleMode, ReceiverTransferError, SenderSettleMode, Target, Transfer, Whole,
+};
+use std::process::Abort;
+
+// The link "l" in this mode, attached at output handle 7, at the last count and with this credit.
+fn link_in(
+    rt: &(impl Abort + AllocGlobal),
+    mode: ReceiverSettleMode,
+    link_credit: u32,
+) -> ReceiverLink<Target> {
+    let mut parts = parts(rt, SenderSettleMode::Mixed, 512);
+    parts.rcv_settle_mode = mode;
+    parts.flow_state = LinkFlowStateInner {
+        delivery_count: u32::MAX,
+        link_credit,
+        ..LinkFlowStateInner::default()
+    };
+    let mut link = ReceiverLink::new(rt.alloc(), parts);
+    link.local_state = LinkState::Attached;
+    link.with_output_handle(OutputHandle(7))
+}
+
+// The transfer of delivery 3, with tag 1, format 5 and this flag.
+fn third(rt: &(impl Abort + AllocGlobal), settled: Option<bool>) -> Transfer {
+    Transfer {
+        delivery_id: Some(3),
+        delivery_tag: Some(count_tag(rt, 1)),
+        message_format: Some(5),
+        settled,
+        ..Transfer::default()
+    }
+}
+
+fn pieces(rt: &(impl Abort + AllocGlobal), bytes: &[u8], others: &[u8]) -> Vec<Payload> {
+    let mut pieces = Vec::new(rt.alloc());
+    drop(pieces.push(payload_of(rt, bytes)));
+    drop(pieces.push(payload_of(rt, others)));
+    pieces
+}
+
+// What is left of a link: its count, its credit, how many deliveries it keeps, and the place of the
+// one with a tag.
+#[derive(Clone, Copy, Debug, PartialEq, Eq)]
+struct Left {
+    count: u32,
+    credit: u32,
+    entries: usize,
+    place: Option<(u32, u64)>,
+}
+
+fn left_of(rt: &(impl Abort + AllocGlobal), link: &ReceiverLink<Target>) -> Left {
+    left_at(link, &count_tag(rt, 1))
+}
+
+fn left_at(link: &ReceiverLink<Target>, tag: &DeliveryTag) -> Left {
+    let place = match link.unsettled().get(tag) {
+        Some(
+            Some(
+                DeliveryState::Received {
+                    section_number,
+                    section_offset,
+                },
+            ),
+        ) => Some((*section_number, *section_offset)),
+        _ => None,
+    };
+    Left {
+        count: link.flow_state().delivery_count(),
+        credit: link.flow_state().link_credit(),
+        entries: link.unsettled().len(),
+        place,
+    }
+}
+
+// A transfer ends a delivery whose payload ends at this place.
+fn completed<B: FromBody>(
+    link: &mut ReceiverLink<Target>,
+    transfer: &Transfer,
+    pieces: &[Payload],
+    section_offset: u64,
+) -> Result<Delivery<B>, ReceiverTransferError> {
+    link.on_complete_transfer(transfer, pieces, 0, section_offset)
+}
+
+// Handle, number, last byte of the tag, and format of a delivery.
+type Given = (u32, u32, Option<u8>, Option<u32>);
+
+// What is given, if anything is.
+fn given_by<B: FromBody>(answer: &Result<Delivery<B>, ReceiverTransferError>) -> Option<Given> {
+    match answer {
+        Ok(delivery) => Some((
+            delivery.handle().0,
+            delivery.delivery_id(),
+            delivery.delivery_tag().as_bytes().last().copied(),
+            delivery.message_format(),
+        )),
+        Err(_) => None,
+    }
+}
+
+fn has_bytes(answer: &Result<Delivery<Whole>, ReceiverTransferError>, wanted: &[u8]) -> bool {
+    match answer {
+        Ok(delivery) => delivery.body().0.as_slice() == wanted,
+        Err(_) => false,
+    }
+}
+
+fn has_data(answer: &Result<Delivery<DataBody>, ReceiverTransferError>, wanted: &[u8]) -> bool {
+    match answer {
+        Ok(delivery) => delivery.body().0.as_slice() == wanted,
+        Err(_) => false,
+    }
+}
+
+// An unsettled delivery of two bytes comes whole: what is given, whether with its bytes, and what is
+// left.
+fn given_unsettled(rt: &(impl Abort + AllocGlobal)) -> (Option<Given>, bool, Left) {
+    let mut link = link_in(rt, ReceiverSettleMode::First, 1);
+    let pieces = pieces(rt, b"h", b"i");
+    let transfer = third(rt, None);
+    let answer = completed(&mut link, &transfer, pieces.as_slice(), 2);
+    let told = (
+        given_by(&answer),
+        has_bytes(&answer, b"hi"),
+        left_of(rt, &link),
+    );
+    drop((answer, pieces));
+    drop((transfer, link));
+    told
+}
+
+#[test]
+fn unsettled_delivery_is_given_and_kept(rt: HostRuntime) {
+    let left = Left {
+        count: 0,
+        credit: 0,
+        entries: 1,
+        place: Some((0, 2)),
+    };
+    let given = given_unsettled(&rt);
+    assert_eq!(rt; given, (Some((7, 3, Some(1), Some(5))), true, left));
+}
+
+// The mode of a delivery that is given.
+fn mode_of(
+    answer: Result<Delivery<DataBody>, ReceiverTransferError>,
+) -> Option<Option<ReceiverSettleMode>> {
+    Some(DeliveryInfo::from(answer.ok()?).rcv_settle_mode())
+}
+
+// The mode of a delivery whose transfer asks for mode second, settled or not.
+fn mode_given(
+    rt: &(impl Abort + AllocGlobal),
+    settled: bool,
+) -> Option<Option<ReceiverSettleMode>> {
+    let mut link = link_in(rt, ReceiverSettleMode::Second, 2);
+    let pieces = pieces(rt, &[0, 0x53, 0x75, 0xa0], &[0]);
+    let mut transfer = third(rt, Some(settled));
+    transfer.rcv_settle_mode = Some(ReceiverSettleMode::Second);
+    let answer = completed(&mut link, &transfer, pieces.as_slice(), 5);
+    drop((pieces, transfer));
+    drop(link);
+    mode_of(answer)
+}
+
+// The same of a settled one of two bytes of data in two pieces, which asks for mode second.
+fn given_settled(rt: &(impl Abort + AllocGlobal)) -> (Option<Given>, bool, Left) {
+    let mut link = link_in(rt, ReceiverSettleMode::First, 2);
+    let pieces = pieces(rt, &[0, 0x53, 0x75, 0xa0], &[2, 0x61, 0x62]);
+    let mut transfer = third(rt, Some(true));
+    transfer.rcv_settle_mode = Some(ReceiverSettleMode::Second);
+    let answer = completed(&mut link, &transfer, pieces.as_slice(), 7);
+    let told = (
+        given_by(&answer),
+        has_data(&answer, b"ab"),
+        left_of(rt, &link),
+    );
+    drop((answer, pieces));
+    drop((transfer, link));
+    told
+}
+
+#[test]
+fn settled_delivery_is_given_and_not_kept(rt: HostRuntime) {
+    let left = Left {
+        count: 0,
+        credit: 1,
+        entries: 0,
+        place: None,
+    };
+    let given = given_settled(&rt);
+    assert_eq!(rt; given, (Some((7, 3, Some(1), Some(5))), true, left));
+    assert_eq!(rt; mode_given(&rt, true), Some(None));
+    let second = Some(Some(ReceiverSettleMode::Second));
+    assert_eq!(rt; mode_given(&rt, false), second);
+}
+
+// The number of a delivery that was not read, its tag's only byte, and why.
+type Unread = (u32, u8, DecodeError);
+
+fn unread_of(refused: &MessageDecodeError) -> Option<Unread> {
+    match refused.info.delivery_tag().as_bytes() {
+        [byte] => Some((refused.info.delivery_id(), *byte, refused.source)),
+        _ => None,
+    }
+}
+
+fn unread_by(answer: &Result<Delivery<DataBody>, ReceiverTransferError>) -> Option<Unread> {
+    match answer {
+        Err(ReceiverTransferError::MessageDecode(refused)) => unread_of(refused),
+        _ => None,
+    }
+}
+
+// The transfer of the delivery 3 with this tag.
+fn named(tag: DeliveryTag) -> Transfer {
+    Transfer {
+        delivery_id: Some(3),
+        delivery_tag: Some(tag),
+        ..Transfer::default()
+    }
+}
+
+fn byte_tag(rt: &(impl Abort + AllocGlobal)) -> DeliveryTag {
+    DeliveryTag::from(vec![in rt.alloc(); 1u8].expect(rt, "memory"))
+}
+
+// What is told of a delivery that comes whole on this link, one byte in one piece.
+fn unread_on(rt: &(impl Abort + AllocGlobal), link: &mut ReceiverLink<Target>) -> Option<Unread> {
+    let transfer = named(byte_tag(rt));
+    let piece = [payload_of(rt, &[0x41])];
+    let answer = completed(link, &transfer, &piece, 1);
+    let unread = unread_by(&answer);
+    drop((answer, transfer));
+    drop(piece);
+    unread
+}
+
+// The delivery 3 with tag 01 comes whole, one byte in one piece, which is no section of data.
+fn unread(rt: &(impl Abort + AllocGlobal)) -> (Option<Unread>, Left) {
+    let mut link = link_in(rt, ReceiverSettleMode::First, 1);
+    let unread = unread_on(rt, &mut link);
+    let left = left_at(&link, &byte_tag(rt));
+    drop(link);
+    (unread, left)
+}
+
+#[test]
+fn refused_body_costs_the_credit_and_is_kept(rt: HostRuntime) {
+    let left = Left {
+        count: 0,
+        credit: 0,
+        entries: 1,
+        place: Some((0, 1)),
+    };
+    let why = DecodeError::NotOneDataSection;
+    assert_eq!(rt; unread(&rt), (Some((3, 1, why)), left));
+}
+
+// What a refused transfer is told, by its name.
+#[derive(Clone, Copy, Debug, PartialEq, Eq)]
+enum Told {
+    Given,
+    IllegalState,
+    TransferLimitExceeded,
+    DeliveryIdIsNone,
+    DeliveryTagIsNone,
+    IllegalMode,
+    Other,
+}
+
+fn told_by(answer: &Result<Delivery<Whole>, ReceiverTransferError>) -> Told {
+    match answer {
+        Ok(_) => Told::Given,
+        Err(ReceiverTransferError::IllegalState) => Told::IllegalState,
+        Err(ReceiverTransferError::TransferLimitExceeded) => Told::TransferLimitExceeded,
+        Err(ReceiverTransferError::DeliveryIdIsNone) => Told::DeliveryIdIsNone,
+        Err(ReceiverTransferError::DeliveryTagIsNone) => Told::DeliveryTagIsNone,
+        Err(ReceiverTransferError::IllegalRcvSettleModeInTransfer) => Told::IllegalMode,
+        Err(_) => Told::Other,
+    }
+}
+
+// A transfer ends a delivery of two bytes on this link.
+fn told_at(
+    rt: &(impl Abort + AllocGlobal),
+    link: &mut ReceiverLink<Target>,
+    transfer: &Transfer,
+) -> (Told, Left) {
+    let pieces = pieces(rt, b"h", b"i");
+    let answer = completed(link, transfer, pieces.as_slice(), 2);
+    let told = told_by(&answer);
+    drop((answer, pieces));
+    (told, left_of(rt, link))
+}
+
+// The same of a link that takes no more.
+fn told_once(
+    rt: &(impl Abort + AllocGlobal),
+    mut link: ReceiverLink<Target>,
+    transfer: Transfer,
+) -> (Told, Left) {
+    let told = told_at(rt, &mut link, &transfer);
+    drop((transfer, link));
+    told
+}
+
+// A link at the last count with its credit, that keeps nothing.
+fn untouched(credit: u32) -> Left {
+    Left {
+        count: u32::MAX,
+        credit,
+        entries: 0,
+        place: None,
+    }
+}
+
+// The same after one credit.
+fn spent(credit: u32) -> Left {
+    Left {
+        count: 0,
+        ..untouched(credit)
+    }
+}
+
+// A transfer without number ends a delivery, twice, where there is one credit.
+fn told_twice(rt: &(impl Abort + AllocGlobal)) -> [(Told, Left); 2] {
+    let mut link = link_in(rt, ReceiverSettleMode::First, 1);
+    let mut transfer = third(rt, None);
+    transfer.delivery_id = None;
+    let first = told_at(rt, &mut link, &transfer);
+    let again = told_at(rt, &mut link, &transfer);
+    drop((transfer, link));
+    [first, again]
+}
+
+// A transfer without tag ends a delivery.
+fn told_untagged(rt: &(impl Abort + AllocGlobal)) -> (Told, Left) {
+    let mut transfer = third(rt, None);
+    transfer.delivery_tag = None;
+    told_once(rt, link_in(rt, ReceiverSettleMode::First, 2), transfer)
+}
+
+// A transfer in mode second ends a delivery on a link of this mode.
+fn told_second(rt: &(impl Abort + AllocGlobal), mode: ReceiverSettleMode) -> (Told, Left) {
+    let mut transfer = third(rt, None);
+    transfer.rcv_settle_mode = Some(ReceiverSettleMode::Second);
+    told_once(rt, link_in(rt, mode, 2), transfer)
+}
+
+#[test]
+fn wrong_transfers_cost_the_credit(rt: HostRuntime) {
+    let [first, again] = told_twice(&rt);
+    assert_eq!(rt; first, (Told::DeliveryIdIsNone, spent(0)));
+    assert_eq!(rt; again, (Told::TransferLimitExceeded, spent(0)));
+    let untagged = told_untagged(&rt);
+    assert_eq!(rt; untagged, (Told::DeliveryTagIsNone, spent(1)));
+    let (told, left) = told_second(&rt, ReceiverSettleMode::First);
+    assert_eq!(rt; (told, left), (Told::IllegalMode, spent(1)));
+    let (told, _) = told_second(&rt, ReceiverSettleMode::Second);
+    assert_eq!(rt; told, Told::Given);
+}
+
+// A transfer ends a delivery in this state.
+fn told_in(rt: &(impl Abort + AllocGlobal), state: LinkState) -> (Told, Left) {
+    let mut link = link_in(rt, ReceiverSettleMode::First, 2);
+    link.local_state = state;
+    told_once(rt, link, third(rt, None))
+}
+
+#[test]
+fn link_that_is_not_attached_takes_nothing(rt: HostRuntime) {
+    for state in [
+        LinkState::Unattached,
+        LinkState::AttachSent,
+        LinkState::IncompleteAttachSent,
+        LinkState::AttachReceived,
+        LinkState::IncompleteAttachReceived,
+        LinkState::DetachSent,
+        LinkState::Detached,
+        LinkState::CloseSent,
+        LinkState::Closed,
+    ] {
+        let told = told_in(&rt, state);
+        assert_eq!(rt; told, (Told::IllegalState, untouched(2)), "in {state:?}");
+    }
+    let (told, _) = told_in(&rt, LinkState::IncompleteAttachExchanged);
+    assert_eq!(rt; told, Told::Given);
+}
+
+// A transfer ends a delivery on a link without output handle.
+fn told_without_handle(rt: &(impl Abort + AllocGlobal)) -> (Told, Left) {
+    let mut link = link_in(rt, ReceiverSettleMode::First, 2);
+    link.output_handle = None;
+    told_once(rt, link, third(rt, None))
+}
+
+#[test]
+fn without_handle_the_delivery_is_kept_and_not_given(rt: HostRuntime) {
+    let left = Left {
+        entries: 1,
+        place: Some((0, 2)),
+        ..spent(1)
+    };
+    let told = told_without_handle(&rt);
+    assert_eq!(rt; told, (Told::IllegalState, left));
+}

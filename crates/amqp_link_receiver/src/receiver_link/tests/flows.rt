@@ -1,0 +1,239 @@
+//! Worked values of a receiver's flows (2.6.7).
+use crate::receiver_link::ReceiverLink;
+use crate::samples::{fields, parts};
+use amqp_link_samples::links::{FlowTold, told, told_back};
+use amqp_link_types::frame::LinkFrame;
+use amqp_link_types::state::LinkFlowStateInner;
+use amqp_link_types::types::{
+    FlowError, LinkFlow, LinkRelayError, OutputHandle, SenderSettleMode, Target,
+};
+use std::process::Abort;
+
+// The link "l" at this count, with credit 4, and with properties. It has no output handle.
+fn unnamed(
+    rt: &(impl Abort + AllocGlobal),
+    delivery_count: u32,
+    available: u32,
+) -> ReceiverLink<Target> {
+    let mut parts = parts(rt, SenderSettleMode::Mixed, 512);
+    parts.flow_state = LinkFlowStateInner {
+        initial_delivery_count: 9,
+        delivery_count,
+        link_credit: 4,
+        available,
+        drain: false,
+        properties: Some(fields(rt, "k")),
+    };
+    ReceiverLink::new(rt.alloc(), parts)
+}
+
+fn named(
+    rt: &(impl Abort + AllocGlobal),
+    delivery_count: u32,
+    available: u32,
+) -> ReceiverLink<Target> {
+    unnamed(rt, delivery_count, available).with_output_handle(OutputHandle(7))
+}
+
+// How a link that asks for no answer stands; a receiver does not say what is available.
+fn stated(count: u32, credit: u32, drain: bool, echo: bool) -> FlowTold {
+    FlowTold {
+        handle: 7,
+        count: Some(count),
+        credit: Some(credit),
+        available: None,
+        drain,
+        echo,
+    }
+}
+
+fn flow_in(frame: &LinkFrame) -> Option<&LinkFlow> {
+    match frame {
+        LinkFrame::Flow(flow) => Some(flow),
+        _ => None,
+    }
+}
+
+// What a flow that goes out tells, where it goes.
+fn told_by(sent: &Result<LinkFrame, FlowError>) -> Result<Option<FlowTold>, FlowError> {
+    match sent {
+        Ok(frame) => Ok(flow_in(frame).and_then(told)),
+        Err(error) => Err(*error),
+    }
+}
+
+fn sent_by(
+    link: &mut ReceiverLink<Target>,
+    credit: Option<u32>,
+    drain: Option<bool>,
+    echo: bool,
+) -> Result<Option<FlowTold>, FlowError> {
+    let sent = link.send_flow(credit, drain, echo, false);
+    let told = told_by(&sent);
+    drop(sent);
+    told
+}
+
+// What goes back for a flow of the sender, and what goes out then of itself.
+fn back_and_out(
+    rt: &(impl Abort + AllocGlobal),
+) -> (
+    Result<Option<FlowTold>, LinkRelayError>,
+    Result<Option<FlowTold>, FlowError>,
+) {
+    let mut link = named(rt, 5, 0);
+    let flow = LinkFlow {
+        delivery_count: Some(7),
+        link_credit: Some(9),
+        available: Some(3),
+        echo: true,
+        ..LinkFlow::default()
+    };
+    let back = told_back(link.on_incoming_flow(flow));
+    let out = sent_by(&mut link, None, None, true);
+    drop(link);
+    (back, out)
+}
+
+#[test]
+fn sender_tells_its_count_and_what_waits(rt: HostRuntime) {
+    let reply = FlowTold {
+        available: Some(3),
+        ..stated(7, 4, false, false)
+    };
+    let (back, out) = back_and_out(&rt);
+    assert_eq!(rt; back, Ok(Some(reply)));
+    assert_eq!(rt; out, Ok(Some(stated(7, 4, false, true))));
+}
+
+// What goes back, and the count, the credit and the drain flag of a link at this count, after a flow
+// with this count and credit that asks for no answer.
+fn left_by(
+    rt: &(impl Abort + AllocGlobal),
+    own: u32,
+    delivery_count: Option<u32>,
+    link_credit: Option<u32>,
+) -> (Result<Option<FlowTold>, LinkRelayError>, u32, u32, bool) {
+    let mut link = named(rt, own, 6);
+    let flow = LinkFlow {
+        delivery_count,
+        link_credit,
+        drain: true,
+        ..LinkFlow::default()
+    };
+    let told = told_back(link.on_incoming_flow(flow));
+    let count = link.flow_state.delivery_count();
+    let credit = link.flow_state.link_credit();
+    let drain = link.flow_state.drain();
+    drop(link);
+    (told, count, credit, drain)
+}
+
+// The counts beside which a difference changes its sign.
+const EDGES: [u32; 4] = [0, (1 << 31) - 1, 1 << 31, u32::MAX];
+
+#[test]
+fn credit_is_the_receivers_own(rt: HostRuntime) {
+    for own in EDGES {
+        for count in EDGES {
+            for credit in [None, Some(0), Some(u32::MAX)] {
+                assert_eq!(rt;
+                    left_by(&rt, own, Some(count), credit),
+                    (Ok(None), count, 4, false),
+                    "{credit:?} and {count} at {own}"
+                );
+            }
+        }
+        assert_eq!(rt; left_by(&rt, own, None, Some(9)), (Ok(None), own, 4, false));
+        assert_eq!(rt; left_by(&rt, own, None, None), (Ok(None), own, 4, false));
+    }
+}
+
+// What goes out as the credit is set and the drain flag with it, then neither, then the flag alone.
+fn sent_in_turn(
+    rt: &(impl Abort + AllocGlobal),
+    count: u32,
+    credit: u32,
+) -> [Result<Option<FlowTold>, FlowError>; 3] {
+    let mut link = named(rt, count, 6);
+    let both = sent_by(&mut link, Some(credit), Some(true), false);
+    let neither = sent_by(&mut link, None, None, true);
+    [both, neither, sent_by(&mut link, None, Some(false), false)]
+}
+
+#[test]
+fn what_is_given_is_set_and_stated(rt: HostRuntime) {
+    for count in [0, (1 << 31) - 1, 1 << 31, u32::MAX] {
+        for credit in [0, (1 << 31) - 1, 1 << 31, u32::MAX] {
+            let wanted = [
+                Ok(Some(stated(count, credit, true, false))),
+                Ok(Some(stated(count, credit, true, true))),
+                Ok(Some(stated(count, credit, false, false))),
+            ];
+            let sent = sent_in_turn(&rt, count, credit);
+            assert_eq!(rt; sent, wanted, "{credit} at {count}");
+        }
+    }
+}
+
+// Whether a flow goes out as this one.
+fn is_sent(sent: &Result<LinkFrame, FlowError>, wanted: &LinkFlow) -> bool {
+    match sent {
+        Ok(frame) => flow_in(frame) == Some(wanted),
+        Err(_) => false,
+    }
+}
+
+// Whether a flow goes out with the link's properties.
+fn sends_properties(rt: &(impl Abort + AllocGlobal)) -> bool {
+    let mut link = named(rt, 5, 6);
+    let wanted = LinkFlow {
+        handle: OutputHandle(7).into(),
+        delivery_count: Some(5),
+        link_credit: Some(8),
+        available: None,
+        drain: false,
+        echo: false,
+        properties: Some(fields(rt, "k")),
+    };
+    let sent = link.send_flow(Some(8), None, false, true);
+    let is_sent = is_sent(&sent, &wanted);
+    drop((sent, wanted));
+    drop(link);
+    is_sent
+}
+
+#[test]
+fn properties_go_out_where_they_are_asked_for(rt: HostRuntime) {
+    assert!(rt; sends_properties(&rt));
+}
+
+// What goes out and back without output handle, and the count and the credit then.
+fn without_handle(
+    rt: &(impl Abort + AllocGlobal),
+) -> (
+    Result<Option<FlowTold>, FlowError>,
+    Result<Option<FlowTold>, LinkRelayError>,
+    (u32, u32, bool),
+) {
+    let mut link = unnamed(rt, 5, 6);
+    let out = sent_by(&mut link, Some(8), Some(true), true);
+    let flow = LinkFlow {
+        delivery_count: Some(8),
+        echo: true,
+        ..LinkFlow::default()
+    };
+    let back = told_back(link.on_incoming_flow(flow));
+    let state = &link.flow_state;
+    let left = (state.delivery_count(), state.link_credit(), state.drain());
+    drop(link);
+    (out, back, left)
+}
+
+#[test]
+fn without_handle_no_flow_comes_or_goes(rt: HostRuntime) {
+    let (out, back, left) = without_handle(&rt);
+    assert_eq!(rt; out, Err(FlowError::IllegalState));
+    assert_eq!(rt; back, Err(LinkRelayError::UnattachedHandle));
+    assert_eq!(rt; left, (5, 4, false));
+}

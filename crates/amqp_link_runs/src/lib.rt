@@ -1,0 +1,70 @@
+//! Delivery ids in order, and the runs in which dispositions name them (OASIS AMQP 1.0 core, 2.7.6).
+#![tactic(auto)]
+
+ghost use Rattle.std.specs.Prelude.{◌≡◌, ◌++◌, ◌∷◌, [], ℕ, List, IfOk, OnOk, OnErr};
+ghost use Rattle.amqp_link_runs.specs.Order.{sorted_by};
+ghost use Rattle.amqp_link_runs.specs.Runs.{AreRuns};
+
+pub mod laws;
+#[cfg(test)]
+mod tests;
+
+use std::alloc::{AllocError, Global};
+
+/// Delivery ids from a first to a last one, both among them.
+#[derive(Clone, Copy, Debug, PartialEq, Eq)]
+pub struct Run {
+    /// The first id.
+    pub first: u32,
+    /// The last id.
+    pub last: u32,
+}
+
+/// Sorts pairs by their ids; those of one id stay in the order in which they are listed. An id is
+/// compared as a number here, and does not wrap.
+///
+/// Refused, with nothing changed, for want of memory alone; up to 20 pairs take none.
+pub fn sort_by_id<T>(pairs: &mut Vec<(u32, T)>) -> Result<(), AllocError>
+    ensures sorted { OnOk result (pairs.new.items ≡ sorted_by (λ pair. pair.0) pairs.old.items) }
+    ensures left { OnErr result (pairs.new.items ≡ pairs.old.items) }
+{
+    pairs.sort_by_key(|pair| pair.0)
+}
+
+// The run after one more id: the current one, longer, or one that begins with it.
+fn next_run(runs: &mut Vec<Run>, current: Run, id: u32) -> Result<Run, AllocError>
+    ensures { IfOk result (λ next. (ids : List ℕ) → AreRuns ids (runs.old.items ++ current ∷ [])
+        → AreRuns (ids ++ id ∷ []) (runs.new.items ++ next ∷ [])) }
+{
+    if current.last.checked_add(1) == Some(id) {
+        return Ok(Run {
+            first: current.first,
+            last: id,
+        });
+    }
+    runs.push(current)?;
+    Ok(Run {
+        first: id,
+        last: id,
+    })
+}
+
+/// The longest runs of these ids, in the order in which they are listed: a run goes on only from one
+/// id to the next number. Equal ids stand in runs of their own. May take memory.
+pub fn runs_of(alloc: Global, ids: &[u32]) -> Result<Vec<Run>, AllocError>
+    ensures { IfOk result (λ runs. AreRuns ids.now runs.items) }
+{
+    let mut runs = Vec::new(alloc);
+    let Some((first, rest)) = ids.split_first() else {
+        return Ok(runs);
+    };
+    let mut current = Run {
+        first: *first,
+        last: *first,
+    };
+    for id in rest {
+        current = next_run(&mut runs, current, *id)?;
+    }
+    runs.push(current)?;
+    Ok(runs)
+}

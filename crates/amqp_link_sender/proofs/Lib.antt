@@ -1,0 +1,2 @@
+pub mod SendRefusals
+pub mod SplitLemmas

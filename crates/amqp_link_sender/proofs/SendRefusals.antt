@@ -1,0 +1,63 @@
+-- Why a new delivery is refused, and why its transfer is.
+use Rattle.std.proofs.Common.{◌≡◌, ◌∙◌, sym, ap, ℕ, Bool, true, false, not, ◌&&◌, List, [], ◌∷◌, refl, Option, Some, None, Result, Ok, Err, option_map, arith, inl, inr, ◌⊎◌, ◌==◌}
+use Rattle.std.proofs.lemmas.Bool.Decides.{nat_tests}
+use Rattle.std.specs.Prelude.{IsErrAnd, is_none, unwrap_or, MatchOption}
+use Rattle.amqp_link_types.specs.Entries.{Tag}
+use Rattle.amqp_link_types.specs.Refusals.{refusal}
+use Rattle.amqp_link_types.specs.declared.types.definitions.OutputHandle.{OutputHandle}
+use Rattle.amqp_link_types.specs.declared.types.errors.LinkStateError.{LinkStateError}
+use Rattle.amqp_link_types.specs.declared.types.errors.LinkStateError.TheVariants as error
+use Rattle.amqp_link_types.specs.declared.types.transfer.Transfer.{Transfer}
+use Rattle.amqp_link_sender.specs.declared.sender_link.Sending.{Sending}
+use Rattle.amqp_link_sender.specs.Room.{has_room}
+use Rattle.amqp_link_sender.specs.Senders.{Sender, Delivery, Stop, refused, missing_credit, payload_tests, tagged_transfer_tests, new_transfer, next_tag, settled_by_mode, is_pending, AnswersSend}
+
+skip : {E : Type 0} (a : Bool) (e : E) (rest : List (Bool × E)) → a ≡ false → refusal ((a, e) ∷ rest) ≡ refusal rest
+skip false e rest h = refl
+skip true e rest h = absurd (cc)
+
+not_zero : (n : ℕ) → (n ≡ 0 → ⊥) → (n == 0) ≡ false
+not_zero n h = grind (arith, nat_tests)
+
+last_two : (a b : Bool) (p q : LinkStateError) → refusal ((a, refused p) ∷ (b, refused q) ∷ []) ≡ option_map refused (refusal ((a, p) ∷ (b, q) ∷ []))
+last_two true b p q = refl
+last_two false true p q = refl
+last_two false false p q = refl
+
+module _ {T : Type 0} (s : Sender T) (d : Delivery) (payload : List ℕ) where
+  -- with handles and credit a delivery is refused where its transfer is
+  by_transfer : (h : OutputHandle) → s.output_handle ≡ Some h → is_none s.input_handle ≡ false → (s.flow_state.link_credit == 0) ≡ false
+      → refusal (payload_tests s d payload) ≡ option_map refused (refusal (tagged_transfer_tests s (new_transfer s h (next_tag s) d) payload))
+  by_transfer h output input credit =
+      let pending : Bool = not (settled_by_mode s.snd_settle_mode d.settled) && is_pending s (next_tag s) in
+      let crowded : Option OutputHandle → Bool = λ o. not (has_room (new_transfer s (unwrap_or o (record { 0 = 0 })) (next_tag s) d) s.max_frame_size payload) in
+      let last : Option OutputHandle → List (Bool × Stop) = λ o. (pending, refused error.TagPending) ∷ (crowded o, refused error.NoRoom) ∷ [] in
+      let third : Option OutputHandle → List (Bool × Stop) = λ o. (s.flow_state.link_credit == 0, missing_credit) ∷ last o in
+      let second : Option OutputHandle → List (Bool × Stop) = λ o. (is_none s.input_handle, refused error.IllegalState) ∷ third o in
+      skip (is_none s.output_handle) (refused error.IllegalState) (second s.output_handle) (ap is_none output)
+      ∙ skip (is_none s.input_handle) (refused error.IllegalState) (third s.output_handle) input
+      ∙ skip (s.flow_state.link_credit == 0) missing_credit (last s.output_handle) credit
+      ∙ ap (λ o. refusal (last o)) output
+      ∙ last_two pending (crowded (Some h)) error.TagPending error.NoRoom
+      ∙ sym (ap (option_map refused) (skip (is_none s.input_handle) error.IllegalState ((pending, error.TagPending) ∷ (crowded (Some h), error.NoRoom) ∷ []) input))
+
+  pub refused_with : (tag : Tag) (r : Result Transfer LinkStateError) (first : Transfer) → tag ≡ next_tag s
+      → MatchOption s.output_handle (r ≡ Err error.IllegalState) (λ h. r ≡ Ok (new_transfer s h tag d))
+      → r ≡ Ok first → is_none s.input_handle ≡ false → (s.flow_state.link_credit ≡ 0 → ⊥)
+      → refusal (payload_tests s d payload) ≡ option_map refused (refusal (tagged_transfer_tests s first payload))
+  refused_with tag r first next made is input credit = by s.output_handle refl made
+    where
+      by : (o : Option OutputHandle) → s.output_handle ≡ o → MatchOption o (r ≡ Err error.IllegalState) (λ h. r ≡ Ok (new_transfer s h tag d))
+          → refusal (payload_tests s d payload) ≡ option_map refused (refusal (tagged_transfer_tests s first payload))
+      by None o m = absurd (cc)
+      by (Some h) o m =
+          let here : new_transfer s h tag d ≡ first = cc in
+          let same : new_transfer s h (next_tag s) d ≡ first = ap (λ t. new_transfer s h t d) (sym next) ∙ here in
+          by_transfer h o input (not_zero s.flow_state.link_credit credit) ∙ ap (λ t. option_map refused (refusal (tagged_transfer_tests s t payload))) same
+
+-- a refused transfer refuses the delivery
+pub told : (r : Result Sending LinkStateError) (tests : List (Bool × LinkStateError)) (stops : List (Bool × Stop)) (e : LinkStateError) → IsErrAnd r (λ x. x ≡ e)
+    → refusal stops ≡ option_map refused (refusal tests) → (e ≡ error.OutOfMemory) ⊎ (refusal tests ≡ Some e) → AnswersSend r stops
+told (Ok a) tests stops e is same why = absurd is
+told (Err x) tests stops e is same (inl memory) = inl (is ∙ memory)
+told (Err x) tests stops e is same (inr stop) = inr (same ∙ ap (option_map refused) (stop ∙ ap Some (sym is)))

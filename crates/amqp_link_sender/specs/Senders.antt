@@ -1,0 +1,213 @@
+-- A sender's link endpoint as its callers see it, and what its calls do (OASIS AMQP 1.0 core, 2.6
+-- and 2.7.5).
+use Rattle.std.specs.Prelude.{◌≡◌, ◌⊎◌, ℕ, ◌==◌, ◌&&◌, not, Bool, true, false, List, [], ◌∷◌, length, map, Option, Some, None, is_some, is_none, IsSomeAnd, unwrap_or, if◌then◌else◌, Result, Ok, Err}
+use Rattle.std.specs.Int.{w32, to_be_bytes}
+use Rattle.std.specs.Option.{option_map_or}
+use Rattle.amqp_link_types.specs.declared.types.errors.LinkStateError.{LinkStateError}
+use Rattle.amqp_link_types.specs.declared.types.errors.LinkStateError.TheVariants as error
+use Rattle.amqp_link_types.specs.declared.types.definitions.InputHandle.{InputHandle}
+use Rattle.amqp_link_types.specs.declared.types.definitions.OutputHandle.{OutputHandle}
+use Rattle.amqp_link_types.specs.declared.types.definitions.SenderSettleMode.{SenderSettleMode}
+use Rattle.amqp_link_types.specs.declared.types.definitions.SenderSettleMode.TheVariants as mode
+use Rattle.amqp_link_types.specs.declared.types.definitions.ReceiverSettleMode.{ReceiverSettleMode}
+use Rattle.amqp_link_types.specs.declared.types.delivery_state.DeliveryState.{DeliveryState}
+use Rattle.amqp_link_types.specs.declared.types.terminus.Source.{Source}
+use Rattle.amqp_link_types.specs.declared.types.transfer.Transfer.{Transfer}
+use Rattle.amqp_link_types.specs.declared.delivery.Settlement.{Settlement}
+use Rattle.amqp_link_types.specs.declared.delivery.Settlement.TheVariants as settlement
+use Rattle.amqp_link_types.specs.declared.delivery.UnsettledMessage.{UnsettledMessage}
+use Rattle.amqp_link_types.specs.declared.state.LinkState.{LinkState}
+use Rattle.amqp_link_types.specs.declared.state.LinkFlowStateInner.{LinkFlowStateInner}
+use Rattle.amqp_link_types.specs.declared.frame.LinkFrame.{LinkFrame}
+use Rattle.amqp_link_sender.specs.declared.sender_link.Sending.{Sending}
+use Rattle.amqp_link_sender.specs.declared.sender_link.Sending.TheVariants as sending
+use Rattle.amqp_link_types.specs.Counts.{after_consuming}
+use Rattle.amqp_link_types.specs.Entries.{Tag, Entries, with_entry, entry_at}
+use Rattle.amqp_link_types.specs.Frames.{payload_of, AreFramesOf}
+use Rattle.amqp_link_types.specs.Refusals.{refusal}
+use Rattle.amqp_link_sender.specs.Room.{has_room, payload_limit}
+use Rattle.amqp_link_sender.specs.Split.{IsSplit, Least}
+
+-- what a caller sees of a sender's link endpoint with a target of type T
+pub record Sender (T : Type 0) : Type 0 where
+  pub local_state : LinkState
+  pub name : List ℕ
+  pub snd_settle_mode : SenderSettleMode
+  pub rcv_settle_mode : ReceiverSettleMode
+  pub source : Option Source
+  pub target : Option T
+  pub max_message_size : ℕ
+  pub offered_capabilities : Option (List (List ℕ))
+  pub desired_capabilities : Option (List (List ℕ))
+  pub output_handle : Option OutputHandle
+  pub input_handle : Option InputHandle
+  pub flow_state : LinkFlowStateInner
+  pub max_frame_size : ℕ
+  -- whether the termini that come are to be verified
+  pub verify_incoming_source : Bool
+  pub verify_incoming_target : Bool
+  pub unsettled : Entries UnsettledMessage
+
+-- ---- settling
+
+-- whether a link in this mode settles what does not say for itself
+abbrev pub settles : SenderSettleMode → Bool
+settles mode.Settled = true
+settles _ = false
+
+-- whether a transfer goes out settled: its own flag, or else the link's mode
+abbrev pub settled_on_send : {T : Type 0} → Sender T → Transfer → Bool
+settled_on_send s t = unwrap_or t.settled (settles s.snd_settle_mode)
+
+-- the settled flag of a new delivery, where its user gives this one
+abbrev pub settled_by_mode : SenderSettleMode → Option Bool → Bool
+settled_by_mode mode.Settled given = true
+settled_by_mode mode.Unsettled given = false
+settled_by_mode mode.Mixed given = unwrap_or given false
+
+-- ---- a new delivery
+
+-- what its user says of it, beside its payload
+pub record Delivery : Type 0 where
+  pub message_format : ℕ
+  pub settled : Option Bool
+  pub state : Option DeliveryState
+  pub batchable : Bool
+
+-- a delivery of which this is said
+abbrev pub delivery_of : ℕ → Option Bool → Option DeliveryState → Bool → Delivery
+delivery_of format settled state batchable =
+    record { message_format = format; settled = settled; state = state; batchable = batchable }
+
+-- its tag: the count as four bytes, the highest first
+abbrev pub next_tag : {T : Type 0} → Sender T → Tag
+next_tag s = to_be_bytes w32 s.flow_state.delivery_count
+
+-- its transfer at a link's output handle, which resumes nothing
+abbrev pub new_transfer : {T : Type 0} → Sender T → OutputHandle → Tag → Delivery → Transfer
+new_transfer s handle tag d = record {
+  handle = record { 0 = handle.0 };
+  delivery_id = None;
+  delivery_tag = Some tag;
+  message_format = Some d.message_format;
+  settled = Some (settled_by_mode s.snd_settle_mode d.settled);
+  more = false;
+  rcv_settle_mode = None;
+  state = d.state;
+  resume = false;
+  aborted = false;
+  batchable = d.batchable;
+}
+
+-- what is kept of it until it is settled: its whole payload, and no state yet
+abbrev pub new_entry : ℕ → List ℕ → UnsettledMessage
+new_entry message_format payload = record { payload = payload; state = None; message_format = message_format }
+
+-- ---- sends
+
+-- The frames of the transfer t with the payload P, as the link s sends them: a frame has room, the
+-- payloads are a split of P at the payload limit, and at the input handle each frame is the one of
+-- its place.
+pub record IsSent {T : Type 0} (s : Sender T) (t : Transfer) (P : List ℕ) (frames : List LinkFrame) : Type 0 where
+  pub room : has_room t s.max_frame_size P ≡ true
+  pub split : IsSplit P (payload_limit t s.max_frame_size) (map payload_of frames)
+  pub each : IsSomeAnd s.input_handle (λ handle. AreFramesOf handle t frames)
+
+-- whether the delivery of a transfer still awaits its outcome
+abbrev pub settlement_of : Bool → Tag → Settlement
+settlement_of true tag = settlement.Settled tag
+settlement_of false tag = settlement.Unsettled tag
+
+-- the link after a delivery was sent: an unsettled one is registered with its whole payload
+abbrev pub registered : {T : Type 0} → Bool → Sender T → Tag → UnsettledMessage → Sender T
+registered settled s tag entry = record s {
+  unsettled = if settled then s.unsettled else with_entry s.unsettled tag entry;
+}
+
+-- A transfer of the delivery with this tag was sent, and the delivery is registered where it is
+-- unsettled.
+pub record SendsTransfer {T : Type 0} (old : Sender T) (message_format : ℕ) (t : Transfer) (tag : Tag) (payload : List ℕ)
+    (told : Settlement) (frames : List LinkFrame) (new : Sender T) : Type 0 where
+  pub sent : IsSent old t payload frames
+  pub answered : told ≡ settlement_of (settled_on_send old t) tag
+  pub world : new ≡ registered (settled_on_send old t) old tag (new_entry message_format payload)
+
+-- A payload was sent as a new delivery at this output handle: its tag is the count before, its
+-- transfer was sent, and it took one credit.
+pub record SendsPayload {T : Type 0} (old : Sender T) (handle : OutputHandle) (d : Delivery) (payload : List ℕ)
+    (told : Settlement) (frames : List LinkFrame) (new : Sender T) : Type 0 where
+  pub sent : IsSent old (new_transfer old handle (next_tag old) d) payload frames
+  pub answered : told ≡ settlement_of (settled_by_mode old.snd_settle_mode d.settled) (next_tag old)
+  pub world : new ≡ record old {
+    unsettled =
+        if settled_by_mode old.snd_settle_mode d.settled then old.unsettled
+        else with_entry old.unsettled (next_tag old) (new_entry d.message_format payload);
+    flow_state = after_consuming 1 old.flow_state;
+  }
+
+-- a send of a payload, by its answer: without credit nothing changes
+abbrev pub Sends : {T : Type 0} → Sender T → Delivery → List ℕ → Sending → Sender T → Type 0
+Sends old d payload (sending.Sent told frames) new =
+    IsSomeAnd old.output_handle (λ handle. SendsPayload old handle d payload told frames.items new)
+Sends old d payload sending.CreditMissing new = new ≡ old
+
+-- the frames of a sent payload are as few as the frame limit allows
+abbrev pub IsFewest : {T : Type 0} → Sender T → Delivery → List ℕ → Sending → Type 0
+IsFewest old d payload (sending.Sent told frames) = IsSomeAnd old.output_handle (λ handle.
+    let t = new_transfer old handle (next_tag old) d in
+    Least payload (payload_limit t old.max_frame_size) (length frames.items))
+IsFewest old d payload sending.CreditMissing = Unit {0}
+
+-- ---- refusals, in the order of the tests
+
+-- whether the delivery of a tag is pending
+abbrev pub is_pending : {T : Type 0} → Sender T → Tag → Bool
+is_pending s tag = is_some (entry_at s.unsettled tag)
+
+abbrev pub transfer_tests : {T : Type 0} → Sender T → Transfer → List ℕ → List (Bool × LinkStateError)
+transfer_tests s t payload =
+    (is_none s.input_handle, error.IllegalState)
+    ∷ (not (has_room t s.max_frame_size payload), error.NoRoom)
+    ∷ []
+
+-- a transfer that is to be registered names its delivery, which is free where it is unsettled
+abbrev pub registering_tests : {T : Type 0} → Sender T → Transfer → List (Bool × LinkStateError)
+registering_tests s t =
+    (is_none t.delivery_tag, error.IllegalState)
+    ∷ (is_none s.input_handle, error.IllegalState)
+    ∷ (not (settled_on_send s t) && option_map_or (is_pending s) t.delivery_tag false, error.TagPending)
+    ∷ []
+
+abbrev pub tagged_transfer_tests : {T : Type 0} → Sender T → Transfer → List ℕ → List (Bool × LinkStateError)
+tagged_transfer_tests s t payload =
+    (is_none t.delivery_tag, error.IllegalState)
+    ∷ (is_none s.input_handle, error.IllegalState)
+    ∷ (not (settled_on_send s t) && option_map_or (is_pending s) t.delivery_tag false, error.TagPending)
+    ∷ (not (has_room t s.max_frame_size payload), error.NoRoom)
+    ∷ []
+
+-- what a send of a payload answers where it sends nothing
+pub data Stop : Type 0 where
+  missing_credit : Stop
+  refused : LinkStateError → Stop
+
+abbrev pub payload_tests : {T : Type 0} → Sender T → Delivery → List ℕ → List (Bool × Stop)
+payload_tests s d payload =
+    let t = new_transfer s (unwrap_or s.output_handle (record { 0 = 0 })) (next_tag s) d in
+    (is_none s.output_handle, refused error.IllegalState)
+    ∷ (is_none s.input_handle, refused error.IllegalState)
+    ∷ (s.flow_state.link_credit == 0, missing_credit)
+    ∷ (not (settled_by_mode s.snd_settle_mode d.settled) && is_pending s (next_tag s), refused error.TagPending)
+    ∷ (not (has_room t s.max_frame_size payload), refused error.NoRoom)
+    ∷ []
+
+-- A result by the first test that holds. Want of memory may come before each of them.
+abbrev pub Answers : {A : Type 0} → Result A LinkStateError → List (Bool × LinkStateError) → Type 0
+Answers (Ok a) tests = refusal tests ≡ None
+Answers (Err e) tests = (e ≡ error.OutOfMemory) ⊎ (refusal tests ≡ Some e)
+
+-- the same of a send of a payload
+abbrev pub AnswersSend : Result Sending LinkStateError → List (Bool × Stop) → Type 0
+AnswersSend (Ok (sending.Sent told frames)) tests = refusal tests ≡ None
+AnswersSend (Ok sending.CreditMissing) tests = refusal tests ≡ Some missing_credit
+AnswersSend (Err e) tests = (e ≡ error.OutOfMemory) ⊎ (refusal tests ≡ Some (refused e))

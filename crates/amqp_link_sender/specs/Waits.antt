@@ -1,0 +1,73 @@
+-- What waits at a sender as a payload is to be sent (OASIS AMQP 1.0 core, 2.6.5): the error that it
+-- gives, and the link after it.
+use Rattle.std.specs.Prelude.{Bool, true, false, Option, Some, None}
+use Rattle.amqp_link_types.specs.declared.frame.LinkFrame.{LinkFrame}
+use Rattle.amqp_link_types.specs.declared.frame.LinkFrame.TheVariants as frame
+use Rattle.amqp_link_types.specs.declared.state.LinkState.{LinkState}
+use Rattle.amqp_link_types.specs.declared.types.definitions.Error.{Error}
+use Rattle.amqp_link_types.specs.declared.types.errors.ApplyRemoteDetachError.{ApplyRemoteDetachError}
+use Rattle.amqp_link_types.specs.declared.types.errors.ApplyRemoteDetachError.TheVariants as apply
+use Rattle.amqp_link_types.specs.declared.types.errors.LinkStateError.{LinkStateError}
+use Rattle.amqp_link_types.specs.declared.types.errors.LinkStateError.TheVariants as error
+use Rattle.amqp_link_types.specs.declared.types.performatives.Detach.{Detach}
+use Rattle.amqp_link_types.specs.declared.types.stop_reason.SessionStopReason.{SessionStopReason}
+use Rattle.amqp_link_core.specs.LinkStates.{Call, next_state}
+use Rattle.amqp_link_sender.specs.declared.sender_link.Waiting.{Waiting}
+use Rattle.amqp_link_sender.specs.declared.sender_link.Waiting.TheVariants as waiting
+use Rattle.amqp_link_sender.specs.Senders.{Sender}
+
+-- a session that has stopped says why, or only a detach was expected
+abbrev pub stop_error : Option SessionStopReason → LinkStateError
+stop_error (Some reason) = error.SessionStopped reason
+stop_error None = error.ExpectImmediateDetach
+
+-- what a detach says that the other end sent of itself, by whether it closes and its error
+abbrev pub told_by : Bool → Option Error → LinkStateError
+told_by true None = error.RemoteClosed
+told_by false None = error.RemoteDetached
+told_by true (Some e) = error.RemoteClosedWithError e
+told_by false (Some e) = error.RemoteDetachedWithError e
+
+-- the error of a link for that of recording a detach
+abbrev pub recorded_error : ApplyRemoteDetachError → LinkStateError
+recorded_error apply.IllegalState = error.IllegalState
+recorded_error (apply.RemoteDetachedWithError e) = error.RemoteDetachedWithError e
+recorded_error (apply.RemoteClosedWithError e) = error.RemoteClosedWithError e
+
+-- a detach is told of where the state has a row for it
+abbrev pub told_where : Option LinkState → Detach → LinkStateError
+told_where None detach = error.IllegalState
+told_where (Some next) detach = told_by detach.closed detach.error
+
+abbrev pub detach_error : LinkState → Detach → LinkStateError
+detach_error state detach = told_where (next_state Call.RemoteDetach detach.closed state) detach
+
+-- a frame that is no detach is not expected
+abbrev pub frame_error : LinkState → LinkFrame → LinkStateError
+frame_error state (frame.Detach detach) = detach_error state detach
+frame_error state _ = error.ExpectImmediateDetach
+
+abbrev pub waiting_error : LinkState → Waiting → Option LinkStateError
+waiting_error state waiting.Nothing = None
+waiting_error state (waiting.Frame f) = Some (frame_error state f)
+waiting_error state (waiting.Stopped reason) = Some (stop_error reason)
+
+-- ---- the link after what waits was taken
+
+module _ {T : Type 0} where
+  -- in the next state, where there is one, without an output handle
+  abbrev pub let_go : Option LinkState → Sender T → Sender T
+  let_go None s = s
+  let_go (Some next) s = record s { local_state = next; output_handle = None }
+
+  abbrev pub after_detach : Sender T → Detach → Sender T
+  after_detach s detach = let_go (next_state Call.RemoteDetach detach.closed s.local_state) s
+
+  abbrev pub after_frame : Sender T → LinkFrame → Sender T
+  after_frame s (frame.Detach detach) = after_detach s detach
+  after_frame s _ = s
+
+  -- a detach that the state admits is recorded, and all else changes nothing
+  abbrev pub after_waiting : Sender T → Waiting → Sender T
+  after_waiting s (waiting.Frame f) = after_frame s f
+  after_waiting s _ = s

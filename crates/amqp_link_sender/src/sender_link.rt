@@ -1,0 +1,420 @@
+//! The sender's end of a link (2.6).
+//!
+//! `send_*` are commands that answer frames, in the order in which they are to go out. A new link is
+//! attached first, then the receiver grants credit, then payloads go out, one credit for each
+//! delivery.
+ghost use Rattle.std.specs.Prelude.{◌≡◌, [], length, Some, IfOk, IfErr, IsSomeAnd, OnOk, OnErr, MatchOption};
+ghost use Rattle.std.specs.Int.{w32, to_be_bytes};
+ghost use Rattle.amqp_link_sender.specs.Room.{payload_limit as limit_of_payload};
+ghost use Rattle.amqp_link_sender.specs.Split.{Least};
+
+mod attach;
+mod detach;
+mod flow;
+mod room;
+mod shown;
+mod split;
+#[cfg(test)]
+mod tests;
+mod waits;
+
+use crate::sender_link::room::payload_limit;
+use crate::sender_link::split::frames;
+use amqp_link_core::endpoint::target::LinkTarget;
+use amqp_link_core::link_parts::LinkParts;
+use amqp_link_types::delivery::{Settlement, UnsettledMessage};
+use amqp_link_types::frame::LinkFrame;
+use amqp_link_types::role::SenderMarker;
+use amqp_link_types::state::{LinkFlowState, LinkState};
+use amqp_link_types::types::unsettled_map::UnsettledMap;
+use amqp_link_types::types::{
+    DeliveryState, DeliveryTag, InputHandle, LinkStateError, MessageFormat, OutputHandle, Payload,
+    ReceiverSettleMode, SenderSettleMode, SequenceNo, SessionStopReason, Source, Symbols, Text,
+    Transfer,
+};
+pub use attach::SenderAttachExchange;
+use std::alloc::{AllocError, Global};
+use std::marker::Model;
+
+/// What waits at a sender as a payload is to be sent.
+#[derive(Debug, PartialEq, Eq, Drop)]
+pub enum Waiting {
+    /// Nothing that the link has to know of first.
+    Nothing,
+    /// A frame that came. While a payload waits for credit only a detach may come.
+    Frame(LinkFrame),
+    /// The session has stopped, for this reason where one is known.
+    Stopped(Option<SessionStopReason>),
+}
+
+/// What a send of a payload answers.
+#[derive(Debug, PartialEq, Eq, Drop)]
+pub enum Sending {
+    /// The delivery goes out in these frames, one at least.
+    Sent {
+        /// The delivery's tag, and whether it awaits its outcome.
+        settlement: Settlement,
+        /// The frames in the order in which they go out.
+        frames: Vec<LinkFrame>,
+    },
+    /// The receiver has granted no more credit. Nothing has changed: try again after its next flow.
+    CreditMissing,
+}
+
+/// The sender's end of a link.
+///
+/// A contract sees its state, name, modes, termini, limits, capabilities, handles, flow state and the
+/// list of its unsettled deliveries.
+#[derive(Drop)]
+pub struct SenderLink<T: LinkTarget> {
+    alloc: Global,
+    local_state: LinkState,
+    name: Text,
+    snd_settle_mode: SenderSettleMode,
+    rcv_settle_mode: ReceiverSettleMode,
+    source: Option<Source>,
+    target: Option<T>,
+    max_message_size: u64,
+    offered_capabilities: Option<Symbols>,
+    desired_capabilities: Option<Symbols>,
+    output_handle: Option<OutputHandle>,
+    input_handle: Option<InputHandle>,
+    flow_state: LinkFlowState<SenderMarker>,
+    max_frame_size: u32,
+    verify_incoming_source: bool,
+    verify_incoming_target: bool,
+    unsettled: UnsettledMap<UnsettledMessage>,
+}
+
+impl<T: LinkTarget> Model for SenderLink<T> {
+    ghost use Rattle.std.specs.Coded.{codes};
+    ghost use Rattle.amqp_link_values.specs.contracts.fields.Fields as fields;
+    ghost use Rattle.amqp_link_sender.specs.Senders.{Sender};
+
+    ghost Value = { Sender T };
+
+    ghost coded = { Prim.hlevel (codes, fields.the_row.coded) };
+
+    ghost view = { λ link. record {
+      local_state = link.local_state;
+      name = link.name;
+      snd_settle_mode = link.snd_settle_mode;
+      rcv_settle_mode = link.rcv_settle_mode;
+      source = link.source;
+      target = link.target;
+      max_message_size = link.max_message_size;
+      offered_capabilities = link.offered_capabilities;
+      desired_capabilities = link.desired_capabilities;
+      output_handle = link.output_handle;
+      input_handle = link.input_handle;
+      flow_state = link.flow_state;
+      max_frame_size = link.max_frame_size;
+      verify_incoming_source = link.verify_incoming_source;
+      verify_incoming_target = link.verify_incoming_target;
+      unsettled = link.unsettled;
+    } };
+}
+
+impl<T: LinkTarget> SenderLink<T> {
+    ghost use Rattle.amqp_link_sender.specs.Senders.{Sends, SendsTransfer, IsSent, Answers, AnswersSend};
+    ghost use Rattle.amqp_link_sender.specs.Senders.{delivery_of, new_transfer, new_entry, settled_on_send, IsFewest};
+    ghost use Rattle.amqp_link_types.specs.Entries.{with_entry};
+    ghost use Rattle.amqp_link_sender.specs.Waits.{waiting_error, after_waiting};
+    ghost use Rattle.amqp_link_sender.specs.Senders.{transfer_tests, registering_tests, tagged_transfer_tests, payload_tests};
+    ghost use Rattle.amqp_link_types.specs.declared.state.LinkState.TheVariants.{Unattached};
+
+    /// A link that is not attached, without handles and unsettled deliveries. Takes no memory.
+    ///
+    /// The limit of its frames counts a frame's header of four bytes and its body. A peer's limit that
+    /// counts four bytes of size in front as well is handed in less these four.
+    pub fn new(alloc: Global, parts: LinkParts<T>) -> SenderLink<T>
+        ensures { result ≡ record {
+          local_state = Unattached;
+          name = parts.name;
+          snd_settle_mode = parts.snd_settle_mode;
+          rcv_settle_mode = parts.rcv_settle_mode;
+          source = parts.source;
+          target = parts.target;
+          max_message_size = parts.max_message_size;
+          offered_capabilities = parts.offered_capabilities;
+          desired_capabilities = parts.desired_capabilities;
+          output_handle = None;
+          input_handle = None;
+          flow_state = parts.flow_state;
+          max_frame_size = parts.max_frame_size;
+          verify_incoming_source = parts.verify_incoming_source;
+          verify_incoming_target = parts.verify_incoming_target;
+          unsettled = [];
+        } }
+    {
+        SenderLink {
+            alloc,
+            local_state: LinkState::Unattached,
+            name: parts.name,
+            snd_settle_mode: parts.snd_settle_mode,
+            rcv_settle_mode: parts.rcv_settle_mode,
+            source: parts.source,
+            target: parts.target,
+            max_message_size: parts.max_message_size,
+            offered_capabilities: parts.offered_capabilities,
+            desired_capabilities: parts.desired_capabilities,
+            output_handle: None,
+            input_handle: None,
+            flow_state: LinkFlowState::sender(parts.flow_state),
+            max_frame_size: parts.max_frame_size,
+            verify_incoming_source: parts.verify_incoming_source,
+            verify_incoming_target: parts.verify_incoming_target,
+            unsettled: UnsettledMap::new(alloc),
+        }
+    }
+
+    /// The link with this output handle.
+    pub fn with_output_handle(mut self, handle: OutputHandle) -> SenderLink<T>
+        ensures { result ≡ record self { output_handle = Some handle } }
+    {
+        self.output_handle = Some(handle);
+        self
+    }
+
+    /// Sets the greatest size of a frame in bytes: its header of four bytes and its body. A peer's
+    /// limit that counts four bytes of size in front as well is handed in less these four.
+    pub fn set_max_frame_size(&mut self, max_frame_size: u32)
+        ensures { self.new ≡ record self.old { max_frame_size = max_frame_size } }
+    {
+        self.max_frame_size = max_frame_size;
+    }
+
+    /// Whether a transfer goes out settled, which leaves no outcome to wait for: by its own flag, or
+    /// else by the link's mode (2.7.5).
+    pub fn is_settled_on_send(&self, transfer: &Transfer) -> bool
+        ensures { result ≡ settled_on_send self.now transfer.now }
+    {
+        let by_mode = matches!(self.snd_settle_mode, SenderSettleMode::Settled);
+        transfer.settled.unwrap_or(by_mode)
+    }
+
+    /// The transfer of a new delivery, which resumes nothing (2.7.5). It is settled in mode
+    /// `Settled`, unsettled in mode `Unsettled`, and by the given flag, or not, in mode `Mixed`.
+    ///
+    /// Refused with `IllegalState` without output handle. Takes no memory.
+    pub fn generate_non_resuming_transfer_performative(
+        &self,
+        delivery_tag: DeliveryTag,
+        message_format: MessageFormat,
+        settled: Option<bool>,
+        state: Option<DeliveryState>,
+        batchable: bool,
+    ) -> Result<Transfer, LinkStateError>
+        ensures { MatchOption self.now.output_handle
+            (result ≡ Err LinkStateError.IllegalState)
+            (λ handle. result ≡ Ok (new_transfer self.now handle delivery_tag
+            (delivery_of message_format settled state batchable))) }
+    {
+        let Some(handle) = self.output_handle else {
+            return Err(LinkStateError::IllegalState);
+        };
+        let settled = match self.snd_settle_mode {
+            SenderSettleMode::Settled => true,
+            SenderSettleMode::Unsettled => false,
+            SenderSettleMode::Mixed => settled.unwrap_or(false), // unset means false (2.7.5)
+        };
+        Ok(Transfer {
+            handle: handle.into(),
+            delivery_id: None,
+            delivery_tag: Some(delivery_tag),
+            message_format: Some(message_format),
+            settled: Some(settled),
+            more: false,
+            rcv_settle_mode: None,
+            state,
+            resume: false,
+            aborted: false,
+            batchable,
+        })
+    }
+
+    /// Sends a payload as a new delivery, for one credit, in the fewest frames that fit the limit
+    /// (2.7.5). Its tag is the delivery count before, as four bytes. It is settled as
+    /// `generate_non_resuming_transfer_performative` says; an unsettled one is kept with its whole
+    /// payload until it is settled. The payload is cut without copying its bytes.
+    ///
+    /// What waits comes first. A detach is recorded as by `apply_remote_detach_outcome`, which moves
+    /// the state and releases the output handle, and answered `RemoteDetached`, `RemoteClosed` or with
+    /// that call's error (`IllegalState` where the state has no row for it, with nothing changed).
+    /// Another frame, or a stop without a reason, is `ExpectImmediateDetach`; a stop with one is
+    /// `SessionStopped`.
+    ///
+    /// Then, in this order: `IllegalState` without output handle, then without input handle; the answer
+    /// `CreditMissing`; `TagPending` for an unsettled delivery; `NoRoom`; want of memory. Nothing has
+    /// changed then.
+    pub fn send_payload(
+        &mut self,
+        waiting: Waiting,
+        payload: &Payload,
+        message_format: MessageFormat,
+        settled: Option<bool>,
+        state: Option<DeliveryState>,
+        batchable: bool,
+    ) -> Result<Sending, LinkStateError>
+        ensures sent { IfOk result (λ sending. Sends self.old
+            (delivery_of message_format settled state batchable) payload.now sending self.new) }
+        ensures fewest { IfOk result (λ sending. IsFewest self.old
+            (delivery_of message_format settled state batchable) payload.now sending) }
+        ensures refused { MatchOption (waiting_error self.old.local_state waiting)
+            (AnswersSend result (payload_tests self.old
+            (delivery_of message_format settled state batchable) payload.now))
+            (λ error. result ≡ Err error) }
+        ensures left { OnErr result (self.new ≡ after_waiting self.old waiting) }
+    {
+        if let Some(error) = self.take_waiting(waiting) {
+            return Err(error);
+        }
+        self.send_new(payload, message_format, settled, state, batchable)
+    }
+
+    // The same with nothing waiting.
+    fn send_new(
+        &mut self,
+        payload: &Payload,
+        message_format: MessageFormat,
+        settled: Option<bool>,
+        state: Option<DeliveryState>,
+        batchable: bool,
+    ) -> Result<Sending, LinkStateError>
+        ensures sent { IfOk result (λ sending. Sends self.old
+            (delivery_of message_format settled state batchable) payload.now sending self.new) }
+        ensures fewest { IfOk result (λ sending. IsFewest self.old
+            (delivery_of message_format settled state batchable) payload.now sending) }
+        ensures refused { AnswersSend result (payload_tests self.old
+            (delivery_of message_format settled state batchable) payload.now) }
+        ensures left { OnErr result (self.new ≡ self.old) }
+    {
+        if self.output_handle.is_none() || self.input_handle.is_none() {
+            drop(state);
+            return Err(LinkStateError::IllegalState);
+        }
+        if self.flow_state.link_credit() == 0 {
+            drop(state);
+            return Ok(Sending::CreditMissing);
+        }
+        let tag = tag_of_count(self.alloc, self.flow_state.delivery_count())?;
+        let first = self.generate_non_resuming_transfer_performative(
+            tag,
+            message_format,
+            settled,
+            state,
+            batchable,
+        )?;
+        let (settlement, frames) = self.send_payload_with_transfer(message_format, first, payload)?;
+        // All tests are behind, and all memory is taken.
+        let _ = self.flow_state.consume(1);
+        Ok(Sending::Sent { settlement, frames })
+    }
+
+    /// Sends a payload with this transfer, which names the delivery's tag; spends no credit. An
+    /// unsettled delivery is kept with its whole payload and without a state, whatever state the
+    /// transfer has.
+    ///
+    /// Refused in this order, with nothing changed: `IllegalState` without tag, then without input
+    /// handle; `TagPending` for an unsettled delivery; `NoRoom`; want of memory.
+    pub fn send_payload_with_transfer(
+        &mut self,
+        message_format: MessageFormat,
+        transfer: Transfer,
+        payload: &Payload,
+    ) -> Result<(Settlement, Vec<LinkFrame>), LinkStateError>
+        ensures sent { IfOk result (λ sent. IsSomeAnd transfer.delivery_tag (λ tag.
+            SendsTransfer self.old message_format transfer tag payload.now sent.0 sent.1.items self.new)) }
+        ensures fewest { IfOk result (λ sent.
+            Least payload.now (limit_of_payload transfer self.old.max_frame_size) (length sent.1.items)) }
+        ensures refused { Answers result (tagged_transfer_tests self.old transfer payload.now) }
+        ensures left { OnErr result (self.new ≡ self.old) }
+    {
+        let tag = self.tag_to_register(&transfer)?;
+        let (settled, frames) = self.send_transfer_without_modifying_unsettled_map(
+            transfer, payload,
+        )?;
+        if settled {
+            return Ok((Settlement::Settled(tag), frames));
+        }
+        self.register(&tag, payload, message_format)?;
+        Ok((Settlement::Unsettled(tag), frames))
+    }
+
+    // Keeps a delivery that was sent with its whole payload and no state.
+    fn register(
+        &mut self,
+        tag: &DeliveryTag,
+        payload: &Payload,
+        message_format: MessageFormat,
+    ) -> Result<(), LinkStateError>
+        ensures kept { OnOk result (self.new ≡ record self.old {
+          unsettled = with_entry self.old.unsettled tag.now (new_entry message_format payload.now);
+        }) }
+        ensures refused { IfErr result (λ error. error ≡ LinkStateError.OutOfMemory) }
+        ensures left { OnErr result (self.new ≡ self.old) }
+    {
+        let entry = UnsettledMessage::new(payload.clone()?, None, message_format);
+        let put = self.unsettled.put(tag.clone()?, entry);
+        let is_kept = put.is_ok();
+        drop(put);
+        if is_kept {
+            Ok(())
+        } else {
+            Err(LinkStateError::OutOfMemory)
+        }
+    }
+
+    // The tag under which a transfer's delivery is to be registered, where it is unsettled.
+    fn tag_to_register(&self, transfer: &Transfer) -> Result<DeliveryTag, LinkStateError>
+        ensures tag { IfOk result (λ tag. transfer.now.delivery_tag ≡ Some tag) }
+        ensures refused { Answers result (registering_tests self.now transfer.now) }
+    {
+        let Some(tag) = &transfer.delivery_tag else {
+            return Err(LinkStateError::IllegalState);
+        };
+        if self.input_handle.is_none() {
+            return Err(LinkStateError::IllegalState);
+        }
+        if !self.is_settled_on_send(transfer) && self.unsettled.contains(tag) {
+            return Err(LinkStateError::TagPending);
+        }
+        Ok(tag.clone()?)
+    }
+
+    /// The frames of a payload with this transfer, and whether it goes out settled. The link is as it
+    /// was.
+    ///
+    /// Refused in this order: `IllegalState` without input handle; `NoRoom`; want of memory.
+    pub fn send_transfer_without_modifying_unsettled_map(
+        &self,
+        mut transfer: Transfer,
+        payload: &Payload,
+    ) -> Result<(bool, Vec<LinkFrame>), LinkStateError>
+        ensures settled { IfOk result (λ sent. sent.0 ≡ settled_on_send self.now transfer) }
+        ensures sent { IfOk result (λ sent. IsSent self.now transfer payload.now sent.1.items) }
+        ensures fewest { IfOk result (λ sent.
+            Least payload.now (limit_of_payload transfer self.now.max_frame_size) (length sent.1.items)) }
+        ensures refused { Answers result (transfer_tests self.now transfer payload.now) }
+    {
+        let is_settled = self.is_settled_on_send(&transfer);
+        let Some(input_handle) = self.input_handle else {
+            drop(transfer);
+            return Err(LinkStateError::IllegalState);
+        };
+        let Some(limit) = payload_limit(&mut transfer, self.max_frame_size, payload) else {
+            drop(transfer);
+            return Err(LinkStateError::NoRoom);
+        };
+        let frames = frames(self.alloc, input_handle, &transfer, payload, limit);
+        drop(transfer);
+        Ok((is_settled, frames?))
+    }
+}
+
+// The tag of the delivery that a count stands for: its four bytes, the highest first.
+fn tag_of_count(alloc: Global, count: SequenceNo) -> Result<DeliveryTag, AllocError>
+    ensures { IfOk result (λ tag. tag ≡ to_be_bytes w32 count) }
+{
+    Ok(DeliveryTag::from(count.to_be_bytes().to_vec(alloc)?))
+}

@@ -1,0 +1,397 @@
+//! A sender's end is attached (2.6.3, 2.6.4).
+ghost use Rattle.std.specs.Prelude.{◌≡◌, ◌≤◌, ◌++◌, ◌↔◌, ◌⊎◌, ◌+◌, true, false, List, [], if◌then◌else◌};
+ghost use Rattle.std.specs.Prelude.{None, Some, Ok, IfOk, IfErr, IsTrue, length, vec_len, vec_capacity, unwrap_or};
+ghost use Rattle.amqp_link_types.specs.declared.frame.LinkFrame.TheVariants as frame;
+ghost use Rattle.amqp_link_types.specs.Unsettled.{states_of};
+ghost use Rattle.amqp_link_core.specs.AttachSent.{SendsAttach, IsTooLarge};
+ghost use Rattle.amqp_link_core.specs.Attaching.{Fits, with_entries};
+ghost use Rattle.amqp_link_core.specs.LinkStates.{Call, next_state};
+ghost use Rattle.amqp_link_sender.specs.SenderAttaches.{stated_count, all_illegal, disagree as do_disagree};
+ghost use Rattle.amqp_link_sender.specs.SenderAttaches.{sent_count, counted_attach, sender_attach, sender_attached};
+
+use crate::sender_link::SenderLink;
+use amqp_link_core::endpoint::LinkAttach;
+use amqp_link_core::endpoint::attached::{
+    capabilities_of, get_max_message_size, name_and_properties_of, sent_limit, termini_of,
+    with_properties,
+};
+use amqp_link_core::endpoint::dividing::{divided, fits_whole};
+use amqp_link_core::endpoint::steps::{handle_or_zero, step_of};
+use amqp_link_core::endpoint::table::{after_incoming_attach, after_sent_attach};
+use amqp_link_core::endpoint::target::LinkTarget;
+use amqp_link_types::delivery::{Outcomes, UnsettledMessage};
+use amqp_link_types::frame::LinkFrame;
+use amqp_link_types::state::LinkState;
+use amqp_link_types::types::unsettled_map::UnsettledMap;
+use amqp_link_types::types::{
+    Attach, DeliveryState, Fields, Handle, InputHandle, LinkStateError, OutputHandle,
+    ReceiverSettleMode, Role, SenderAttachError, SenderSettleMode, SequenceNo, TargetArchetype,
+};
+use std::alloc::{AllocError, Global};
+
+/// What follows once a sender's end has exchanged attaches.
+#[derive(Clone, Copy, Debug, PartialEq, Eq)]
+pub enum SenderAttachExchange {
+    /// There is nothing to resume.
+    Complete,
+}
+
+impl SenderAttachExchange {
+    /// Whether all is complete: else this error.
+    pub fn complete_or<E: Drop>(self, _error: E) -> Result<(), E>
+        ensures { result ≡ Ok tt }
+    {
+        let SenderAttachExchange::Complete = self;
+        Ok(())
+    }
+}
+
+// The count that an attach states: the first attach of a link the initial one, each later one the
+// present one, as the deliveries before it are not sent again (2.6.4).
+fn count_to_state(state: LinkState, initial: SequenceNo, present: SequenceNo) -> SequenceNo
+    ensures { result ≡ stated_count state initial present }
+{
+    match state {
+        LinkState::Unattached => initial,
+        _ => present,
+    }
+}
+
+// What an attach says of the deliveries: nothing where the link is attached anew.
+fn entries_to_send(
+    alloc: Global,
+    is_reattaching: bool,
+    unsettled: &UnsettledMap<UnsettledMessage>,
+) -> Result<UnsettledMap<Option<DeliveryState>>, AllocError>
+    ensures { IfOk result (λ entries. entries ≡ (if is_reattaching then [] else states_of unsettled.now)) }
+{
+    if is_reattaching {
+        Ok(UnsettledMap::new(alloc))
+    } else {
+        unsettled.states(alloc)
+    }
+}
+
+// Room for what becomes of the deliveries where the link is attached anew.
+fn room_for_outcomes(
+    alloc: Global,
+    is_reattaching: bool,
+    unsettled: &UnsettledMap<UnsettledMessage>,
+) -> Result<Outcomes, AllocError>
+    ensures none_yet { IfOk result (λ outcomes. outcomes.items ≡ []) }
+    ensures room { IfOk result (λ outcomes. is_reattaching ≡ true
+        → length unsettled.now ≤ vec_capacity outcomes) }
+{
+    if is_reattaching {
+        Vec::with_capacity(alloc, unsettled.len())
+    } else {
+        Ok(Vec::new(alloc))
+    }
+}
+
+// Ends each delivery, in order, in a list that has the room. Takes no memory.
+fn end_all(unsettled: UnsettledMap<UnsettledMessage>, outcomes: &mut Outcomes)
+    requires { vec_len outcomes.old + length unsettled ≤ vec_capacity outcomes.old }
+    ensures { outcomes.new.items ≡ outcomes.old.items ++ all_illegal unsettled }
+{
+    for (tag, message) in unsettled.into_pairs() {
+        drop(message);
+        let _ = outcomes.push((tag, Err(LinkStateError::IllegalState)));
+    }
+}
+
+impl<T: LinkTarget> SenderLink<T> {
+    // What the link says at an output handle with this count, without its deliveries.
+    fn whole_attach(&self, handle: OutputHandle, count: SequenceNo) -> Result<Attach, AllocError>
+        requires { (t c : T) → T.is_clone t c → c ≡ t }
+        ensures { IfOk result (λ attach. attach ≡ counted_attach T.sent_as self.now count handle) }
+    {
+        let (name, properties) = name_and_properties_of(&self.name, self.flow_state.properties())?;
+        let (offered_capabilities, desired_capabilities) = capabilities_of(
+            &self.offered_capabilities,
+            &self.desired_capabilities,
+        )?;
+        let (source, target) = termini_of(&self.source, &self.target)?;
+        Ok(Attach {
+            name,
+            handle: handle.into(),
+            role: Role::Sender,
+            snd_settle_mode: self.snd_settle_mode,
+            rcv_settle_mode: self.rcv_settle_mode,
+            source,
+            target,
+            unsettled: None,
+            incomplete_unsettled: false,
+            initial_delivery_count: Some(count),
+            max_message_size: sent_limit(self.max_message_size),
+            offered_capabilities,
+            desired_capabilities,
+            properties,
+        })
+    }
+
+    /// Whether an attach that says all deliveries and states this count fits such a frame (a header of
+    /// four bytes, and the body). Without an output handle it is measured with handle 0.
+    ///
+    /// Refused where memory is wanting.
+    pub fn complete_attach_fits(
+        &self,
+        max_frame_size: u32,
+        count: SequenceNo,
+    ) -> Result<bool, AllocError>
+        requires { (t c : T) → T.is_clone t c → c ≡ t }
+        ensures { IfOk result (λ fits. IsTrue fits ↔ Fits (with_entries
+            (counted_attach T.sent_as self.now count (unwrap_or self.now.output_handle (record { 0 = 0 })))
+            (states_of self.now.unsettled) 0) max_frame_size) }
+    {
+        let entries = self.unsettled.states(self.alloc)?;
+        let attach = self.whole_attach(handle_or_zero(self.output_handle), count)?;
+        Ok(fits_whole(attach, entries, max_frame_size))
+    }
+
+    // The count that an attach states in the present state.
+    fn count_to_send(&self) -> SequenceNo
+        ensures { result ≡ sent_count self.now }
+    {
+        count_to_state(
+            self.local_state,
+            self.flow_state.initial_delivery_count(),
+            self.flow_state.delivery_count(),
+        )
+    }
+
+    // The attach that is sent, room for what becomes of the deliveries, and the state after it: all
+    // tests, and all that takes memory.
+    fn plan_attach(
+        &self,
+        is_reattaching: bool,
+    ) -> Result<(Attach, Outcomes, LinkState), SenderAttachError>
+        requires { (t c : T) → T.is_clone t c → c ≡ t }
+        ensures sent { IfOk result (λ plan. SendsAttach self.now.local_state self.now.output_handle
+            (sender_attach T.sent_as self.now)
+            (if is_reattaching then [] else states_of self.now.unsettled) self.now.max_frame_size
+            (frame.Attach plan.0) plan.2) }
+        ensures none_yet { IfOk result (λ plan. plan.1.items ≡ []) }
+        ensures room { IfOk result (λ plan. is_reattaching ≡ true
+            → length self.now.unsettled ≤ vec_capacity plan.1) }
+        ensures refused { IfErr result (λ error. (error ≡ SenderAttachError.OutOfMemory)
+            ⊎ ((error ≡ SenderAttachError.IllegalState) × ((self.now.output_handle ≡ None)
+            ⊎ (next_state Call.SendAttach false self.now.local_state ≡ None)))
+            ⊎ ((error ≡ SenderAttachError.AttachTooLarge) × IsTooLarge self.now.local_state
+            self.now.output_handle (sender_attach T.sent_as self.now)
+            (if is_reattaching then [] else states_of self.now.unsettled) self.now.max_frame_size)) }
+    {
+        let Some(handle) = self.output_handle else {
+            return Err(SenderAttachError::IllegalState);
+        };
+        let Some(steps) = after_sent_attach(self.local_state) else {
+            return Err(SenderAttachError::IllegalState);
+        };
+        let entries = entries_to_send(self.alloc, is_reattaching, &self.unsettled)?;
+        let outcomes = room_for_outcomes(self.alloc, is_reattaching, &self.unsettled)?;
+        let whole = self.whole_attach(handle, self.count_to_send())?;
+        let Some(attach) = divided(whole, entries, self.max_frame_size) else {
+            return Err(SenderAttachError::AttachTooLarge);
+        };
+        let next = step_of(attach.incomplete_unsettled, steps);
+        Ok((attach, outcomes, next))
+    }
+
+    // The link has sent its attach and keeps the count that it has stated.
+    fn attach_as(&mut self, next: LinkState)
+        ensures { self.new ≡ sender_attached self.old next }
+    {
+        let count = self.count_to_send();
+        self.flow_state.initial_delivery_count_mut(|_| count);
+        self.local_state = next;
+    }
+}
+
+// What a sender reads of an attach that comes.
+#[derive(Drop)]
+struct Incoming {
+    handle: Handle,
+    snd_settle_mode: SenderSettleMode,
+    rcv_settle_mode: ReceiverSettleMode,
+    target: Option<TargetArchetype>,
+    incomplete: bool,
+    max_message_size: Option<u64>,
+    properties: Option<Fields>,
+}
+
+fn read(attach: Attach) -> Incoming
+    ensures { result ≡ record {
+      handle = attach.handle;
+      snd_settle_mode = attach.snd_settle_mode;
+      rcv_settle_mode = attach.rcv_settle_mode;
+      target = attach.target;
+      incomplete = attach.incomplete_unsettled;
+      max_message_size = attach.max_message_size;
+      properties = attach.properties;
+    } }
+{
+    Incoming {
+        handle: attach.handle,
+        snd_settle_mode: attach.snd_settle_mode,
+        rcv_settle_mode: attach.rcv_settle_mode,
+        target: attach.target,
+        incomplete: attach.incomplete_unsettled,
+        max_message_size: attach.max_message_size,
+        properties: attach.properties,
+    }
+}
+
+// Whether one end settles what the other leaves unsettled.
+fn disagree(own: SenderSettleMode, theirs: SenderSettleMode) -> bool
+    ensures { result ≡ do_disagree own theirs }
+{
+    matches!(
+        (own, theirs),
+        (SenderSettleMode::Settled, SenderSettleMode::Unsettled)
+            | (SenderSettleMode::Unsettled, SenderSettleMode::Settled)
+    )
+}
+
+impl<T: LinkTarget> SenderLink<T> {
+    // An attach has moved the link, which answers at its handle.
+    fn come(&mut self, handle: Handle, next: LinkState)
+        ensures { self.new ≡ record self.old { local_state = next; input_handle = Some (record { 0 = handle.0 }) } }
+    {
+        self.local_state = next;
+        self.input_handle = Some(InputHandle(handle.0));
+    }
+
+    fn take_target(&mut self, target: T, mode: ReceiverSettleMode)
+        ensures { self.new ≡ record self.old { target = Some target; rcv_settle_mode = mode } }
+    {
+        self.target = Some(target);
+        self.rcv_settle_mode = mode;
+    }
+
+    fn take_properties(&mut self, properties: Option<Fields>)
+        ensures { self.new ≡ record self.old {
+          flow_state = record self.old.flow_state { properties = properties };
+        } }
+    {
+        *self.flow_state.properties_mut() = properties;
+    }
+}
+
+impl<T: LinkTarget> LinkAttach for SenderLink<T> {
+    ghost use Rattle.std.specs.Prelude.{◌≡◌, [], refl};
+    ghost use Rattle.amqp_link_types.specs.Unsettled.{states_of};
+    ghost use Rattle.amqp_link_types.specs.declared.types.errors.SenderAttachError.TheVariants.{IllegalState, AttachTooLarge, OutOfMemory};
+    ghost use Rattle.amqp_link_sender.specs.declared.sender_link.attach.SenderAttachExchange.TheVariants.{Complete};
+    ghost use Rattle.amqp_link_sender.specs.SenderAttaches.{sender_attach, sender_attached, all_illegal};
+    ghost use Rattle.amqp_link_sender.specs.SenderAttaches.{sender_refusal, sender_taken, sender_left};
+
+    type AttachExchange = (SenderAttachExchange, Outcomes);
+
+    type AttachError = SenderAttachError;
+
+    ghost frame_limit = { λ link. link.max_frame_size };
+
+    ghost whole = { λ link. sender_attach T.sent_as link };
+
+    ghost entries = { λ link. states_of link.unsettled };
+
+    ghost attached = { sender_attached };
+
+    ghost emptied = { λ link. record link { unsettled = [] } };
+
+    ghost ended = { λ link. all_illegal link.unsettled };
+
+    ghost copies = { (t c : T) → T.is_clone t c → c ≡ t };
+
+    ghost illegal_attach = { IllegalState };
+
+    ghost too_large = { AttachTooLarge };
+
+    ghost out_of_memory = { OutOfMemory };
+
+    ghost refusal_of = { sender_refusal T.admitted };
+
+    ghost taken = { sender_taken T.admitted };
+
+    ghost exchanged = { λ link attach answer. (answer.0 ≡ Complete) × (answer.1.items ≡ []) };
+
+    ghost left = { sender_left T.admitted };
+
+    ghost state_attached = { λ link s. refl };
+
+    ghost handle_attached = { λ link s. refl };
+
+    ghost state_emptied = { λ link. refl };
+
+    ghost handle_emptied = { λ link. refl };
+
+    ghost entries_emptied = { λ link. refl };
+
+    ghost left_by_want = { λ link a. refl };
+
+    ghost moved_leaves_frame_limit = { λ link s h. refl };
+
+    ghost moved_leaves_entries = { λ link s h. refl };
+
+    fn send_attach(
+        &mut self,
+        is_reattaching: bool,
+    ) -> Result<(LinkFrame, Outcomes), SenderAttachError> {
+        let (attach, mut outcomes, next) = self.plan_attach(is_reattaching)?;
+        // All tests are behind, and all growths: from here on nothing can fail.
+        self.attach_as(next);
+        if is_reattaching {
+            end_all(self.unsettled.take_all(self.alloc), &mut outcomes);
+        }
+        Ok((LinkFrame::Attach(attach), outcomes))
+    }
+
+    /// Takes the receiver's attach. Want of memory may come after any test, and leaves all as it was.
+    ///
+    /// Refused in this order: illegal state, with nothing changed, where the state has no row for it.
+    /// From here on the state has moved, and the other's handle is known: no coordinator here, where
+    /// the target is not of the link's kind; no target. Past these the target and the receiver's mode
+    /// are taken: a mode in which the sender does not settle.
+    fn on_incoming_attach(
+        &mut self,
+        attach: Attach,
+    ) -> Result<(SenderAttachExchange, Outcomes), SenderAttachError> {
+        let Incoming {
+            handle,
+            snd_settle_mode,
+            rcv_settle_mode,
+            target,
+            incomplete,
+            max_message_size,
+            properties,
+        } = read(attach);
+        let Some(next) = after_incoming_attach(self.local_state, incomplete) else {
+            drop((target, properties));
+            return Err(SenderAttachError::IllegalState);
+        };
+        let Some(target) = target else {
+            self.come(handle, next);
+            drop(properties);
+            return Err(SenderAttachError::IncomingTargetIsNone);
+        };
+        let Some(target) = T::from_archetype(target) else {
+            self.come(handle, next);
+            drop(properties);
+            return Err(SenderAttachError::CoordinatorIsNotImplemented);
+        };
+        if disagree(self.snd_settle_mode, snd_settle_mode) {
+            self.come(handle, next);
+            self.take_target(target, rcv_settle_mode);
+            drop(properties);
+            let refused = SenderAttachError::SndSettleModeNotSupported;
+            return Err(refused);
+        }
+        let properties = with_properties(self.alloc, self.flow_state.properties(), properties)?;
+        // All tests are behind, and all growths: from here on nothing can fail.
+        self.come(handle, next);
+        self.take_target(target, rcv_settle_mode);
+        self.take_properties(properties);
+        self.max_message_size = get_max_message_size(self.max_message_size, max_message_size);
+        Ok((SenderAttachExchange::Complete, Vec::new(self.alloc)))
+    }
+}

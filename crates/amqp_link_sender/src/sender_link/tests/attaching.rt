@@ -1,0 +1,335 @@
+//! Worked values of a sender's attaches.
+use crate::samples::{attach_of, count_tag, parts, payload_of};
+use crate::sender_link::SenderLink;
+use crate::sender_link::tests::{Told, link, new_link, send_flagged, told_by, told_by_error};
+use amqp_link_core::endpoint::target::LinkTarget;
+use amqp_link_core::endpoint::{LinkAttach, LinkDetach, LinkExt};
+use amqp_link_core::link_parts::LinkParts;
+use amqp_link_types::delivery::{Outcomes, UnsettledMessage};
+use amqp_link_types::frame::LinkFrame;
+use amqp_link_types::state::LinkState;
+use amqp_link_types::types::{
+    Attach, Detach, Handle, OutputHandle, ReceiverSettleMode, Role, SenderAttachError,
+    SenderSettleMode, Target, TargetArchetype,
+};
+use amqp_link_values::length::EncodedLen;
+use std::alloc::AllocError;
+use std::process::Abort;
+
+// What an attach that is sent shows: its length, its count, how many deliveries it names, and
+// whether that is not all.
+#[derive(Clone, Copy, Debug, PartialEq, Eq)]
+struct Shown {
+    len: Option<u64>,
+    count: Option<u32>,
+    entries: Option<usize>,
+    incomplete: bool,
+}
+
+fn shown_by(frame: &LinkFrame) -> Option<Shown> {
+    match frame {
+        LinkFrame::Attach(attach) => Some(Shown {
+            len: attach.encoded_len(),
+            count: attach.initial_delivery_count,
+            entries: attach.unsettled.as_ref().map(|entries| entries.len()),
+            incomplete: attach.incomplete_unsettled,
+        }),
+        _ => None,
+    }
+}
+
+fn shown_of(
+    sent: &Result<(LinkFrame, Outcomes), SenderAttachError>,
+) -> Result<Option<Shown>, SenderAttachError> {
+    match sent {
+        Ok((frame, _)) => Ok(shown_by(frame)),
+        Err(error) => Err(*error),
+    }
+}
+
+fn shown_in(
+    sent: Result<(LinkFrame, Outcomes), SenderAttachError>,
+) -> Result<Option<Shown>, SenderAttachError> {
+    let shown = shown_of(&sent);
+    drop(sent);
+    shown
+}
+
+// What the attach of a link shows that has so many pending deliveries, at this limit.
+fn sent_at(
+    rt: &(impl Abort + AllocGlobal),
+    pending: u8,
+    limit: u32,
+) -> Result<Option<Shown>, SenderAttachError> {
+    let mut link = new_link(rt, SenderSettleMode::Mixed);
+    for count in 0..pending {
+        let entry = UnsettledMessage::new(payload_of(rt, &[7]), None, 0);
+        drop(link.unsettled.put(count_tag(rt, count), entry));
+    }
+    link.set_max_frame_size(limit);
+    let shown = shown_in(link.send_attach(false));
+    drop(link);
+    shown
+}
+
+fn as_sent(
+    len: u64,
+    entries: Option<usize>,
+    incomplete: bool,
+) -> Result<Option<Shown>, SenderAttachError> {
+    Ok(Some(Shown {
+        len: Some(len),
+        count: Some(0),
+        entries,
+        incomplete,
+    }))
+}
+
+// 24 bytes, and four of the frame's header; each entry of a tag of four bytes takes seven, and the
+// map itself three.
+#[test]
+fn attach_names_what_fits(rt: HostRuntime) {
+    for (pending, limit, wanted) in [
+        (0u8, 28u32, as_sent(24, None, false)),
+        (0, 27, Err(SenderAttachError::AttachTooLarge)),
+        (4, 58, as_sent(54, Some(4), false)),
+        (4, 57, as_sent(40, Some(2), true)),
+        (4, 37, as_sent(33, Some(1), true)),
+        (4, 30, as_sent(26, Some(0), true)),
+        (4, 29, Err(SenderAttachError::AttachTooLarge)),
+    ] {
+        assert_eq!(rt;
+            sent_at(&rt, pending, limit),
+            wanted,
+            "{pending} at {limit}"
+        );
+    }
+}
+
+// Whether all fits in a frame of that size, with this count.
+fn fits_at(rt: &(impl Abort + AllocGlobal), limit: u32, count: u32) -> Result<bool, AllocError> {
+    let link = new_link(rt, SenderSettleMode::Mixed);
+    let fits = link.complete_attach_fits(limit, count);
+    drop(link);
+    fits
+}
+
+// A count of 256 takes five bytes, one of 0 a single one.
+#[test]
+fn complete_attach_is_measured_with_its_count(rt: HostRuntime) {
+    for (limit, count, fits) in [
+        (28, 0, true),
+        (27, 0, false),
+        (32, 256, true),
+        (31, 256, false),
+    ] {
+        assert_eq!(rt; fits_at(&rt, limit, count), Ok(fits), "{count} at {limit}");
+    }
+}
+
+// The end of an outcome: the last byte of its tag, and why.
+fn ended(outcomes: &Outcomes, index: usize) -> Option<(u8, Told)> {
+    let (tag, outcome) = outcomes.get(index)?;
+    let last = *tag.as_bytes().last()?;
+    match outcome {
+        Ok(_) => None,
+        Err(error) => Some((last, told_by_error(error))),
+    }
+}
+
+fn reply(closed: bool) -> Detach {
+    Detach {
+        handle: Handle(0),
+        closed,
+        error: None,
+    }
+}
+
+// A link at 29 that has sent three deliveries of one byte and is detached, with its handle again.
+fn detached_after_three(rt: &(impl Abort + AllocGlobal)) -> SenderLink<Target> {
+    let mut link = link(rt, SenderSettleMode::Mixed, 29, 3);
+    for _ in 0..3 {
+        let told = told_by(send_flagged(&mut link, &payload_of(rt, &[7]), None));
+        assert_eq!(rt; told, Told::Unsettled);
+    }
+    drop(link.send_detach(false, None));
+    drop(link.on_detach_reply(reply(false)));
+    *link.output_handle_mut() = Some(OutputHandle(0));
+    link
+}
+
+// A link that attaches anew states its present count, says nothing of its deliveries, and gives them
+// up in order.
+#[test]
+fn reattach_gives_pending_deliveries_up(rt: HostRuntime) {
+    let mut link = detached_after_three(&rt);
+    let (frame, outcomes) = link.send_attach(true).expect(&rt, "it goes");
+    let wanted = Shown {
+        len: Some(25),
+        count: Some(3),
+        entries: None,
+        incomplete: false,
+    };
+    assert_eq!(rt; shown_by(&frame), Some(wanted));
+    assert_eq!(rt; outcomes.len(), 3);
+    for count in 0u8..3 {
+        let given_up = ended(&outcomes, usize::from(count));
+        assert_eq!(rt; given_up, Some((count, Told::IllegalState)));
+    }
+    assert_eq!(rt; link.unsettled().len(), 0);
+    assert_eq!(rt; *link.local_state(), LinkState::AttachSent);
+    drop((frame, outcomes));
+    drop(link);
+}
+
+// Where the state has no row, a reattach gives nothing up.
+#[test]
+fn refused_reattach_keeps_what_is_pending(rt: HostRuntime) {
+    let mut link = detached_after_three(&rt);
+    link.local_state = LinkState::Closed;
+    let refused = link.send_attach(true).err();
+    assert_eq!(rt; refused, Some(SenderAttachError::IllegalState));
+    assert_eq!(rt; link.unsettled().len(), 3);
+    drop(link);
+}
+
+// What a link shows after an attach came.
+#[derive(Clone, Copy, Debug, PartialEq, Eq)]
+struct Left {
+    refused: Option<SenderAttachError>,
+    state: LinkState,
+    has_handle: bool,
+    rcv_settle_mode: ReceiverSettleMode,
+    max_message_size: Option<u64>,
+}
+
+// A link in this mode, with a limit of 7 bytes a message, to which an attach comes.
+fn left_by<T: LinkTarget>(mut link: SenderLink<T>, attach: Attach) -> Left {
+    let refused = link.on_incoming_attach(attach).err();
+    let left = Left {
+        refused,
+        state: *link.local_state(),
+        has_handle: link.input_handle.is_some(),
+        rcv_settle_mode: *link.rcv_settle_mode(),
+        max_message_size: link.max_message_size(),
+    };
+    drop(link);
+    left
+}
+
+fn settling(rt: &(impl Abort + AllocGlobal), mode: SenderSettleMode) -> SenderLink<Target> {
+    let mut parts = parts(rt, mode, 512);
+    parts.max_message_size = 7;
+    SenderLink::new(rt.alloc(), parts)
+}
+
+// An attach that settles in the receiver's second mode and takes five bytes a message.
+fn coming(rt: &(impl Abort + AllocGlobal), mode: SenderSettleMode) -> Attach {
+    let mut attach = attach_of(rt, Role::Receiver, mode);
+    attach.rcv_settle_mode = ReceiverSettleMode::Second;
+    attach.max_message_size = Some(5);
+    attach
+}
+
+#[test]
+fn incoming_attach_is_taken_as_far_as_it_goes(rt: HostRuntime) {
+    let taken = Left {
+        refused: None,
+        state: LinkState::AttachReceived,
+        has_handle: true,
+        rcv_settle_mode: ReceiverSettleMode::Second,
+        max_message_size: Some(5),
+    };
+    let attach = coming(&rt, SenderSettleMode::Mixed);
+    assert_eq!(rt;
+        left_by(settling(&rt, SenderSettleMode::Settled), attach),
+        taken
+    );
+    let disagreed = Left {
+        refused: Some(SenderAttachError::SndSettleModeNotSupported),
+        max_message_size: Some(7),
+        ..taken
+    };
+    let attach = coming(&rt, SenderSettleMode::Unsettled);
+    assert_eq!(rt;
+        left_by(settling(&rt, SenderSettleMode::Settled), attach),
+        disagreed
+    );
+    let untargeted = Left {
+        refused: Some(SenderAttachError::IncomingTargetIsNone),
+        rcv_settle_mode: ReceiverSettleMode::First,
+        ..disagreed
+    };
+    let mut attach = coming(&rt, SenderSettleMode::Unsettled);
+    attach.target = None;
+    assert_eq!(rt;
+        left_by(settling(&rt, SenderSettleMode::Settled), attach),
+        untargeted
+    );
+}
+
+// A target that takes none that comes.
+#[derive(Debug, Drop)]
+struct Nowhere {
+    target: Target,
+}
+
+impl Clone for Nowhere {
+    ghost use Rattle.std.specs.Prelude.{◌≡◌};
+
+    ghost is_clone = { λ nowhere copy. copy ≡ nowhere };
+
+    fn clone(&self) -> Result<Nowhere, AllocError> {
+        Ok(Nowhere {
+            target: self.target.clone()?,
+        })
+    }
+}
+
+impl LinkTarget for Nowhere {
+    ghost use Rattle.std.specs.Prelude.{None};
+    ghost use Rattle.amqp_link_types.specs.declared.types.terminus.TargetArchetype.TheVariants as archetype;
+
+    ghost sent_as = { λ nowhere. archetype.Target nowhere.target };
+
+    ghost admitted = { λ archetype. None };
+
+    fn into_archetype(self) -> TargetArchetype {
+        TargetArchetype::from(self.target)
+    }
+
+    fn from_archetype(_archetype: TargetArchetype) -> Option<Nowhere> {
+        None
+    }
+}
+
+// A target of another kind is refused once the state and the handle have moved.
+#[test]
+fn target_of_another_kind_is_refused(rt: HostRuntime) {
+    let parts = parts(&rt, SenderSettleMode::Mixed, 512);
+    let link: SenderLink<Nowhere> = SenderLink::new(
+        rt.alloc(),
+        LinkParts {
+            name: parts.name,
+            snd_settle_mode: parts.snd_settle_mode,
+            rcv_settle_mode: parts.rcv_settle_mode,
+            source: parts.source,
+            target: None,
+            max_message_size: 7,
+            offered_capabilities: None,
+            desired_capabilities: None,
+            flow_state: parts.flow_state,
+            max_frame_size: 512,
+            verify_incoming_source: false,
+            verify_incoming_target: false,
+        },
+    );
+    let wanted = Left {
+        refused: Some(SenderAttachError::CoordinatorIsNotImplemented),
+        state: LinkState::AttachReceived,
+        has_handle: true,
+        rcv_settle_mode: ReceiverSettleMode::First,
+        max_message_size: Some(7),
+    };
+    assert_eq!(rt; left_by(link, coming(&rt, SenderSettleMode::Mixed)), wanted);
+}

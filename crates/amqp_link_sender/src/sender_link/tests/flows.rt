@@ -1,0 +1,202 @@
+//! Worked values of flows that come to a sender (2.6.7).
+use crate::samples::{fields, parts, payload_of};
+use crate::sender_link::SenderLink;
+use amqp_link_samples::links::{FlowTold, told_back};
+use amqp_link_types::state::LinkFlowStateInner;
+use amqp_link_types::types::{
+    LinkFlow, LinkRelayError, OutputHandle, SenderSettleMode, Target, Transfer,
+};
+use std::process::Abort;
+
+// The link "l" at this count, with this initial count and credit 4, and with properties. It has no
+// output handle.
+fn unnamed(
+    rt: &(impl Abort + AllocGlobal),
+    delivery_count: u32,
+    initial_delivery_count: u32,
+) -> SenderLink<Target> {
+    let mut parts = parts(rt, SenderSettleMode::Mixed, 512);
+    parts.flow_state = LinkFlowStateInner {
+        initial_delivery_count,
+        delivery_count,
+        link_credit: 4,
+        available: 6,
+        drain: false,
+        properties: Some(fields(rt, "k")),
+    };
+    SenderLink::new(rt.alloc(), parts)
+}
+
+// What a flow leaves: the count, the credit, and the drain flag.
+#[derive(Clone, Copy, Debug, PartialEq, Eq)]
+struct Left {
+    told: Result<Option<FlowTold>, LinkRelayError>,
+    count: u32,
+    credit: u32,
+    drain: bool,
+}
+
+fn left_of(link: &mut SenderLink<Target>, flow: LinkFlow) -> Left {
+    let told = told_back(link.on_incoming_flow(flow));
+    Left {
+        told,
+        count: link.flow_state.delivery_count(),
+        credit: link.flow_state.link_credit(),
+        drain: link.flow_state.drain(),
+    }
+}
+
+fn left_by(rt: &(impl Abort + AllocGlobal), own: u32, initial: u32, flow: LinkFlow) -> Left {
+    let mut link = unnamed(rt, own, initial).with_output_handle(OutputHandle(7));
+    let left = left_of(&mut link, flow);
+    drop(link);
+    left
+}
+
+const HALF: u32 = 1 << 31;
+
+const LAST: u32 = u32::MAX;
+
+// The own count, the flow's count and credit, and the credit then, where the initial count is 9.
+const GRANTS: [(u32, Option<u32>, Option<u32>, u32); 29] = [
+    (LAST, Some(LAST), Some(10), 10),
+    (2, Some(4294967290), Some(10), 2),
+    (0, Some(HALF), Some(10), 0),
+    (5, Some(3), Some(LAST), 4294967293),
+    (0, Some(5), Some(LAST), LAST),
+    (0, Some(0), Some(0), 0),
+    (0, Some(0), Some(LAST), LAST),
+    (0, Some(HALF - 1), Some(0), HALF - 1),
+    (0, Some(HALF - 1), Some(HALF), LAST),
+    (0, Some(HALF - 1), Some(HALF + 1), LAST),
+    (0, Some(HALF), Some(HALF), 0),
+    (0, Some(HALF), Some(LAST), HALF - 1),
+    (0, Some(LAST), Some(10), 9),
+    (HALF - 1, Some(0), Some(LAST), HALF),
+    (HALF - 1, Some(HALF - 1), Some(10), 10),
+    (HALF - 1, Some(HALF), Some(10), 11),
+    (HALF - 1, Some(LAST), Some(LAST), HALF - 1),
+    (HALF, Some(0), Some(LAST), HALF - 1),
+    (HALF, Some(HALF - 1), Some(10), 9),
+    (HALF, Some(HALF), Some(10), 10),
+    (HALF, Some(LAST), Some(10), HALF + 9),
+    (LAST, Some(0), Some(10), 11),
+    (LAST, Some(HALF - 1), Some(LAST), HALF - 1),
+    (LAST, Some(HALF), Some(LAST), HALF),
+    (LAST, None, Some(10), 20),
+    (0, None, Some(10), 19),
+    (9, None, Some(LAST), LAST),
+    (0, Some(HALF), None, 4),
+    (LAST, None, None, 4),
+];
+
+#[test]
+fn credit_is_counted_from_the_count_of_the_flow(rt: HostRuntime) {
+    for (own, delivery_count, link_credit, wanted) in GRANTS {
+        let flow = LinkFlow {
+            delivery_count,
+            link_credit,
+            ..LinkFlow::default()
+        };
+        let left = Left {
+            told: Ok(None),
+            count: own,
+            credit: wanted,
+            drain: false,
+        };
+        assert_eq!(rt;
+            left_by(&rt, own, 9, flow),
+            left,
+            "{delivery_count:?} and {link_credit:?} at {own}"
+        );
+    }
+}
+
+#[test]
+fn drain_takes_all_credit_to_the_count(rt: HostRuntime) {
+    let rows = [
+        (false, Some(LAST - 1), Some(3), 1),
+        (true, Some(LAST - 1), Some(0), LAST - 1),
+        (false, Some(LAST - 1), Some(LAST), LAST - 2),
+        (false, Some(LAST - 1), None, 2),
+        (false, None, Some(3), 3),
+    ];
+    for (echo, delivery_count, link_credit, count) in rows {
+        let drain = LinkFlow {
+            delivery_count,
+            link_credit,
+            drain: true,
+            echo,
+            ..LinkFlow::default()
+        };
+        let told = FlowTold {
+            handle: 7,
+            count: Some(count),
+            credit: Some(0),
+            available: Some(6),
+            drain: true,
+            echo: false,
+        };
+        let left = Left {
+            told: Ok(Some(told)),
+            count,
+            credit: 0,
+            drain: true,
+        };
+        assert_eq!(rt;
+            left_by(&rt, LAST - 1, 0, drain),
+            left,
+            "of {link_credit:?}"
+        );
+    }
+}
+
+#[test]
+fn asked_for_an_answer_a_sender_gives_one(rt: HostRuntime) {
+    let ask = LinkFlow {
+        echo: true,
+        ..LinkFlow::default()
+    };
+    let told = FlowTold {
+        handle: 7,
+        count: Some(2),
+        credit: Some(4),
+        available: Some(6),
+        drain: false,
+        echo: false,
+    };
+    let left = Left {
+        told: Ok(Some(told)),
+        count: 2,
+        credit: 4,
+        drain: false,
+    };
+    assert_eq!(rt; left_by(&rt, 2, 0, ask), left);
+}
+
+#[test]
+fn without_handle_no_flow_is_taken(rt: HostRuntime) {
+    let grant = LinkFlow {
+        link_credit: Some(10),
+        drain: true,
+        ..LinkFlow::default()
+    };
+    let left = Left {
+        told: Err(LinkRelayError::UnattachedHandle),
+        count: 2,
+        credit: 4,
+        drain: false,
+    };
+    let mut link = unnamed(&rt, 2, 0);
+    assert_eq!(rt; left_of(&mut link, grant), left);
+    drop(link);
+}
+
+#[test]
+fn no_transfer_is_taken(rt: HostRuntime) {
+    let link = unnamed(&rt, 2, 0).with_output_handle(OutputHandle(7));
+    let came = link.on_incoming_transfer(Transfer::default(), payload_of(&rt, &[1]));
+    let is_refused = matches!(&came, Err(LinkRelayError::TransferFrameToSender));
+    drop((came, link));
+    assert!(rt; is_refused);
+}

@@ -1,0 +1,176 @@
+//! The table of link states, pair by pair, at a sender's end.
+use crate::samples::{coming, count_tag, payload_of};
+use crate::sender_link::SenderLink;
+use crate::sender_link::tests::new_link;
+use amqp_link_core::endpoint::LinkDetach;
+use amqp_link_samples::table::{
+    Call, STATES, answered, attached, detach, is_illegal, is_illegal_outcome, left, let_go, taken,
+    wanted,
+};
+use amqp_link_types::delivery::UnsettledMessage;
+use amqp_link_types::state::LinkState;
+use amqp_link_types::types::{Role, SenderSettleMode, Target};
+use std::process::Abort;
+
+// A link in this state. One delivery is pending, which an attach names only where the limit is more
+// than 30.
+fn link_in(rt: &(impl Abort + AllocGlobal), state: LinkState, limit: u32) -> SenderLink<Target> {
+    let mut link = new_link(rt, SenderSettleMode::Mixed);
+    let entry = UnsettledMessage::new(payload_of(rt, &[7]), None, 0);
+    drop(link.unsettled.put(count_tag(rt, 0), entry));
+    link.local_state = state;
+    link.set_max_frame_size(limit);
+    link
+}
+
+fn attached_in(rt: &(impl Abort + AllocGlobal), state: LinkState, limit: u32) -> (bool, LinkState) {
+    let mut link = link_in(rt, state, limit);
+    let told = attached(&mut link);
+    drop(link);
+    told
+}
+
+#[test]
+fn attaches_that_are_sent(rt: HostRuntime) {
+    for (incomplete, limit) in [(false, 512), (true, 30)] {
+        let call = Call::SendAttach(incomplete);
+        for (place, state) in STATES.iter().enumerate() {
+            let told = attached_in(&rt, *state, limit);
+            assert_eq!(rt; told, wanted(call, place), "{call:?} in {state:?}");
+        }
+    }
+}
+
+fn taken_in(
+    rt: &(impl Abort + AllocGlobal),
+    state: LinkState,
+    incomplete: bool,
+) -> (bool, LinkState) {
+    let mut link = link_in(rt, state, 512);
+    let told = taken(&mut link, coming(rt, Role::Receiver, incomplete));
+    drop(link);
+    told
+}
+
+#[test]
+fn attaches_that_come(rt: HostRuntime) {
+    for incomplete in [false, true] {
+        let call = Call::IncomingAttach(incomplete);
+        for (place, state) in STATES.iter().enumerate() {
+            let told = taken_in(&rt, *state, incomplete);
+            assert_eq!(rt; told, wanted(call, place), "{call:?} in {state:?}");
+        }
+    }
+}
+
+fn let_go_in(rt: &(impl Abort + AllocGlobal), state: LinkState, closed: bool) -> (bool, LinkState) {
+    let mut link = link_in(rt, state, 512);
+    let told = let_go(&mut link, closed);
+    drop(link);
+    told
+}
+
+#[test]
+fn detaches_that_are_sent(rt: HostRuntime) {
+    for closed in [false, true] {
+        let call = Call::SendDetach(closed);
+        for (place, state) in STATES.iter().enumerate() {
+            let told = let_go_in(&rt, *state, closed);
+            assert_eq!(rt; told, wanted(call, place), "{call:?} in {state:?}");
+        }
+    }
+}
+
+fn answered_in(
+    rt: &(impl Abort + AllocGlobal),
+    state: LinkState,
+    closed: bool,
+) -> (bool, LinkState) {
+    let mut link = link_in(rt, state, 512);
+    let told = answered(&mut link, closed);
+    drop(link);
+    told
+}
+
+#[test]
+fn detaches_that_answer(rt: HostRuntime) {
+    for closed in [false, true] {
+        let call = Call::DetachReply(closed);
+        for (place, state) in STATES.iter().enumerate() {
+            let told = answered_in(&rt, *state, closed);
+            assert_eq!(rt; told, wanted(call, place), "{call:?} in {state:?}");
+        }
+    }
+}
+
+fn left_in(rt: &(impl Abort + AllocGlobal), state: LinkState, closed: bool) -> (bool, LinkState) {
+    let mut link = link_in(rt, state, 512);
+    let told = left(&mut link, closed);
+    drop(link);
+    told
+}
+
+#[test]
+fn detaches_of_the_other_end(rt: HostRuntime) {
+    for closed in [false, true] {
+        let call = Call::RemoteDetach(closed);
+        for (place, state) in STATES.iter().enumerate() {
+            let told = left_in(&rt, *state, closed);
+            assert_eq!(rt; told, wanted(call, place), "{call:?} in {state:?}");
+        }
+    }
+}
+
+// Whether a link without output handle detaches, and where it is left.
+fn let_go_without_handle(rt: &(impl Abort + AllocGlobal)) -> (bool, LinkState) {
+    let mut link = link_in(rt, LinkState::Attached, 512);
+    link.output_handle = None;
+    let told = let_go(&mut link, false);
+    drop(link);
+    told
+}
+
+#[test]
+fn detach_without_handle_moves_the_state(rt: HostRuntime) {
+    assert_eq!(rt; let_go_without_handle(&rt), (false, LinkState::DetachSent));
+}
+
+// Whether these are refused for the state, by its name: a detach without output handle, and a
+// closing reply to it.
+fn refused_without_handle(rt: &(impl Abort + AllocGlobal)) -> (bool, bool) {
+    let mut link = link_in(rt, LinkState::Attached, 512);
+    link.output_handle = None;
+    let sent = is_illegal(link.send_detach(false, None));
+    let replied = is_illegal(link.on_detach_reply(detach(true)));
+    drop(link);
+    (sent, replied)
+}
+
+// So of a detach of the other end on a link that was never attached.
+fn refused_unattached(rt: &(impl Abort + AllocGlobal)) -> bool {
+    let mut link = link_in(rt, LinkState::Unattached, 512);
+    let left = is_illegal_outcome(link.apply_remote_detach_outcome(detach(false)));
+    drop(link);
+    left
+}
+
+#[test]
+fn refused_detaches_name_the_state(rt: HostRuntime) {
+    assert_eq!(rt; refused_without_handle(&rt), (true, true));
+    assert!(rt; refused_unattached(&rt));
+}
+
+// Where a detached link is left by an incomplete attach that comes and the own one after it.
+fn attached_after_an_incomplete_one(rt: &(impl Abort + AllocGlobal)) -> (bool, LinkState) {
+    let mut link = link_in(rt, LinkState::Detached, 512);
+    let _ = taken(&mut link, coming(rt, Role::Receiver, true));
+    let told = attached(&mut link);
+    drop(link);
+    told
+}
+
+#[test]
+fn incomplete_attach_of_a_detached_link(rt: HostRuntime) {
+    let wanted = (true, LinkState::IncompleteAttachExchanged);
+    assert_eq!(rt; attached_after_an_incomplete_one(&rt), wanted);
+}

@@ -1,0 +1,97 @@
+//! What waits as a payload is to be sent.
+use crate::samples::{attach_of, payload_of, text};
+use crate::sender_link::Waiting;
+use crate::sender_link::tests::{Told, link, told_by};
+use amqp_link_core::endpoint::LinkExt;
+use amqp_link_types::frame::LinkFrame;
+use amqp_link_types::state::LinkState;
+use amqp_link_types::types::{
+    Detach, Error, Handle, Role, SenderSettleMode, SessionStopReason, Symbol,
+};
+use std::process::Abort;
+
+// What a send at an attached link with credit 1 comes to while this waits.
+#[derive(Clone, Copy, Debug, PartialEq, Eq)]
+struct Left {
+    told: Told,
+    state: LinkState,
+    has_handle: bool,
+    credit: u32,
+}
+
+fn left_by(rt: &(impl Abort + AllocGlobal), waiting: Waiting) -> Left {
+    let mut link = link(rt, SenderSettleMode::Mixed, 512, 1);
+    let payload = payload_of(rt, &[7]);
+    let sending = link.send_payload(waiting, &payload, 0, None, None, false);
+    let left = Left {
+        told: told_by(sending),
+        state: *link.local_state(),
+        has_handle: link.output_handle.is_some(),
+        credit: link.flow_state().link_credit(),
+    };
+    drop((payload, link));
+    left
+}
+
+fn detach(closed: bool, error: Option<Error>) -> Waiting {
+    Waiting::Frame(LinkFrame::Detach(Detach {
+        handle: Handle(0),
+        closed,
+        error,
+    }))
+}
+
+fn error(rt: &(impl Abort + AllocGlobal)) -> Error {
+    Error {
+        condition: Symbol::from(String::from_str(rt.alloc(), "x:y").expect(rt, "memory")),
+        description: None,
+        info: None,
+    }
+}
+
+// A link that has let go.
+fn gone(told: Told, state: LinkState) -> Left {
+    Left {
+        told,
+        state,
+        has_handle: false,
+        credit: 1,
+    }
+}
+
+// A link of which nothing has changed.
+fn kept(told: Told) -> Left {
+    Left {
+        told,
+        state: LinkState::Attached,
+        has_handle: true,
+        credit: 1,
+    }
+}
+
+#[test]
+fn waiting_detach_is_recorded(rt: HostRuntime) {
+    let closed = left_by(&rt, detach(true, None));
+    assert_eq!(rt; closed, gone(Told::RemoteClosed, LinkState::Closed));
+    let detached = left_by(&rt, detach(false, None));
+    assert_eq!(rt; detached, gone(Told::RemoteDetached, LinkState::Detached));
+    let with_error = left_by(&rt, detach(true, Some(error(&rt))));
+    assert_eq!(rt;
+        with_error,
+        gone(Told::RemoteClosedWithError, LinkState::Closed)
+    );
+}
+
+#[test]
+fn nothing_else_may_wait(rt: HostRuntime) {
+    let attach = attach_of(&rt, Role::Receiver, SenderSettleMode::Mixed);
+    let other = left_by(&rt, Waiting::Frame(LinkFrame::Attach(attach)));
+    assert_eq!(rt; other, kept(Told::ExpectImmediateDetach));
+    assert_eq!(rt;
+        left_by(&rt, Waiting::Stopped(None)),
+        kept(Told::ExpectImmediateDetach)
+    );
+    let stopped = left_by(&rt, Waiting::Stopped(Some(SessionStopReason::Ended)));
+    assert_eq!(rt; stopped, kept(Told::SessionStopped));
+    drop(other);
+}

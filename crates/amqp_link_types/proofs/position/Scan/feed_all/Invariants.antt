@@ -1,6 +1,0 @@
-use Rattle.std.proofs.Common.{ℕ, List, ◌++◌, take}
-use Rattle.amqp_link_types.specs.Scan.{HasSeen}
-use Rattle.amqp_link_types.proofs.position.Scan.feed_all.Given as goal
-
-abbrev pub invariant-loop-byte : goal.invariant-loop-byte
-invariant-loop-byte l = (F : List ℕ) → HasSeen l.fn.self F → HasSeen l.self (F ++ take l.byte-index l.bytes)

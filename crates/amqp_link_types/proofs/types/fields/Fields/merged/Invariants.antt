@@ -1,8 +1,0 @@
-use Rattle.std.proofs.Common.{◌≡◌, map}
-use Rattle.std.specs.Str.{bytes_eq}
-use Rattle.indexmap.specs.IndexMap.{insert_all}
-use Rattle.amqp_link_types.specs.View.{view_entry}
-use Rattle.amqp_link_types.proofs.types.fields.Fields.merged.Given as goal
-
-abbrev pub invariant-loop-name : goal.invariant-loop-name
-invariant-loop-name l = insert_all bytes_eq l.both (map view_entry l.name-iterator) ≡ insert_all bytes_eq l.self l.other

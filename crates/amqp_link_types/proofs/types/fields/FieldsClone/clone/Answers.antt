@@ -1,6 +1,0 @@
-use Rattle.std.proofs.Common.{◌∙◌}
-use Rattle.amqp_link_types.proofs.Entries.{view_of_clones}
-use Rattle.amqp_link_types.proofs.types.fields.FieldsClone.clone.Goals as goal
-
-pub returns : goal.returns
-returns c = record { cases = view_of_clones _ _ c.in_ok-clone.ensures.cases ∙ c.self.view_is }

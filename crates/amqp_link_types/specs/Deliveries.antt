@@ -1,0 +1,18 @@
+-- Deliveries that came whole, as those who take them see them (OASIS AMQP 1.0 core, 2.6.12).
+use Rattle.std.specs.Prelude.{ℕ, List, Option}
+use Rattle.amqp_link_types.specs.declared.types.definitions.OutputHandle.{OutputHandle}
+use Rattle.amqp_link_types.specs.declared.types.definitions.ReceiverSettleMode.{ReceiverSettleMode}
+use Rattle.amqp_link_payloads.specs.declared.message.Message.{Message}
+
+-- which delivery it is, and how it is to be settled
+pub record Info : Type 0 where
+  pub delivery_id : ℕ
+  pub delivery_tag : List ℕ
+  pub rcv_settle_mode : Option ReceiverSettleMode
+
+-- a delivery that came whole on the link with this handle; its body is of type T
+pub record Delivered (T : Type 0) : Type 0 where
+  pub handle : OutputHandle
+  pub info : Info
+  pub message_format : Option ℕ
+  pub message : Message T

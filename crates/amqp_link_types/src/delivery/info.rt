@@ -1,0 +1,91 @@
+//! Which delivery it is, and how it is to be settled (2.6.12).
+ghost use Rattle.std.specs.Prelude.{◌≡◌};
+
+use crate::types::{DeliveryNumber, DeliveryTag, ReceiverSettleMode};
+use std::alloc::AllocError;
+use std::marker::Model;
+
+/// Which delivery it is, and how it is to be settled: what a receiver has to know of a delivery to
+/// settle it when its message is gone.
+///
+/// A contract sees the id, the tag and the mode.
+#[derive(Debug, PartialEq, Eq, Drop)]
+pub struct DeliveryInfo {
+    delivery_id: DeliveryNumber,
+    delivery_tag: DeliveryTag,
+    rcv_settle_mode: Option<ReceiverSettleMode>,
+}
+
+impl Model for DeliveryInfo {
+    ghost use Rattle.amqp_link_types.specs.Deliveries.{Info};
+
+    ghost Value = { Info };
+
+    ghost view = { λ info. record {
+      delivery_id = info.delivery_id;
+      delivery_tag = info.delivery_tag;
+      rcv_settle_mode = info.rcv_settle_mode;
+    } };
+
+    ghost inverse = { λ info. record {
+      delivery_id = info.delivery_id;
+      delivery_tag = info.delivery_tag;
+      rcv_settle_mode = info.rcv_settle_mode;
+    } };
+}
+
+impl DeliveryInfo {
+    /// A delivery with this id and tag, which its receiver settles in this mode; none where only
+    /// the link says in which. Takes no memory.
+    pub fn new(
+        delivery_id: DeliveryNumber,
+        delivery_tag: DeliveryTag,
+        rcv_settle_mode: Option<ReceiverSettleMode>,
+    ) -> DeliveryInfo
+        ensures { result ≡ record {
+          delivery_id = delivery_id;
+          delivery_tag = delivery_tag;
+          rcv_settle_mode = rcv_settle_mode;
+        } }
+    {
+        DeliveryInfo {
+            delivery_id,
+            delivery_tag,
+            rcv_settle_mode,
+        }
+    }
+
+    /// The number that the session gave the delivery (2.8.8).
+    pub fn delivery_id(&self) -> DeliveryNumber
+        ensures { result ≡ self.now.delivery_id }
+    {
+        self.delivery_id
+    }
+
+    /// The tag of the delivery (2.8.7).
+    pub fn delivery_tag(&self) -> &DeliveryTag
+        ensures { result.now ≡ self.now.delivery_tag }
+    {
+        &self.delivery_tag
+    }
+
+    /// When the receiver settles the delivery, where its transfers say so (2.7.5). A delivery that
+    /// came settled has no mode.
+    pub fn rcv_settle_mode(&self) -> Option<ReceiverSettleMode>
+        ensures { result ≡ self.now.rcv_settle_mode }
+    {
+        self.rcv_settle_mode
+    }
+}
+
+impl Clone for DeliveryInfo {
+    ghost is_clone = { λ info copy. copy ≡ info };
+
+    fn clone(&self) -> Result<DeliveryInfo, AllocError> {
+        Ok(DeliveryInfo {
+            delivery_id: self.delivery_id,
+            delivery_tag: self.delivery_tag.clone()?,
+            rcv_settle_mode: self.rcv_settle_mode,
+        })
+    }
+}

@@ -1,0 +1,214 @@
+//! Credit that is spent, and flows that come and go (2.6.7).
+//!
+//! Only the properties of a flow that goes out take memory.
+ghost use Rattle.std.specs.Prelude.{◌≡◌, ◌↔◌, ◌+◌, ◌%◌, ◌^◌, ◌<◌, ◌≤◌, true, if◌then◌else◌, None};
+ghost use Rattle.std.specs.Prelude.{IfOk, IfErr, IsErr, OnErr, OnOk};
+ghost use Rattle.std.specs.Int.{w32, to_be_bytes};
+ghost use Rattle.amqp_link_types.specs.Counts.{sdiff, granted as granted_by, limit_of, after_consuming};
+ghost use Rattle.amqp_link_types.specs.Counts.{flow_of, credit_after, sender_after, sender_reply};
+ghost use Rattle.amqp_link_types.specs.Counts.{receiver_after, receiver_reply, with_stated, stated_flow};
+
+use crate::role::{ReceiverMarker, SenderMarker};
+use crate::state::{InsufficientCredit, LinkFlowState, LinkFlowStateInner};
+use crate::types::{Handle, LinkFlow, OutputHandle, ReceiverTransferError, SequenceNo};
+use amqp_link_values::copy::copy_of;
+use std::alloc::AllocError;
+
+// How far a count is ahead of another: behind it where the answer is below 0 (RFC 1982).
+fn difference(count: SequenceNo, own: SequenceNo) -> i32
+    ensures { result ≡ sdiff count own }
+{
+    count.wrapping_sub(own).cast_signed()
+}
+
+// The credit at the own count, where a receiver at this count grants so much.
+fn granted(count: SequenceNo, grant: u32, own: SequenceNo) -> u32
+    ensures { result ≡ granted_by count grant own }
+{
+    grant.saturating_add_signed(difference(count, own))
+}
+
+impl LinkFlowStateInner {
+    /// How this end stands, as a flow at its handle; with its properties where they are to be
+    /// included. Only those take memory.
+    pub fn as_link_flow(
+        &self,
+        output_handle: OutputHandle,
+        echo: bool,
+        include_properties: bool,
+    ) -> Result<LinkFlow, AllocError>
+        ensures flow { IfOk result (λ flow. flow ≡ record (flow_of self.now output_handle echo) {
+          properties = if include_properties then self.now.properties else None;
+        }) }
+        ensures memory { OnErr result (include_properties ≡ true) }
+    {
+        let properties = if include_properties {
+            copy_of(&self.properties)?
+        } else {
+            None
+        };
+        Ok(LinkFlow {
+            properties,
+            ..self.bare_flow(output_handle, echo)
+        })
+    }
+
+    // How this end stands, without properties. Takes no memory.
+    fn bare_flow(&self, output_handle: OutputHandle, echo: bool) -> LinkFlow
+        ensures { result ≡ flow_of self.now output_handle echo }
+    {
+        LinkFlow {
+            handle: Handle(output_handle.0),
+            delivery_count: Some(self.delivery_count),
+            link_credit: Some(self.link_credit),
+            available: Some(self.available),
+            drain: self.drain,
+            echo,
+            properties: None,
+        }
+    }
+
+    // Moves `n` credits to the count, which wraps.
+    fn spend(&mut self, n: u32)
+        requires { n ≤ self.old.link_credit }
+        ensures spent { self.new ≡ after_consuming n self.old }
+        ensures limit { limit_of self.new ≡ limit_of self.old }
+    {
+        self.delivery_count = self.delivery_count.wrapping_add(n);
+        self.link_credit -= n;
+    }
+}
+
+impl LinkFlowState<SenderMarker> {
+    /// Moves `n` credits to the count, which wraps, and answers the count before as four bytes, the
+    /// highest first: the tag of the delivery that spends them. Takes no memory.
+    ///
+    /// Refused, with nothing changed, where there is less credit.
+    pub fn consume(&mut self, n: u32) -> Result<[u8; 4], InsufficientCredit>
+        ensures tag { IfOk result (λ tag. tag ≡ to_be_bytes w32 self.old.delivery_count) }
+        ensures spent { OnOk result (self.new ≡ after_consuming n self.old) }
+        ensures limit { OnOk result (limit_of self.new ≡ limit_of self.old) }
+        ensures refused { IsErr result ↔ (self.old.link_credit < n) }
+        ensures kept { OnErr result (self.new ≡ self.old) }
+    {
+        let state = &mut self.inner;
+        if state.link_credit < n {
+            return Err(InsufficientCredit);
+        }
+        let tag = state.delivery_count.to_be_bytes();
+        state.spend(n);
+        Ok(tag)
+    }
+
+    /// Takes a receiver's flow. The credit that it grants from its count on becomes the credit from
+    /// the own count on; a flow without count grants from the initial count on. The drain flag
+    /// becomes the flow's, and where it is set, all credit goes to the count.
+    ///
+    /// Answers how this end stands then, without properties and asking for no answer, where the flow
+    /// drains or asks for an answer. Takes no memory.
+    pub fn on_incoming_flow(
+        &mut self,
+        flow: &LinkFlow,
+        output_handle: OutputHandle,
+    ) -> Option<LinkFlow>
+        ensures after { self.new ≡ sender_after flow.now self.old }
+        ensures reply { result ≡ sender_reply flow.now self.old output_handle }
+
+        // Drained or not, the count up to which deliveries may be sent is the granted one.
+        ensures limit { limit_of self.new
+            ≡ (self.old.delivery_count + credit_after flow.now self.old) % 2 ^ 32 }
+    {
+        let state = &mut self.inner;
+        let count = flow.delivery_count.unwrap_or(state.initial_delivery_count);
+        if let Some(credit) = flow.link_credit {
+            state.link_credit = granted(count, credit, state.delivery_count);
+        }
+        state.drain = flow.drain;
+        if flow.drain {
+            state.spend(state.link_credit);
+        }
+        if flow.drain || flow.echo {
+            Some(state.bare_flow(output_handle, false))
+        } else {
+            None
+        }
+    }
+}
+
+impl LinkFlowState<ReceiverMarker> {
+    /// Moves `n` credits to the count, which wraps. Takes no memory.
+    ///
+    /// Refused with `TransferLimitExceeded`, and nothing changed, where there is less credit.
+    pub fn consume(&mut self, n: u32) -> Result<(), ReceiverTransferError>
+        ensures spent { OnOk result (self.new ≡ after_consuming n self.old) }
+        ensures limit { OnOk result (limit_of self.new ≡ limit_of self.old) }
+        ensures refused { IsErr result ↔ (self.old.link_credit < n) }
+        ensures error { IfErr result (λ error. error ≡ ReceiverTransferError.TransferLimitExceeded) }
+        ensures kept { OnErr result (self.new ≡ self.old) }
+    {
+        let state = &mut self.inner;
+        if state.link_credit < n {
+            return Err(ReceiverTransferError::TransferLimitExceeded);
+        }
+        state.spend(n);
+        Ok(())
+    }
+
+    /// Sets the credit and the drain flag where they are given, and answers how this end stands then,
+    /// as a flow at its handle; with its properties where they are to be included. A receiver does not
+    /// say what is available: that is the sender's to tell (2.6.7).
+    ///
+    /// Only the properties take memory. Where it is wanting nothing has changed.
+    pub fn state_flow(
+        &mut self,
+        link_credit: Option<u32>,
+        drain: Option<bool>,
+        output_handle: OutputHandle,
+        echo: bool,
+        include_properties: bool,
+    ) -> Result<LinkFlow, AllocError>
+        ensures after { OnOk result (self.new ≡ with_stated link_credit drain self.old) }
+        ensures flow { IfOk result (λ flow.
+            flow ≡ stated_flow self.new output_handle echo include_properties) }
+        ensures memory { OnErr result (include_properties ≡ true) }
+        ensures kept { OnErr result (self.new ≡ self.old) }
+    {
+        let state = &mut self.inner;
+        let properties = if include_properties {
+            copy_of(&state.properties)?
+        } else {
+            None
+        };
+        // All memory is taken: from here on nothing can fail.
+        state.link_credit = link_credit.unwrap_or(state.link_credit);
+        state.drain = drain.unwrap_or(state.drain);
+        Ok(LinkFlow {
+            available: None,
+            properties,
+            ..state.bare_flow(output_handle, echo)
+        })
+    }
+
+    /// Takes a sender's flow: its count and what is available become the own ones where it says
+    /// them; credit and drain are the receiver's own, and stay.
+    ///
+    /// Answers how this end stands then, without properties and asking for no answer, where the flow
+    /// asks for an answer. Takes no memory.
+    pub fn on_incoming_flow(
+        &mut self,
+        flow: &LinkFlow,
+        output_handle: OutputHandle,
+    ) -> Option<LinkFlow>
+        ensures after { self.new ≡ receiver_after flow.now self.old }
+        ensures reply { result ≡ receiver_reply flow.now self.old output_handle }
+    {
+        let state = &mut self.inner;
+        state.delivery_count = flow.delivery_count.unwrap_or(state.delivery_count);
+        state.available = flow.available.unwrap_or(state.available);
+        if flow.echo {
+            Some(state.bare_flow(output_handle, false))
+        } else {
+            None
+        }
+    }
+}

@@ -1,0 +1,6 @@
+pub mod Code
+pub mod Data
+pub mod Length
+pub mod Same
+pub mod SameLaws
+pub mod View

@@ -1,0 +1,29 @@
+//! Copies of parts that may be absent.
+ghost use Rattle.std.specs.Prelude.{◌≡◌, IfOk};
+
+use std::alloc::AllocError;
+
+/// A copy of what may be absent, for a type whose copies are equal to what they copy. May take
+/// memory.
+pub fn copy_of<T: Clone>(value: &Option<T>) -> Result<Option<T>, AllocError>
+    requires { (t c : T) → T.is_clone t c → c ≡ t }
+    ensures { IfOk result (λ copy. copy ≡ value.now) }
+{
+    match value {
+        Some(value) => Ok(Some(value.clone()?)),
+        None => Ok(None),
+    }
+}
+
+/// Copies of two such parts. May take memory.
+pub fn copies_of<T: Clone + Drop, U: Clone>(
+    first: &Option<T>,
+    second: &Option<U>,
+) -> Result<(Option<T>, Option<U>), AllocError>
+    requires first { (t c : T) → T.is_clone t c → c ≡ t }
+    requires second { (u c : U) → U.is_clone u c → c ≡ u }
+    ensures first { IfOk result (λ copies. copies.0 ≡ first.now) }
+    ensures second { IfOk result (λ copies. copies.1 ≡ second.now) }
+{
+    Ok((copy_of(first)?, copy_of(second)?))
+}

@@ -1,0 +1,129 @@
+//! Maps from symbols to values (2.8.13).
+ghost use Rattle.std.specs.Prelude.{◌≡◌, ◌↔◌, [], map, length, option_map};
+ghost use Rattle.std.specs.Prelude.{IsTrue, OnOk, OnErr, IfOk, IfErr};
+ghost use Rattle.std.specs.Cmp.{partial_equiv_from_equiv};
+ghost use Rattle.std.specs.Map.{lookup};
+ghost use Rattle.std.specs.Str.{bytes_eq};
+ghost use Rattle.indexmap.specs.IndexMap.{insert_entry, insert_all};
+ghost use Rattle.amqp_link_values.specs.Same.{same_entries};
+ghost use Rattle.amqp_link_values.specs.View.{view, view_entry};
+ghost use Rattle.amqp_link_values.specs.SameLaws.{entries_equiv};
+
+use crate::symbol::Symbol;
+use crate::value::Value;
+use indexmap::IndexMap;
+use std::alloc::{AllocError, AllocFailed, Global};
+use std::marker::Model;
+
+/// Values by name, in the order in which they were first put (2.8.13).
+///
+/// A contract sees the list of the pairs, each a name and the data of its value.
+#[derive(Debug, Drop)]
+pub struct Fields {
+    entries: IndexMap<Symbol, Value>,
+}
+
+/// The filters of a source by their names (3.5.8).
+pub type FilterSet = Fields;
+
+impl Model for Fields {
+    ghost use Rattle.std.specs.Prelude.{ℕ, List, map};
+    ghost use Rattle.std.specs.Coded.{coded×, coded_list, coded_ℕ};
+    ghost use Rattle.amqp_link_values.specs.Data.{Data};
+    ghost use Rattle.amqp_link_values.specs.Code.{data_code};
+
+    ghost Value = { List (List ℕ × Data) };
+
+    ghost coded = { coded_list (coded× (coded_list coded_ℕ) data_code) };
+
+    ghost use Rattle.amqp_link_values.specs.View.{view_entry};
+
+    ghost view = { λ fields. map view_entry fields.entries.entries };
+}
+
+impl Fields {
+    /// No fields. Takes no memory.
+    pub fn new(alloc: Global) -> Fields
+        ensures { result ≡ [] }
+    {
+        Fields {
+            entries: IndexMap::new(alloc),
+        }
+    }
+
+    /// How many fields there are.
+    pub fn len(&self) -> usize
+        ensures { result ≡ length self.now }
+    {
+        self.entries.len()
+    }
+
+    /// The value under a name.
+    pub fn get(&self, name: &Symbol) -> Option<&Value>
+        ensures { option_map (λ v. view v.now) result ≡ lookup (bytes_eq name.now) self.now }
+    {
+        self.entries.get(name)
+    }
+
+    /// Puts a value under a name: in the place of the one that is there, which is answered, or
+    /// last. Only a new name takes memory; where it is wanting both come back.
+    pub fn insert(
+        &mut self,
+        name: Symbol,
+        value: Value,
+    ) -> Result<Option<Value>, AllocFailed<(Symbol, Value)>>
+        ensures ok { OnOk result (self.new ≡ insert_entry bytes_eq self.old name (view value)) }
+        ensures replaced { IfOk result (λ v. option_map view v ≡ lookup (bytes_eq name) self.old) }
+        ensures err { OnErr result (self.new ≡ self.old) }
+        ensures back { IfErr result (λ failed. failed.value ≡ (name, value)) }
+    {
+        self.entries.insert(name, value)
+    }
+
+    /// These fields with those of `other` put one by one. Both stay as they are.
+    pub fn merged(&self, other: &Fields) -> Result<Fields, AllocError>
+        ensures { IfOk result (λ both. both ≡ insert_all bytes_eq self.now other.now) }
+    {
+        let mut both = self.clone()?;
+        for (name, value) in other.entries.iter() {
+            let name = name.clone()?;
+            both.insert(name, value.clone()?)?;
+        }
+        Ok(both)
+    }
+
+    // The pairs in order.
+    pub(crate) fn entries(&self) -> &IndexMap<Symbol, Value>
+        ensures { map view_entry result.now.entries ≡ self.now }
+    {
+        &self.entries
+    }
+}
+
+impl Clone for Fields {
+    ghost is_clone = { λ fields copy. copy ≡ fields };
+
+    fn clone(&self) -> Result<Fields, AllocError> {
+        Ok(Fields {
+            entries: self.entries.clone()?,
+        })
+    }
+}
+
+impl PartialEq for Fields {
+    ghost eq = { same_entries };
+
+    ghost laws = { partial_equiv_from_equiv entries_equiv };
+
+    // Two maps are equal where their entries are, in their order.
+    fn eq(&self, other: &Fields) -> bool
+        ensures value { result ≡ same_entries self.now other.now }
+        ensures equal { IsTrue result ↔ (self.now ≡ other.now) }
+    {
+        self.entries.as_slice() == other.entries.as_slice()
+    }
+}
+
+impl Eq for Fields {
+    ghost laws = { entries_equiv };
+}

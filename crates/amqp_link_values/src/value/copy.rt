@@ -1,0 +1,91 @@
+//! `clone`, written out since a derived one says nothing of a type that holds itself.
+ghost use Rattle.std.specs.Prelude.{◌≡◌, IfOk};
+ghost use Rattle.amqp_link_values.specs.View.{view, items_view, pairs_view};
+
+use crate::symbol::Symbol;
+use crate::value::{Descriptor, Value};
+use std::alloc::AllocError;
+
+impl Clone for Descriptor {
+    ghost is_clone = { λ descriptor copy. copy ≡ descriptor };
+
+    fn clone(&self) -> Result<Descriptor, AllocError> {
+        match self {
+            Descriptor::Code(code) => Ok(Descriptor::Code(*code)),
+            Descriptor::Name(name) => Ok(Descriptor::Name(name.clone()?)),
+        }
+    }
+}
+
+fn copy_bytes(bytes: &Vec<u8>) -> Result<Vec<u8>, AllocError>
+    ensures { IfOk result (λ copy. copy.items ≡ bytes.now.items) }
+{
+    bytes.clone()
+}
+
+fn copy_symbols(symbols: &Vec<Symbol>) -> Result<Vec<Symbol>, AllocError>
+    ensures { IfOk result (λ copy. copy.items ≡ symbols.now.items) }
+{
+    symbols.clone()
+}
+
+impl Clone for Value {
+    ghost is_clone = { λ value copy. view copy ≡ view value };
+
+    fn clone(&self) -> Result<Value, AllocError> {
+        copy(self)
+    }
+}
+
+#[cycle(copy)]
+fn copy(value: &Value) -> Result<Value, AllocError>
+    ensures { IfOk result (λ copy. view copy ≡ view value.now) }
+{
+    match value {
+        Value::Null => Ok(Value::Null),
+        Value::Bool(b) => Ok(Value::Bool(*b)),
+        Value::Ubyte(n) => Ok(Value::Ubyte(*n)),
+        Value::Ushort(n) => Ok(Value::Ushort(*n)),
+        Value::Uint(n) => Ok(Value::Uint(*n)),
+        Value::Ulong(n) => Ok(Value::Ulong(*n)),
+        Value::Byte(n) => Ok(Value::Byte(*n)),
+        Value::Short(n) => Ok(Value::Short(*n)),
+        Value::Int(n) => Ok(Value::Int(*n)),
+        Value::Long(n) => Ok(Value::Long(*n)),
+        Value::Timestamp(n) => Ok(Value::Timestamp(*n)),
+        Value::Binary(bytes) => Ok(Value::Binary(copy_bytes(bytes)?)),
+        Value::String(text) => Ok(Value::String(text.clone()?)),
+        Value::Symbol(symbol) => Ok(Value::Symbol(symbol.clone()?)),
+        Value::List(items) => Ok(Value::List(copy_items(items)?)),
+        Value::Map(pairs) => Ok(Value::Map(copy_pairs(pairs)?)),
+        Value::SymbolArray(symbols) => Ok(Value::SymbolArray(copy_symbols(symbols)?)),
+        Value::Described(descriptor, value) => {
+            let descriptor = descriptor.clone()?;
+            let inner = copy(value)?;
+            Ok(Value::Described(descriptor, Box::new(*Box::allocator(value), inner)?))
+        }
+    }
+}
+
+#[cycle(copy)]
+fn copy_items(items: &Vec<Value>) -> Result<Vec<Value>, AllocError>
+    ensures { IfOk result (λ v. items_view v.items ≡ items_view items.now.items) }
+{
+    let mut copies = Vec::with_capacity(*items.allocator(), items.len())?;
+    for item in items {
+        copies.push(copy(item)?)?;
+    }
+    Ok(copies)
+}
+
+#[cycle(copy)]
+fn copy_pairs(pairs: &Vec<(Value, Value)>) -> Result<Vec<(Value, Value)>, AllocError>
+    ensures { IfOk result (λ v. pairs_view v.items ≡ pairs_view pairs.now.items) }
+{
+    let mut copies = Vec::with_capacity(*pairs.allocator(), pairs.len())?;
+    for (key, value) in pairs {
+        let key = copy(key)?;
+        copies.push((key, copy(value)?))?;
+    }
+    Ok(copies)
+}
