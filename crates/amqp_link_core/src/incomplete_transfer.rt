@@ -10,14 +10,12 @@ ghost use Rattle.std.specs.Option.{option_or};
 ghost use Rattle.amqp_link_payloads.specs.Position.{position};
 ghost use Rattle.amqp_link_core.specs.Merging.{Came, Merged, IsSilent, opening, following};
 ghost use Rattle.amqp_link_core.specs.Held.{bytes_of};
-ghost use Rattle.amqp_link_core.specs.IncompleteRefusals.{Answers, start_tests, append_tests};
+ghost use Rattle.amqp_link_core.specs.IncompleteRefusals.{Answers, start_tests, append_tests, long_test};
 ghost use Rattle.amqp_link_core.specs.IncompleteRefusals.{differs as fields_differ, is_inconsistent};
 
 mod merging;
 mod pieces;
 mod resuming;
-#[cfg(test)]
-mod tests;
 
 use crate::incomplete_transfer::merging::merge;
 use crate::incomplete_transfer::pieces::push_piece;
@@ -71,18 +69,25 @@ impl IncompleteTransfer {
         ensures refused { Answers result (start_tests transfer payload) }
     {
         if transfer.delivery_id.is_none() {
+            drop((transfer, payload));
             return Err(ReceiverTransferError::DeliveryIdIsNone); // asked of a first transfer (2.7.5)
         }
         if transfer.delivery_tag.is_none() {
+            drop((transfer, payload));
             return Err(ReceiverTransferError::DeliveryTagIsNone);
         }
         let mut pieces = Vec::new(alloc);
-        let size = push_piece(&mut pieces, 0, payload)?;
-        Ok(IncompleteTransfer {
-            performative: transfer,
-            pieces,
-            size,
-        })
+        match push_piece(&mut pieces, 0, payload) {
+            Ok(size) => Ok(IncompleteTransfer {
+                performative: transfer,
+                pieces,
+                size,
+            }),
+            Err(refused) => {
+                drop((transfer, pieces));
+                Err(refused)
+            }
+        }
     }
 
     /// Adds a continuation. The transfer may leave out its tag, id and format.
@@ -114,12 +119,38 @@ impl IncompleteTransfer {
         ensures err { OnErr result (self.new ≡ self.old) }
     {
         if self.is_inconsistent_with(&transfer) {
+            drop((transfer, payload));
             return Err(ReceiverTransferError::InconsistentFieldInMultiFrameDelivery); // (2.7.5)
         }
-        self.size = push_piece(&mut self.pieces, self.size, payload)?;
-        // All tests are behind, and all memory is taken.
-        merge(&mut self.performative, transfer, false);
-        Ok(())
+        self.add(transfer, payload, false)
+    }
+
+    // Adds a transfer whose fields are not refused; one that opens the delivery again gives it its
+    // id. Where its payload is refused nothing changes.
+    pub(crate) fn add(
+        &mut self,
+        transfer: Transfer,
+        payload: Payload,
+        opens: bool,
+    ) -> Result<(), ReceiverTransferError>
+        ensures merged { OnOk result ((came : List Came) → Merged came self.old.performative
+            → Merged (came ++ record { opens = opens; transfer = transfer } ∷ [])
+            self.new.performative) }
+        ensures pieces { OnOk result (self.new.pieces ≡ self.old.pieces ++ payload ∷ []) }
+        ensures refused { Answers result (long_test (bytes_of self.old ++ payload)) }
+        ensures err { OnErr result (self.new ≡ self.old) }
+    {
+        match push_piece(&mut self.pieces, self.size, payload) {
+            Ok(size) => {
+                self.size = size;
+                merge(&mut self.performative, transfer, opens);
+                Ok(())
+            }
+            Err(refused) => {
+                drop(transfer);
+                Err(refused)
+            }
+        }
     }
 
     // Whether a transfer names another tag, id or format than the delivery's.
@@ -213,11 +244,18 @@ impl Clone for IncompleteTransfer {
     ghost is_clone = { λ held copy. copy ≡ held };
 
     fn clone(&self) -> Result<IncompleteTransfer, AllocError> {
-        Ok(IncompleteTransfer {
-            performative: self.performative.clone()?,
-            pieces: self.pieces.clone()?,
-            size: self.size,
-        })
+        let performative = self.performative.clone()?;
+        match self.pieces.clone() {
+            Ok(pieces) => Ok(IncompleteTransfer {
+                performative,
+                pieces,
+                size: self.size,
+            }),
+            Err(refused) => {
+                drop(performative);
+                Err(refused)
+            }
+        }
     }
 }
 

@@ -11,8 +11,6 @@ ghost use Rattle.amqp_link_core.specs.Resuming.{front, ended, nothing, local_sai
 ghost use Rattle.amqp_link_core.specs.Resuming.{is_resumed, row, resolution};
 
 mod states;
-#[cfg(test)]
-mod tests;
 
 use crate::resumption::states::{has_ended, has_ended_as, is_past, rest_of};
 use amqp_link_types::delivery::{DeliveryOutcome, UnsettledMessage};

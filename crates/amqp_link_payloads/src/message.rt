@@ -9,8 +9,6 @@ ghost use Rattle.amqp_link_payloads.specs.declared.error.DecodeError.TheVariants
 
 pub mod data_body;
 mod join;
-#[cfg(test)]
-mod tests;
 pub mod whole;
 
 use crate::error::DecodeError;

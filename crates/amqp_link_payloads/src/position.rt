@@ -12,8 +12,6 @@ ghost use Rattle.amqp_link_payloads.specs.Scan.{HasSeen, number_below};
 
 mod header;
 mod places;
-#[cfg(test)]
-mod tests;
 
 use crate::payload::Payload;
 use crate::position::header::Tail;

@@ -1,8 +1,7 @@
 -- Why a new delivery is refused, and why its transfer is.
 use Rattle.std.proofs.Common.{◌≡◌, ◌∙◌, sym, ap, ℕ, Bool, true, false, not, ◌&&◌, List, [], ◌∷◌, refl, Option, Some, None, Result, Ok, Err, option_map, arith, inl, inr, ◌⊎◌, ◌==◌}
 use Rattle.std.proofs.lemmas.Bool.Decides.{nat_tests}
-use Rattle.std.specs.Prelude.{IsErrAnd, is_none, unwrap_or, MatchOption}
-use Rattle.amqp_link_types.specs.Entries.{Tag}
+use Rattle.std.specs.Prelude.{IsErrAnd, IsSomeAnd, is_none, unwrap_or}
 use Rattle.amqp_link_types.specs.Refusals.{refusal}
 use Rattle.amqp_link_types.specs.declared.types.definitions.OutputHandle.{OutputHandle}
 use Rattle.amqp_link_types.specs.declared.types.errors.LinkStateError.{LinkStateError}
@@ -41,19 +40,17 @@ module _ {T : Type 0} (s : Sender T) (d : Delivery) (payload : List ℕ) where
       ∙ last_two pending (crowded (Some h)) error.TagPending error.NoRoom
       ∙ sym (ap (option_map refused) (skip (is_none s.input_handle) error.IllegalState ((pending, error.TagPending) ∷ (crowded (Some h), error.NoRoom) ∷ []) input))
 
-  pub refused_with : (tag : Tag) (r : Result Transfer LinkStateError) (first : Transfer) → tag ≡ next_tag s
-      → MatchOption s.output_handle (r ≡ Err error.IllegalState) (λ h. r ≡ Ok (new_transfer s h tag d))
-      → r ≡ Ok first → is_none s.input_handle ≡ false → (s.flow_state.link_credit ≡ 0 → ⊥)
+  pub refused_with : (first : Transfer) → IsSomeAnd s.output_handle (λ h. first ≡ new_transfer s h (next_tag s) d)
+      → is_none s.input_handle ≡ false → (s.flow_state.link_credit ≡ 0 → ⊥)
       → refusal (payload_tests s d payload) ≡ option_map refused (refusal (tagged_transfer_tests s first payload))
-  refused_with tag r first next made is input credit = by s.output_handle refl made
+  refused_with first made input credit = by s.output_handle refl made
     where
-      by : (o : Option OutputHandle) → s.output_handle ≡ o → MatchOption o (r ≡ Err error.IllegalState) (λ h. r ≡ Ok (new_transfer s h tag d))
+      by : (o : Option OutputHandle) → s.output_handle ≡ o → IsSomeAnd o (λ h. first ≡ new_transfer s h (next_tag s) d)
           → refusal (payload_tests s d payload) ≡ option_map refused (refusal (tagged_transfer_tests s first payload))
-      by None o m = absurd (cc)
+      by None o m = absurd m
       by (Some h) o m =
-          let here : new_transfer s h tag d ≡ first = cc in
-          let same : new_transfer s h (next_tag s) d ≡ first = ap (λ t. new_transfer s h t d) (sym next) ∙ here in
-          by_transfer h o input (not_zero s.flow_state.link_credit credit) ∙ ap (λ t. option_map refused (refusal (tagged_transfer_tests s t payload))) same
+          by_transfer h o input (not_zero s.flow_state.link_credit credit)
+          ∙ ap (λ t. option_map refused (refusal (tagged_transfer_tests s t payload))) (sym m)
 
 -- a refused transfer refuses the delivery
 pub told : (r : Result Sending LinkStateError) (tests : List (Bool × LinkStateError)) (stops : List (Bool × Stop)) (e : LinkStateError) → IsErrAnd r (λ x. x ≡ e)

@@ -3,7 +3,7 @@
 //! `send_*` are commands that answer frames, in the order in which they are to go out. A new link is
 //! attached first, then the receiver grants credit, then payloads go out, one credit for each
 //! delivery.
-ghost use Rattle.std.specs.Prelude.{◌≡◌, [], length, Some, IfOk, IfErr, IsSomeAnd, OnOk, OnErr, MatchOption};
+ghost use Rattle.std.specs.Prelude.{◌≡◌, ◌⊎◌, [], length, None, Some, IfOk, IfErr, IsSomeAnd, OnOk, OnErr, MatchOption};
 ghost use Rattle.std.specs.Int.{w32, to_be_bytes};
 ghost use Rattle.amqp_link_sender.specs.Room.{payload_limit as limit_of_payload};
 ghost use Rattle.amqp_link_sender.specs.Split.{Least};
@@ -117,7 +117,7 @@ impl<T: LinkTarget> Model for SenderLink<T> {
 
 impl<T: LinkTarget> SenderLink<T> {
     ghost use Rattle.amqp_link_sender.specs.Senders.{Sends, SendsTransfer, IsSent, Answers, AnswersSend};
-    ghost use Rattle.amqp_link_sender.specs.Senders.{delivery_of, new_transfer, new_entry, settled_on_send, IsFewest};
+    ghost use Rattle.amqp_link_sender.specs.Senders.{delivery_of, next_tag, new_transfer, new_entry, settled_on_send, IsFewest};
     ghost use Rattle.amqp_link_types.specs.Entries.{with_entry};
     ghost use Rattle.amqp_link_sender.specs.Waits.{waiting_error, after_waiting};
     ghost use Rattle.amqp_link_sender.specs.Senders.{transfer_tests, registering_tests, tagged_transfer_tests, payload_tests};
@@ -211,6 +211,7 @@ impl<T: LinkTarget> SenderLink<T> {
             (delivery_of message_format settled state batchable))) }
     {
         let Some(handle) = self.output_handle else {
+            drop((delivery_tag, state));
             return Err(LinkStateError::IllegalState);
         };
         let settled = match self.snd_settle_mode {
@@ -266,10 +267,13 @@ impl<T: LinkTarget> SenderLink<T> {
             (λ error. result ≡ Err error) }
         ensures left { OnErr result (self.new ≡ after_waiting self.old waiting) }
     {
-        if let Some(error) = self.take_waiting(waiting) {
-            return Err(error);
+        match self.take_waiting(waiting) {
+            None => self.send_new(payload, message_format, settled, state, batchable),
+            Some(error) => {
+                drop(state);
+                Err(error)
+            }
         }
-        self.send_new(payload, message_format, settled, state, batchable)
     }
 
     // The same with nothing waiting.
@@ -297,18 +301,40 @@ impl<T: LinkTarget> SenderLink<T> {
             drop(state);
             return Ok(Sending::CreditMissing);
         }
-        let tag = tag_of_count(self.alloc, self.flow_state.delivery_count())?;
-        let first = self.generate_non_resuming_transfer_performative(
-            tag,
-            message_format,
-            settled,
-            state,
-            batchable,
-        )?;
+        let first = self.next_transfer(message_format, settled, state, batchable)?;
         let (settlement, frames) = self.send_payload_with_transfer(message_format, first, payload)?;
         // All tests are behind, and all memory is taken.
         let _ = self.flow_state.consume(1);
         Ok(Sending::Sent { settlement, frames })
+    }
+
+    // The transfer of the next delivery, whose tag is the delivery count.
+    fn next_transfer(
+        &self,
+        message_format: MessageFormat,
+        settled: Option<bool>,
+        state: Option<DeliveryState>,
+        batchable: bool,
+    ) -> Result<Transfer, LinkStateError>
+        ensures made { IfOk result (λ transfer. IsSomeAnd self.now.output_handle (λ handle.
+            transfer ≡ new_transfer self.now handle (next_tag self.now)
+            (delivery_of message_format settled state batchable))) }
+        ensures refused { IfErr result (λ error. (error ≡ LinkStateError.OutOfMemory)
+            ⊎ ((error ≡ LinkStateError.IllegalState) × (self.now.output_handle ≡ None))) }
+    {
+        match tag_of_count(self.alloc, self.flow_state.delivery_count()) {
+            Ok(tag) => self.generate_non_resuming_transfer_performative(
+                tag,
+                message_format,
+                settled,
+                state,
+                batchable,
+            ),
+            Err(refused) => {
+                drop(state);
+                Err(refused.into())
+            }
+        }
     }
 
     /// Sends a payload with this transfer, which names the delivery's tag; spends no credit. An
@@ -330,14 +356,29 @@ impl<T: LinkTarget> SenderLink<T> {
         ensures refused { Answers result (tagged_transfer_tests self.old transfer payload.now) }
         ensures left { OnErr result (self.new ≡ self.old) }
     {
-        let tag = self.tag_to_register(&transfer)?;
-        let (settled, frames) = self.send_transfer_without_modifying_unsettled_map(
+        let tag = match self.tag_to_register(&transfer) {
+            Ok(tag) => tag,
+            Err(refused) => {
+                drop(transfer);
+                return Err(refused);
+            }
+        };
+        let (settled, frames) = match self.send_transfer_without_modifying_unsettled_map(
             transfer, payload,
-        )?;
+        ) {
+            Ok(sent) => sent,
+            Err(refused) => {
+                drop(tag);
+                return Err(refused);
+            }
+        };
         if settled {
             return Ok((Settlement::Settled(tag), frames));
         }
-        self.register(&tag, payload, message_format)?;
+        if let Err(refused) = self.register(&tag, payload, message_format) {
+            drop((tag, frames));
+            return Err(refused);
+        }
         Ok((Settlement::Unsettled(tag), frames))
     }
 
@@ -355,7 +396,14 @@ impl<T: LinkTarget> SenderLink<T> {
         ensures left { OnErr result (self.new ≡ self.old) }
     {
         let entry = UnsettledMessage::new(payload.clone()?, None, message_format);
-        let put = self.unsettled.put(tag.clone()?, entry);
+        let tag = match tag.clone() {
+            Ok(tag) => tag,
+            Err(refused) => {
+                drop(entry);
+                return Err(refused.into());
+            }
+        };
+        let put = self.unsettled.put(tag, entry);
         let is_kept = put.is_ok();
         drop(put);
         if is_kept {

@@ -3,8 +3,6 @@ ghost use Rattle.std.specs.Prelude.{◌≡◌, Ok, Err};
 
 pub mod complete;
 pub mod info;
-#[cfg(test)]
-mod tests;
 
 use crate::types::{DeliveryState, DeliveryTag, LinkStateError, MessageFormat, Payload};
 pub use complete::Delivery;

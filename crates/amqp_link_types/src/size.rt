@@ -13,8 +13,6 @@ ghost use Rattle.amqp_link_types.specs.Size.{modified_len as modified_length, ou
 
 mod attach;
 mod terminus;
-#[cfg(test)]
-mod tests;
 
 use crate::types::{DeliveryState, Error, Fields, Outcome, ReceiverSettleMode, Transfer};
 use amqp_link_values::length::EncodedLen;

@@ -9,8 +9,6 @@ ghost use Rattle.amqp_link_types.specs.contracts.state.LinkFlowState.{the_row as
 ghost use Rattle.amqp_link_values.specs.contracts.fields.Fields.{the_row as fields_row};
 
 mod flow;
-#[cfg(test)]
-mod tests;
 
 use crate::role::{ReceiverMarker, SenderMarker};
 use crate::types::{Fields, SequenceNo};

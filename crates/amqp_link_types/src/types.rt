@@ -10,8 +10,6 @@ pub mod errors;
 pub mod performatives;
 pub mod stop_reason;
 pub mod terminus;
-#[cfg(test)]
-mod tests;
 pub mod transfer;
 pub mod unsettled_map;
 

@@ -3,8 +3,6 @@ ghost use Rattle.std.specs.Prelude.{ℕ};
 ghost use Rattle.amqp_link_values.specs.Length.{IsU64Of, bool_len, uint_len, ulong_len, bytes_len};
 ghost use Rattle.amqp_link_values.specs.Length.{fields_len, array_len as array_length};
 
-#[cfg(test)]
-mod tests;
 pub mod value;
 
 use crate::delivery_tag::DeliveryTag;

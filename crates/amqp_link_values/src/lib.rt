@@ -12,8 +12,6 @@ pub mod fields;
 pub mod length;
 pub mod symbol;
 pub mod symbols;
-#[cfg(test)]
-mod tests;
 pub mod text;
 pub mod value;
 

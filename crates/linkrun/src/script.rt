@@ -2,7 +2,7 @@
 ghost use Rattle.std.specs.Prelude.{◌≤◌, IfOk};
 
 use crate::answer::perform;
-use crate::event::parse_event;
+use crate::event::{Event, parse_event};
 use crate::fault::Fault;
 use amqp_link::Pair;
 use line_text::line::read_line;
@@ -75,15 +75,21 @@ fn run_lines<R: BufRead, O: Write>(
         if line.is_empty() {
             continue;
         }
-        let event = match parse_event(alloc, line.as_slice()) {
-            Ok(Some(event)) => event,
+        match parse_event(alloc, line.as_slice()) {
+            Ok(Some(event)) => answer_to(pair, event, output)?,
             Ok(None) => return Ok(Some(Fault::NotAnEvent(number))),
             Err(_) => return Ok(Some(Fault::InputFailed)),
-        };
-        match perform(pair, &event) {
-            Ok(answer) => writeln!(output, "{answer}")?,
-            Err(refusal) => writeln!(output, "refused {refusal:?}")?,
         }
     }
     Ok(Some(Fault::InputFailed))
+}
+
+// Does what a line says, and tells what came of it. The error is a failed write.
+fn answer_to<O: Write>(pair: &mut Pair, event: Event, output: &mut O) -> io::Result<()> {
+    let answer = perform(pair, &event);
+    drop(event);
+    match answer {
+        Ok(answer) => writeln!(output, "{answer}"),
+        Err(refusal) => writeln!(output, "refused {refusal:?}"),
+    }
 }

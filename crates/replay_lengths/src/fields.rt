@@ -45,3 +45,25 @@ impl<'r, 'a> FieldReader<'r, 'a> {
         }
     }
 }
+
+/// The value, where its fields were read well.
+pub fn if_read<T: Drop>(value: T, fields: Result<(), RowError>) -> Result<T, RowError> {
+    match fields {
+        Ok(()) => Ok(value),
+        Err(error) => {
+            drop(value);
+            Err(error)
+        }
+    }
+}
+
+/// Refused where something stood in this place.
+pub fn none_before<T: Drop>(before: Option<T>) -> Result<(), RowError> {
+    let is_free = before.is_none();
+    drop(before);
+    if is_free {
+        Ok(())
+    } else {
+        Err(RowError::NotARow)
+    }
+}

@@ -1,6 +1,6 @@
 //! Transfers and attaches, as a row gives them.
 use crate::error::RowError;
-use crate::fields::FieldReader;
+use crate::fields::{FieldReader, if_read, none_before};
 use crate::reader::{ReadFrom, Reader};
 use crate::value::read_u8;
 use amqp_link_types::types::{
@@ -52,14 +52,32 @@ impl ReadFrom for UnsettledMap<Option<DeliveryState>> {
     fn read(reader: &mut Reader) -> Result<UnsettledMap<Option<DeliveryState>>, RowError> {
         reader.expect(b"map")?;
         let mut unsettled = UnsettledMap::new(reader.alloc());
-        for _ in 0..reader.unsigned()? {
-            let tag = DeliveryTag::read(reader)?;
-            let state = reader.optional()?;
-            if unsettled.put(tag, state)?.is_some() {
-                return Err(RowError::NotARow);
-            }
+        let read = read_entries(&mut unsettled, reader);
+        if_read(unsettled, read)
+    }
+}
+
+fn read_entries(
+    unsettled: &mut UnsettledMap<Option<DeliveryState>>,
+    reader: &mut Reader,
+) -> Result<(), RowError> {
+    for _ in 0..reader.unsigned()? {
+        read_entry(unsettled, reader)?;
+    }
+    Ok(())
+}
+
+fn read_entry(
+    unsettled: &mut UnsettledMap<Option<DeliveryState>>,
+    reader: &mut Reader,
+) -> Result<(), RowError> {
+    let tag = DeliveryTag::read(reader)?;
+    match reader.optional() {
+        Ok(state) => none_before(unsettled.put(tag, state)?),
+        Err(error) => {
+            drop(tag);
+            Err(error)
         }
-        Ok(unsettled)
     }
 }
 
@@ -67,12 +85,16 @@ impl ReadFrom for Transfer {
     fn read(reader: &mut Reader) -> Result<Transfer, RowError> {
         let mut fields = FieldReader::new(reader, b"transfer")?;
         let mut transfer = Transfer::default();
-        transfer.handle = fields.required()?;
-        fill_delivery(&mut transfer, &mut fields)?;
-        fill_progress(&mut transfer, &mut fields)?;
-        fields.end()?;
-        Ok(transfer)
+        let read = fill_transfer(&mut transfer, &mut fields);
+        if_read(transfer, read)
     }
+}
+
+fn fill_transfer(transfer: &mut Transfer, fields: &mut FieldReader) -> Result<(), RowError> {
+    transfer.handle = fields.required()?;
+    fill_delivery(transfer, fields)?;
+    fill_progress(transfer, fields)?;
+    fields.end()
 }
 
 fn fill_delivery(transfer: &mut Transfer, fields: &mut FieldReader) -> Result<(), RowError> {
@@ -96,22 +118,18 @@ fn fill_progress(transfer: &mut Transfer, fields: &mut FieldReader) -> Result<()
 impl ReadFrom for Attach {
     fn read(reader: &mut Reader) -> Result<Attach, RowError> {
         let mut fields = FieldReader::new(reader, b"attach")?;
-        let name = fields.required()?;
-        let handle = fields.required()?;
-        let mut attach = bare_attach(name, handle, fields.required()?);
-        fill_link(&mut attach, &mut fields)?;
-        fill_terms(&mut attach, &mut fields)?;
-        fields.end()?;
-        Ok(attach)
+        let mut attach = bare_attach(fields.required()?);
+        let read = fill_attach(&mut attach, &mut fields);
+        if_read(attach, read)
     }
 }
 
-// An attach that says no more than it has to.
-fn bare_attach(name: Text, handle: Handle, role: Role) -> Attach {
+// An attach that says no more than a name.
+fn bare_attach(name: Text) -> Attach {
     Attach {
         name,
-        handle,
-        role,
+        handle: Handle(0),
+        role: Role::Sender,
         snd_settle_mode: SenderSettleMode::default(),
         rcv_settle_mode: ReceiverSettleMode::default(),
         source: None,
@@ -124,6 +142,14 @@ fn bare_attach(name: Text, handle: Handle, role: Role) -> Attach {
         desired_capabilities: None,
         properties: None,
     }
+}
+
+fn fill_attach(attach: &mut Attach, fields: &mut FieldReader) -> Result<(), RowError> {
+    attach.handle = fields.required()?;
+    attach.role = fields.required()?;
+    fill_link(attach, fields)?;
+    fill_terms(attach, fields)?;
+    fields.end()
 }
 
 fn fill_link(attach: &mut Attach, fields: &mut FieldReader) -> Result<(), RowError> {

@@ -1,22 +1,26 @@
 //! Errors and the states of deliveries, as a row gives them.
 use crate::error::RowError;
-use crate::fields::FieldReader;
+use crate::fields::{FieldReader, if_read};
 use crate::reader::{ReadFrom, Reader};
 use amqp_link_types::types::{DeliveryState, Error, Outcome};
 
 impl ReadFrom for Error {
     fn read(reader: &mut Reader) -> Result<Error, RowError> {
         let mut fields = FieldReader::new(reader, b"error")?;
-        let condition = fields.required()?;
-        let description = fields.optional()?;
-        let info = fields.optional()?;
-        fields.end()?;
-        Ok(Error {
-            condition,
-            description,
-            info,
-        })
+        let mut error = Error {
+            condition: fields.required()?,
+            description: None,
+            info: None,
+        };
+        let read = fill_error(&mut error, &mut fields);
+        if_read(error, read)
     }
+}
+
+fn fill_error(error: &mut Error, fields: &mut FieldReader) -> Result<(), RowError> {
+    error.description = fields.optional()?;
+    error.info = fields.optional()?;
+    fields.end()
 }
 
 impl ReadFrom for Outcome {
@@ -48,21 +52,19 @@ impl ReadFrom for DeliveryState {
 fn read_rejected(reader: &mut Reader) -> Result<Outcome, RowError> {
     let mut fields = FieldReader::new(reader, b"rejected")?;
     let error = fields.optional()?;
-    fields.end()?;
-    Ok(Outcome::Rejected { error })
+    if_read(Outcome::Rejected { error }, fields.end())
 }
 
 fn read_modified(reader: &mut Reader) -> Result<Outcome, RowError> {
     let mut fields = FieldReader::new(reader, b"modified")?;
     let delivery_failed = fields.optional()?;
     let undeliverable_here = fields.optional()?;
-    let message_annotations = fields.optional()?;
-    fields.end()?;
-    Ok(Outcome::Modified {
+    let modified = Outcome::Modified {
         delivery_failed,
         undeliverable_here,
-        message_annotations,
-    })
+        message_annotations: fields.optional()?,
+    };
+    if_read(modified, fields.end())
 }
 
 fn read_received(reader: &mut Reader) -> Result<DeliveryState, RowError> {

@@ -1,6 +1,6 @@
 //! Sources and targets, as a row gives them.
 use crate::error::RowError;
-use crate::fields::FieldReader;
+use crate::fields::{FieldReader, if_read};
 use crate::reader::{ReadFrom, Reader};
 use amqp_link_types::types::{
     DistributionMode, Source, Symbol, Target, TargetArchetype, TerminusDurability,
@@ -46,11 +46,15 @@ impl ReadFrom for Source {
     fn read(reader: &mut Reader) -> Result<Source, RowError> {
         let mut fields = FieldReader::new(reader, b"source")?;
         let mut source = Source::default();
-        fill_source_node(&mut source, &mut fields)?;
-        fill_source_messages(&mut source, &mut fields)?;
-        fields.end()?;
-        Ok(source)
+        let read = fill_source(&mut source, &mut fields);
+        if_read(source, read)
     }
+}
+
+fn fill_source(source: &mut Source, fields: &mut FieldReader) -> Result<(), RowError> {
+    fill_source_node(source, fields)?;
+    fill_source_messages(source, fields)?;
+    fields.end()
 }
 
 // The fields that a target has as well.
@@ -77,9 +81,8 @@ impl ReadFrom for Target {
     fn read(reader: &mut Reader) -> Result<Target, RowError> {
         let mut fields = FieldReader::new(reader, b"target")?;
         let mut target = Target::default();
-        fill_target(&mut target, &mut fields)?;
-        fields.end()?;
-        Ok(target)
+        let read = fill_target(&mut target, &mut fields);
+        if_read(target, read)
     }
 }
 
@@ -91,7 +94,7 @@ fn fill_target(target: &mut Target, fields: &mut FieldReader) -> Result<(), RowE
     target.dynamic = fields.or_default()?;
     target.dynamic_node_properties = fields.optional()?;
     target.capabilities = fields.optional()?;
-    Ok(())
+    fields.end()
 }
 
 impl ReadFrom for TargetArchetype {

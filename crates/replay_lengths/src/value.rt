@@ -1,5 +1,6 @@
 //! Values of any type, as a row gives them.
 use crate::error::RowError;
+use crate::fields::{if_read, none_before};
 use crate::reader::{ReadFrom, Reader};
 use amqp_link_types::types::{DeliveryTag, Descriptor, Fields, Symbol, Symbols, Text, Value};
 
@@ -63,14 +64,26 @@ impl ReadFrom for Fields {
     fn read(reader: &mut Reader) -> Result<Fields, RowError> {
         reader.expect(b"map")?;
         let mut fields = Fields::new(reader.alloc());
-        for _ in 0..reader.unsigned()? {
-            let name = Symbol::read(reader)?;
-            let value = Value::read(reader)?;
-            if fields.insert(name, value)?.is_some() {
-                return Err(RowError::NotARow);
-            }
+        let read = read_fields(&mut fields, reader);
+        if_read(fields, read)
+    }
+}
+
+fn read_fields(fields: &mut Fields, reader: &mut Reader) -> Result<(), RowError> {
+    for _ in 0..reader.unsigned()? {
+        read_field(fields, reader)?;
+    }
+    Ok(())
+}
+
+fn read_field(fields: &mut Fields, reader: &mut Reader) -> Result<(), RowError> {
+    let name = Symbol::read(reader)?;
+    match Value::read(reader) {
+        Ok(value) => none_before(fields.insert(name, value)?),
+        Err(error) => {
+            drop(name);
+            Err(error)
         }
-        Ok(fields)
     }
 }
 
@@ -136,35 +149,43 @@ fn read_described(reader: &mut Reader, depth: u32) -> Result<Value, RowError> {
 
 // The value behind the word that names its type, where it holds no other value.
 fn read_plain(reader: &mut Reader, word: &[u8]) -> Result<Option<Value>, RowError> {
-    let number = read_number(reader, word)?;
-    if number.is_some() {
-        return Ok(number);
+    match word {
+        b"_" => Ok(Some(Value::Null)),
+        b"true" => Ok(Some(Value::Bool(true))),
+        b"false" => Ok(Some(Value::Bool(false))),
+        b"binary" | b"string" | b"symbol" | b"symbols" => read_bytes(reader, word),
+        b"ubyte" | b"ushort" | b"uint" | b"ulong" => read_unsigned(reader, word),
+        _ => read_signed(reader, word),
     }
-    Ok(Some(match word {
-        b"_" => Value::Null,
-        b"true" => Value::Bool(true),
-        b"false" => Value::Bool(false),
-        b"binary" => Value::Binary(reader.bytes()?),
-        b"string" => Value::String(reader.text()?),
-        b"symbol" => Value::Symbol(Symbol::from(reader.text()?)),
-        b"symbols" => Value::SymbolArray(read_names(reader)?),
-        _ => return Ok(None),
-    }))
 }
 
-fn read_number(reader: &mut Reader, word: &[u8]) -> Result<Option<Value>, RowError> {
-    Ok(Some(match word {
-        b"ubyte" => Value::Ubyte(read_u8(reader)?),
-        b"ushort" => Value::Ushort(read_u16(reader)?),
-        b"uint" => Value::Uint(read_u32(reader)?),
-        b"ulong" => Value::Ulong(reader.unsigned()?),
-        b"byte" => Value::Byte(read_i8(reader)?),
-        b"short" => Value::Short(read_i16(reader)?),
-        b"int" => Value::Int(read_i32(reader)?),
-        b"long" => Value::Long(reader.signed()?),
-        b"timestamp" => Value::Timestamp(reader.signed()?),
-        _ => return Ok(None),
-    }))
+fn read_bytes(reader: &mut Reader, word: &[u8]) -> Result<Option<Value>, RowError> {
+    match word {
+        b"binary" => Ok(Some(Value::Binary(reader.bytes()?))),
+        b"string" => Ok(Some(Value::String(reader.text()?))),
+        b"symbol" => Ok(Some(Value::Symbol(Symbol::from(reader.text()?)))),
+        _ => Ok(Some(Value::SymbolArray(read_names(reader)?))),
+    }
+}
+
+fn read_unsigned(reader: &mut Reader, word: &[u8]) -> Result<Option<Value>, RowError> {
+    match word {
+        b"ubyte" => Ok(Some(Value::Ubyte(read_u8(reader)?))),
+        b"ushort" => Ok(Some(Value::Ushort(read_u16(reader)?))),
+        b"uint" => Ok(Some(Value::Uint(read_u32(reader)?))),
+        _ => Ok(Some(Value::Ulong(reader.unsigned()?))),
+    }
+}
+
+fn read_signed(reader: &mut Reader, word: &[u8]) -> Result<Option<Value>, RowError> {
+    match word {
+        b"byte" => Ok(Some(Value::Byte(read_i8(reader)?))),
+        b"short" => Ok(Some(Value::Short(read_i16(reader)?))),
+        b"int" => Ok(Some(Value::Int(read_i32(reader)?))),
+        b"long" => Ok(Some(Value::Long(reader.signed()?))),
+        b"timestamp" => Ok(Some(Value::Timestamp(reader.signed()?))),
+        _ => Ok(None),
+    }
 }
 
 // Names, and before them how many there are.

@@ -55,7 +55,8 @@ impl Deliveries {
         ensures put { OnOk result (self.new ≡ with_entry self.old tag progress) }
         ensures kept { OnErr result (self.new ≡ self.old) }
     {
-        self.entries.insert(tag, progress)?;
+        let before = self.entries.insert(tag, progress)?;
+        drop(before);
         Ok(())
     }
 
@@ -63,7 +64,7 @@ impl Deliveries {
     pub(crate) fn remove(&mut self, tag: &DeliveryTag)
         ensures { self.new ≡ without_entry self.old tag.now }
     {
-        let _ = self.entries.swap_remove(tag);
+        drop(self.entries.swap_remove(tag));
     }
 
     // Sets a delivery that is there, and answers what it was; else the value comes back.

@@ -167,14 +167,19 @@ impl Ends {
         ensures { IfOk result (λ ends. ends ≡ ends_at Apart count 0) }
     {
         let sender = SenderLink::new(alloc, parts(alloc, count)?);
-        let receiver = ReceiverLink::new(alloc, parts(alloc, count)?);
-        Ok(Ends {
-            stage: Stage::Apart,
-            limit: 0,
-            attach: None,
-            sender: sender.with_output_handle(OutputHandle(0)),
-            receiver: receiver.with_output_handle(OutputHandle(0)),
-        })
+        match parts(alloc, count) {
+            Ok(parts) => Ok(Ends {
+                stage: Stage::Apart,
+                limit: 0,
+                attach: None,
+                sender: sender.with_output_handle(OutputHandle(0)),
+                receiver: ReceiverLink::new(alloc, parts).with_output_handle(OutputHandle(0)),
+            }),
+            Err(refused) => {
+                drop(sender);
+                Err(refused)
+            }
+        }
     }
 
     /// Whether both are attached.

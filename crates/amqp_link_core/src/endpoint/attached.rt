@@ -56,7 +56,13 @@ pub fn termini_of<T: LinkTarget>(
     ensures target { IfOk result (λ termini. termini.1 ≡ option_map T.sent_as target.now) }
 {
     let source = source.clone()?;
-    Ok((source, archetype_of(target)?))
+    match archetype_of(target) {
+        Ok(target) => Ok((source, target)),
+        Err(refused) => {
+            drop(source);
+            Err(refused)
+        }
+    }
 }
 
 /// What is sent for the capabilities. Refused where memory is wanting.

@@ -6,9 +6,6 @@
 ghost use Rattle.std.specs.Prelude.{◌≡◌, ◌↔◌, true, IsTrue, IfSome, IfNone, take, option_map};
 ghost use Rattle.amqp_link_core.specs.Attaching.{with_entries, Fits, NeverFits, IsDivided};
 
-#[cfg(test)]
-mod tests;
-
 use amqp_link_types::types::{Attach, DeliveryState, UnsettledMap};
 use amqp_link_values::length::EncodedLen;
 
@@ -35,7 +32,9 @@ pub fn fits_whole(
     ensures { IsTrue result ↔ Fits (with_entries attach entries 0) max_frame_size }
 {
     let whole = with_all(attach, entries);
-    fits(&whole, max_frame_size)
+    let is_within = fits(&whole, max_frame_size);
+    drop(whole);
+    is_within
 }
 
 /// The attach with the first of the entries: their number is halved, rounded down, as few times as
@@ -57,6 +56,7 @@ pub fn divided(
     let mut sent = with_all(attach, entries);
     while !fits(&sent, max_frame_size) {
         if count == 0 {
+            drop(sent);
             return None;
         }
         count /= 2;

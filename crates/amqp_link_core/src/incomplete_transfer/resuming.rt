@@ -6,8 +6,7 @@ ghost use Rattle.amqp_link_core.specs.Merging.{Came, Merged, IsSilent, opening, 
 ghost use Rattle.amqp_link_core.specs.Held.{bytes_of, IsFront};
 ghost use Rattle.amqp_link_core.specs.IncompleteRefusals.{Answers, resume_tests, is_of_another};
 
-use crate::incomplete_transfer::merging::merge;
-use crate::incomplete_transfer::pieces::{cut_pieces, push_piece};
+use crate::incomplete_transfer::pieces::cut_pieces;
 use crate::incomplete_transfer::{IncompleteTransfer, differs};
 use amqp_link_payloads::position::place_in;
 use amqp_link_types::types::{Payload, ReceiverTransferError, Transfer};
@@ -45,19 +44,18 @@ impl IncompleteTransfer {
         ensures err { OnErr result (self.new ≡ self.old) }
     {
         if transfer.delivery_id.is_none() {
+            drop((transfer, payload));
             return Err(ReceiverTransferError::DeliveryIdIsNone); // asked of a first transfer (2.7.5)
         }
         if transfer.delivery_tag.is_none() {
+            drop((transfer, payload));
             return Err(ReceiverTransferError::DeliveryTagIsNone);
         }
         if self.is_another_than_of(&transfer) {
-            let refused = ReceiverTransferError::InconsistentFieldInMultiFrameDelivery;
-            return Err(refused);
+            drop((transfer, payload));
+            return Err(ReceiverTransferError::InconsistentFieldInMultiFrameDelivery);
         }
-        self.size = push_piece(&mut self.pieces, self.size, payload)?;
-        // All tests are behind, and all memory is taken.
-        merge(&mut self.performative, transfer, true);
-        Ok(())
+        self.add(transfer, payload, true)
     }
 
     // Whether a transfer names another tag or format than the delivery's.

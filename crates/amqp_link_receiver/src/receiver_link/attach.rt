@@ -1,8 +1,11 @@
 //! A receiver's end is attached (2.6.3, 2.6.4).
 ghost use Rattle.std.specs.Prelude.{◌≡◌, ◌↔◌, ◌⊎◌, true, false, List, [], if◌then◌else◌};
-ghost use Rattle.std.specs.Prelude.{None, Some, Ok, Err, IfOk, IfErr, IsTrue, unwrap_or};
+ghost use Rattle.std.specs.Prelude.{None, Some, Ok, Err, IfOk, IfErr, OnOk, OnErr, IsTrue, IsSome};
+ghost use Rattle.std.specs.Prelude.{◌∷◌, is_none, is_some, unwrap_or};
+ghost use Rattle.std.specs.Option.{option_or};
 ghost use Rattle.amqp_link_types.specs.declared.frame.LinkFrame.TheVariants as frame;
-ghost use Rattle.amqp_link_core.specs.AttachSent.{SendsAttach, IsTooLarge};
+ghost use Rattle.amqp_link_core.specs.AttachSent.{SendsAttach, IsTooLarge, smaller_limit, joined};
+ghost use Rattle.amqp_link_types.specs.Refusals.{refusal};
 ghost use Rattle.amqp_link_core.specs.Attaching.{Fits, with_entries};
 ghost use Rattle.amqp_link_core.specs.LinkStates.{Call, next_state};
 ghost use Rattle.amqp_link_receiver.specs.ReceiverAttaches.{has_entries as names_any, exchanged as exchanged_in};
@@ -27,6 +30,7 @@ use amqp_link_types::types::{
     SenderSettleMode, SequenceNo, Source, TargetArchetype,
 };
 use std::alloc::{AllocError, Global};
+use std::mem;
 
 /// What follows once a receiver's end has exchanged attaches.
 #[derive(Clone, Copy, Debug, PartialEq, Eq)]
@@ -75,27 +79,31 @@ impl<T: LinkTarget> ReceiverLink<T> {
         requires { (t c : T) → T.is_clone t c → c ≡ t }
         ensures { IfOk result (λ attach. attach ≡ counted_attach T.sent_as self.now count handle) }
     {
-        let (name, properties) = name_and_properties_of(&self.name, self.flow_state.properties())?;
-        let (offered_capabilities, desired_capabilities) = capabilities_of(
-            &self.offered_capabilities,
-            &self.desired_capabilities,
-        )?;
-        let (source, target) = termini_of(&self.source, &self.target)?;
+        let named = name_and_properties_of(&self.name, self.flow_state.properties())?;
+        let capabilities = capabilities_of(&self.offered_capabilities, &self.desired_capabilities);
+        let Ok(capabilities) = capabilities else {
+            drop(named);
+            return Err(AllocError);
+        };
+        let Ok(termini) = termini_of(&self.source, &self.target) else {
+            drop((named, capabilities));
+            return Err(AllocError);
+        };
         Ok(Attach {
-            name,
+            name: named.0,
             handle: handle.into(),
             role: Role::Receiver,
             snd_settle_mode: self.snd_settle_mode,
             rcv_settle_mode: self.rcv_settle_mode,
-            source,
-            target,
+            source: termini.0,
+            target: termini.1,
             unsettled: None,
             incomplete_unsettled: false,
             initial_delivery_count: Some(count),
             max_message_size: sent_limit(self.max_message_size),
-            offered_capabilities,
-            desired_capabilities,
-            properties,
+            offered_capabilities: capabilities.0,
+            desired_capabilities: capabilities.1,
+            properties: named.1,
         })
     }
 
@@ -198,6 +206,26 @@ fn read(attach: Attach) -> Incoming
     }
 }
 
+// Why an attach that moves the state is refused, if it is, where its target is foreign or not.
+fn refusal_of(incoming: &Incoming, is_foreign: bool) -> Option<ReceiverAttachError>
+    ensures { result ≡ refusal (
+        (is_none incoming.now.source, ReceiverAttachError.IncomingSourceIsNone)
+        ∷ (is_none incoming.now.count, ReceiverAttachError.InitialDeliveryCountIsNone)
+        ∷ (is_foreign, ReceiverAttachError.CoordinatorIsNotImplemented)
+        ∷ []) }
+{
+    if incoming.source.is_none() {
+        return Some(ReceiverAttachError::IncomingSourceIsNone);
+    }
+    if incoming.count.is_none() {
+        return Some(ReceiverAttachError::InitialDeliveryCountIsNone);
+    }
+    if is_foreign {
+        return Some(ReceiverAttachError::CoordinatorIsNotImplemented);
+    }
+    None
+}
+
 fn exchange(state: LinkState, has_entries: bool) -> ReceiverAttachExchange
     ensures { result ≡ exchanged_in state has_entries }
 {
@@ -243,9 +271,67 @@ impl<T: LinkTarget> ReceiverLink<T> {
           };
         } }
     {
+        drop(mem::replace(self.flow_state.properties_mut(), properties));
         self.flow_state.initial_delivery_count_mut(|_| count);
         self.flow_state.delivery_count_mut(|_| count);
-        *self.flow_state.properties_mut() = properties;
+    }
+
+    // The link comes to what an attach says of itself: its source, if it has one, and its mode.
+    fn come_from(&mut self, mut incoming: Incoming, next: LinkState)
+        ensures { self.new ≡ record self.old {
+          local_state = next;
+          input_handle = Some (record { 0 = incoming.handle.0 });
+          more = false;
+          source = option_or incoming.source self.old.source;
+          snd_settle_mode =
+              if is_some incoming.source then incoming.snd_settle_mode else self.old.snd_settle_mode;
+        } }
+    {
+        self.come(incoming.handle, next);
+        if let Some(source) = incoming.source.take() {
+            self.take_source(source, incoming.snd_settle_mode);
+        }
+        drop(incoming);
+    }
+
+    // Takes all of an attach that nothing but want of memory refuses, which leaves all as it was.
+    fn take(
+        &mut self,
+        mut incoming: Incoming,
+        next: LinkState,
+    ) -> Result<ReceiverAttachExchange, ReceiverAttachError>
+        requires { IsSome incoming.source }
+        ensures taken { OnOk result (self.new ≡ record self.old {
+          local_state = next;
+          input_handle = Some (record { 0 = incoming.handle.0 });
+          more = false;
+          source = incoming.source;
+          snd_settle_mode = incoming.snd_settle_mode;
+          max_message_size = smaller_limit self.old.max_message_size incoming.max_message_size;
+          flow_state = record self.old.flow_state {
+            initial_delivery_count = unwrap_or incoming.count 0;
+            delivery_count = unwrap_or incoming.count 0;
+            properties = joined self.old.flow_state.properties incoming.properties;
+          };
+        }) }
+        ensures exchanged { IfOk result (λ answer. answer ≡ exchanged_in next incoming.has_entries) }
+        ensures refused { IfErr result (λ error. error ≡ ReceiverAttachError.OutOfMemory) }
+        ensures left { OnErr result (self.new ≡ self.old) }
+    {
+        let theirs = incoming.properties.take();
+        let count = incoming.count.unwrap_or(0);
+        let limit = get_max_message_size(self.max_message_size, incoming.max_message_size);
+        let answer = exchange(next, incoming.has_entries);
+        let Ok(properties) = with_properties(self.alloc, self.flow_state.properties(), theirs)
+        else {
+            drop(incoming);
+            return Err(ReceiverAttachError::OutOfMemory);
+        };
+        // All growths are behind: from here on nothing can fail.
+        self.come_from(incoming, next);
+        self.take_flow(count, properties);
+        self.max_message_size = limit;
+        Ok(answer)
     }
 }
 
@@ -326,45 +412,16 @@ impl<T: LinkTarget> LinkAttach for ReceiverLink<T> {
         &mut self,
         attach: Attach,
     ) -> Result<ReceiverAttachExchange, ReceiverAttachError> {
-        let Incoming {
-            handle,
-            snd_settle_mode,
-            source,
-            target,
-            incomplete,
-            has_entries,
-            count,
-            max_message_size,
-            properties,
-        } = read(attach);
-        let is_foreign = is_foreign::<T>(target);
-        let Some(next) = after_incoming_attach(self.local_state, incomplete) else {
-            drop((source, properties));
+        let mut incoming = read(attach);
+        let is_foreign = is_foreign::<T>(incoming.target.take());
+        let Some(next) = after_incoming_attach(self.local_state, incoming.incomplete) else {
+            drop(incoming);
             return Err(ReceiverAttachError::IllegalState);
         };
-        let Some(source) = source else {
-            self.come(handle, next);
-            drop(properties);
-            return Err(ReceiverAttachError::IncomingSourceIsNone);
-        };
-        let Some(count) = count else {
-            self.come(handle, next);
-            self.take_source(source, snd_settle_mode);
-            drop(properties);
-            return Err(ReceiverAttachError::InitialDeliveryCountIsNone);
-        };
-        if is_foreign {
-            self.come(handle, next);
-            self.take_source(source, snd_settle_mode);
-            drop(properties);
-            return Err(ReceiverAttachError::CoordinatorIsNotImplemented);
+        if let Some(refused) = refusal_of(&incoming, is_foreign) {
+            self.come_from(incoming, next);
+            return Err(refused);
         }
-        let properties = with_properties(self.alloc, self.flow_state.properties(), properties)?;
-        // All tests are behind, and all growths: from here on nothing can fail.
-        self.come(handle, next);
-        self.take_source(source, snd_settle_mode);
-        self.take_flow(count, properties);
-        self.max_message_size = get_max_message_size(self.max_message_size, max_message_size);
-        Ok(exchange(next, has_entries))
+        self.take(incoming, next)
     }
 }

@@ -64,10 +64,12 @@ impl<T: LinkTarget> ReceiverLink<T> {
         if self.flow_state.link_credit() == 0 {
             return Err(ReceiverTransferError::TransferLimitExceeded);
         }
-        let Ok(Completion { key, answer }) = self.complete(transfer, pieces) else {
+        let Ok(completion) = self.complete(transfer, pieces) else {
             return Err(ReceiverTransferError::OutOfMemory);
         };
+        let Completion { key, answer } = completion;
         let Ok(()) = self.enter(key, section_number, section_offset) else {
+            drop(answer);
             return Err(ReceiverTransferError::OutOfMemory);
         };
         answer
@@ -91,10 +93,7 @@ impl<T: LinkTarget> ReceiverLink<T> {
                 section_number,
                 section_offset,
             };
-            match self.unsettled.put(tag, Some(state)) {
-                Ok(old) => drop(old),
-                Err(_) => return Err(AllocError),
-            }
+            self.put(tag, Some(state))?;
         }
         let _ = self.flow_state.consume(1);
         Ok(())

@@ -1,7 +1,7 @@
 //! Transfers that come to a receiver's end, and what it keeps of their deliveries (2.6.12, 2.7.5).
 ghost use Rattle.std.specs.Prelude.{◌≡◌, false, None, Some, IfOk, IfErr, IsSome, IsSomeAnd};
 ghost use Rattle.std.specs.Prelude.{⊤, OnOk, OnErr, MatchOption, unwrap_or};
-ghost use Rattle.amqp_link_types.specs.Entries.{entry_at};
+ghost use Rattle.amqp_link_types.specs.Entries.{entry_at, with_entry};
 ghost use Rattle.amqp_link_receiver.specs.ReceiverDeliveries.{frame_come, named_by, told_of};
 ghost use Rattle.amqp_link_receiver.specs.ReceiverDeliveries.{with_state, after_state};
 ghost use Rattle.amqp_link_receiver.specs.ReceiverDeliveries.{has_ended as is_terminal_at};
@@ -35,7 +35,10 @@ impl<T: LinkTarget> ReceiverLink<T> {
         ensures memory { OnErr result (IsSome (told_of self.old transfer)) }
         ensures left { OnErr result (self.new ≡ self.old) }
     {
-        let told = self.told(&transfer)?;
+        let Ok(told) = self.told(&transfer) else {
+            drop((transfer, payload));
+            return Err(LinkRelayError::OutOfMemory);
+        };
         // All memory is taken: from here on nothing can fail.
         self.more = transfer.more;
         Ok((frame_of(transfer, payload), told))
@@ -128,19 +131,34 @@ impl<T: LinkTarget> ReceiverLink<T> {
         ensures left { OnErr result (self.new ≡ self.old) }
     {
         match self.unsettled.replace(tag, Some(state)) {
-            Ok(old) => drop(old),
+            Ok(old) => {
+                drop(old);
+                Ok(())
+            }
             Err(state) => {
                 let Ok(tag) = tag.clone() else {
                     drop(state);
                     return Err(AllocError);
                 };
-                let Ok(old) = self.unsettled.put(tag, state) else {
-                    return Err(AllocError);
-                };
-                drop(old);
+                self.put(tag, state)
             }
         }
-        Ok(())
+    }
+
+    // Puts a state under a tag that is handed in; what was kept there before is given up.
+    pub(super) fn put(
+        &mut self,
+        tag: DeliveryTag,
+        state: Option<DeliveryState>,
+    ) -> Result<(), AllocError>
+        ensures after { OnOk result
+            (self.new ≡ record self.old { unsettled = with_entry self.old.unsettled tag state }) }
+        ensures left { OnErr result (self.new ≡ self.old) }
+    {
+        let put = self.unsettled.put(tag, state);
+        let is_kept = put.is_ok();
+        drop(put);
+        if is_kept { Ok(()) } else { Err(AllocError) }
     }
 }
 

@@ -55,8 +55,11 @@ impl<T: LinkTarget> ReceiverLink<T> {
         ensures left { OnErr result (self.new ≡ self.old) }
     {
         let Some(handle) = self.output_handle else {
+            drop(flow);
             return Err(LinkRelayError::UnattachedHandle);
         };
-        Ok(self.flow_state.on_incoming_flow(&flow, handle))
+        let reply = self.flow_state.on_incoming_flow(&flow, handle);
+        drop(flow);
+        Ok(reply)
     }
 }

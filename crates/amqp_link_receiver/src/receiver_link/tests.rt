@@ -197,11 +197,19 @@ fn left_by(rt: &(impl Abort + AllocGlobal), state: LinkState, attach: Attach) ->
     left
 }
 
-// An attach of a sender that settles and begins at 5.
-fn settled_from_five(rt: &(impl Abort + AllocGlobal)) -> Attach {
+// What the attach of a sender that settles leaves, where it states this count, and a source or none.
+fn left_by_sender(
+    rt: &(impl Abort + AllocGlobal),
+    state: LinkState,
+    count: Option<u32>,
+    has_source: bool,
+) -> Left {
     let mut attach = attach_of(rt, Role::Sender, SenderSettleMode::Settled);
-    attach.initial_delivery_count = Some(5);
-    attach
+    attach.initial_delivery_count = count;
+    if !has_source {
+        drop(attach.source.take());
+    }
+    left_by(rt, state, attach)
 }
 
 #[test]
@@ -214,26 +222,16 @@ fn incoming_attach_is_taken_as_far_as_it_goes(rt: HostRuntime) {
         count: 5,
         more: false,
     };
-    assert_eq!(rt;
-        left_by(&rt, LinkState::Unattached, settled_from_five(&rt)),
-        taken
-    );
     let uncounted = Left {
         told: Err(ReceiverAttachError::InitialDeliveryCountIsNone),
         count: 0,
         ..taken
     };
-    let mut attach = settled_from_five(&rt);
-    attach.initial_delivery_count = None;
-    assert_eq!(rt; left_by(&rt, LinkState::Unattached, attach), uncounted);
     let sourceless = Left {
         told: Err(ReceiverAttachError::IncomingSourceIsNone),
         snd_settle_mode: SenderSettleMode::Mixed,
         ..uncounted
     };
-    let mut attach = settled_from_five(&rt);
-    attach.source = None;
-    assert_eq!(rt; left_by(&rt, LinkState::Unattached, attach), sourceless);
     let untouched = Left {
         told: Err(ReceiverAttachError::IllegalState),
         state: LinkState::Attached,
@@ -241,10 +239,14 @@ fn incoming_attach_is_taken_as_far_as_it_goes(rt: HostRuntime) {
         more: true,
         ..sourceless
     };
-    assert_eq!(rt;
-        left_by(&rt, LinkState::Attached, settled_from_five(&rt)),
-        untouched
-    );
+    for (state, count, has_source, left) in [
+        (LinkState::Unattached, Some(5), true, taken),
+        (LinkState::Unattached, None, true, uncounted),
+        (LinkState::Unattached, Some(5), false, sourceless),
+        (LinkState::Attached, Some(5), true, untouched),
+    ] {
+        assert_eq!(rt; left_by_sender(&rt, state, count, has_source), left);
+    }
 }
 
 // What follows where the sender names a delivery, in full or not.

@@ -28,6 +28,7 @@ use amqp_link_types::types::{
     ReceiverSettleMode, Role, SenderAttachError, SenderSettleMode, SequenceNo, TargetArchetype,
 };
 use std::alloc::{AllocError, Global};
+use std::mem;
 
 /// What follows once a sender's end has exchanged attaches.
 #[derive(Clone, Copy, Debug, PartialEq, Eq)]
@@ -96,7 +97,7 @@ fn end_all(unsettled: UnsettledMap<UnsettledMessage>, outcomes: &mut Outcomes)
 {
     for (tag, message) in unsettled.into_pairs() {
         drop(message);
-        let _ = outcomes.push((tag, Err(LinkStateError::IllegalState)));
+        drop(outcomes.push((tag, Err(LinkStateError::IllegalState))));
     }
 }
 
@@ -107,11 +108,23 @@ impl<T: LinkTarget> SenderLink<T> {
         ensures { IfOk result (λ attach. attach ≡ counted_attach T.sent_as self.now count handle) }
     {
         let (name, properties) = name_and_properties_of(&self.name, self.flow_state.properties())?;
-        let (offered_capabilities, desired_capabilities) = capabilities_of(
+        let (offered_capabilities, desired_capabilities) = match capabilities_of(
             &self.offered_capabilities,
             &self.desired_capabilities,
-        )?;
-        let (source, target) = termini_of(&self.source, &self.target)?;
+        ) {
+            Ok(capabilities) => capabilities,
+            Err(refused) => {
+                drop((name, properties));
+                return Err(refused);
+            }
+        };
+        let (source, target) = match termini_of(&self.source, &self.target) {
+            Ok(termini) => termini,
+            Err(refused) => {
+                drop((name, properties, offered_capabilities, desired_capabilities));
+                return Err(refused);
+            }
+        };
         Ok(Attach {
             name,
             handle: handle.into(),
@@ -230,14 +243,36 @@ fn read(attach: Attach) -> Incoming
       properties = attach.properties;
     } }
 {
+    let Attach {
+        name,
+        handle,
+        snd_settle_mode,
+        rcv_settle_mode,
+        source,
+        target,
+        unsettled,
+        incomplete_unsettled,
+        max_message_size,
+        offered_capabilities,
+        desired_capabilities,
+        properties,
+        ..
+    } = attach;
+    drop((
+        name,
+        source,
+        unsettled,
+        offered_capabilities,
+        desired_capabilities,
+    ));
     Incoming {
-        handle: attach.handle,
-        snd_settle_mode: attach.snd_settle_mode,
-        rcv_settle_mode: attach.rcv_settle_mode,
-        target: attach.target,
-        incomplete: attach.incomplete_unsettled,
-        max_message_size: attach.max_message_size,
-        properties: attach.properties,
+        handle,
+        snd_settle_mode,
+        rcv_settle_mode,
+        target,
+        incomplete: incomplete_unsettled,
+        max_message_size,
+        properties,
     }
 }
 
@@ -273,7 +308,7 @@ impl<T: LinkTarget> SenderLink<T> {
           flow_state = record self.old.flow_state { properties = properties };
         } }
     {
-        *self.flow_state.properties_mut() = properties;
+        drop(mem::replace(self.flow_state.properties_mut(), properties));
     }
 }
 

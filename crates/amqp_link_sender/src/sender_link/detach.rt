@@ -45,6 +45,7 @@ impl<T: LinkTarget> LinkDetach for SenderLink<T> {
 
     fn on_detach_reply(&mut self, detach: Detach) -> Result<(), DetachError> {
         let Some(next) = after_detach_reply(self.local_state, detach.closed) else {
+            drop(detach);
             return Err(DetachError::IllegalState);
         };
         self.let_go(next);
@@ -57,11 +58,13 @@ impl<T: LinkTarget> LinkDetach for SenderLink<T> {
         error: Option<Error>,
     ) -> Result<LinkFrame, DetachError> {
         let Some(next) = after_sent_detach(self.local_state, closed) else {
+            drop(error);
             return Err(DetachError::IllegalState);
         };
         let handle = self.output_handle;
         self.let_go(next);
         let Some(handle) = handle else {
+            drop(error);
             return Err(DetachError::IllegalState);
         };
         Ok(detach_frame(handle, closed, error))
@@ -72,6 +75,7 @@ impl<T: LinkTarget> LinkDetach for SenderLink<T> {
         detach: Detach,
     ) -> Result<(), ApplyRemoteDetachError> {
         let Some(next) = after_remote_detach(self.local_state, detach.closed) else {
+            drop(detach);
             return Err(ApplyRemoteDetachError::IllegalState);
         };
         self.let_go(next);

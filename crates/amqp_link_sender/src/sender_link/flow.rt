@@ -31,9 +31,12 @@ impl<T: LinkTarget> SenderLink<T> {
         ensures left { OnErr result (self.new ≡ self.old) }
     {
         let Some(handle) = self.output_handle else {
+            drop(flow);
             return Err(LinkRelayError::UnattachedHandle);
         };
-        Ok(self.flow_state.on_incoming_flow(&flow, handle))
+        let answer = self.flow_state.on_incoming_flow(&flow, handle);
+        drop(flow);
+        Ok(answer)
     }
 
     /// A transfer that came to this end: it is always refused with `TransferFrameToSender`, since

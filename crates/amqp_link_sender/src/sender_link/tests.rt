@@ -101,9 +101,9 @@ fn send_flagged(
 }
 
 // The frames of a send that went.
-fn frames_of(sending: Result<Sending, LinkStateError>) -> Option<Vec<LinkFrame>> {
+fn frames_of(sending: &Result<Sending, LinkStateError>) -> Option<&[LinkFrame]> {
     match sending {
-        Ok(Sending::Sent { frames, .. }) => Some(frames),
+        Ok(Sending::Sent { frames, .. }) => Some(frames.as_slice()),
         _ => None,
     }
 }
@@ -139,18 +139,25 @@ fn handles_in(frame: &LinkFrame) -> Option<(InputHandle, Handle)> {
     Some((transfer.input_handle, transfer.performative.handle))
 }
 
-// What the frames of these bytes at a limit of 30 show.
-fn shown_at_30(rt: &(impl Abort + AllocGlobal), bytes: &[u8]) -> [Option<Shown>; 3] {
-    let mut link = link(rt, SenderSettleMode::Mixed, 30, 1);
-    let frames = frames_of(send_flagged(&mut link, &payload_of(rt, bytes), None));
-    let frames = frames.expect(rt, "it goes");
+// What the first three frames show.
+fn shown_in(frames: &[LinkFrame]) -> [Option<Shown>; 3] {
     let mut shown = [None; 3];
     for (index, frame) in frames.iter().enumerate() {
         if let Some(place) = shown.get_mut(index) {
             *place = shown_by(frame);
         }
     }
-    drop((frames, link));
+    shown
+}
+
+// What the frames of these bytes at a limit of 30 show, where they go.
+fn shown_at_30(rt: &(impl Abort + AllocGlobal), bytes: &[u8]) -> Option<[Option<Shown>; 3]> {
+    let mut link = link(rt, SenderSettleMode::Mixed, 30, 1);
+    let payload = payload_of(rt, bytes);
+    let sending = send_flagged(&mut link, &payload, None);
+    let shown = frames_of(&sending).map(shown_in);
+    drop((sending, payload));
+    drop(link);
     shown
 }
 
@@ -179,9 +186,7 @@ fn twelve_bytes_are_three_frames(rt: HostRuntime) {
         ..rest
     };
     let shown = shown_at_30(&rt, &[1, 2, 3, 4, 5, 6, 7, 8, 9, 10, 11, 12]);
-    assert_eq!(rt; shown[0], Some(first));
-    assert_eq!(rt; shown[1], Some(rest));
-    assert_eq!(rt; shown[2], Some(last));
+    assert_eq!(rt; shown, Some([Some(first), Some(rest), Some(last)]));
 }
 
 // What a link shows after a send: what was told, its credit, its count, and how many are pending.
@@ -202,23 +207,31 @@ fn after(link: &SenderLink<Target>, told: Told) -> Standing {
     }
 }
 
+// What a send with credit 1 comes to, whether the tag of its count is pending then, and what a
+// second send tells.
+fn sent_twice(rt: &(impl Abort + AllocGlobal)) -> (Standing, bool, Told) {
+    let mut link = link(rt, SenderSettleMode::Mixed, 30, 1);
+    let payload = payload_of(rt, &[7]);
+    let tag = count_tag(rt, 0);
+    let told = told_by(send_flagged(&mut link, &payload, None));
+    let sent = after(&link, told);
+    let is_kept = link.unsettled().contains(&tag);
+    let again = told_by(send_flagged(&mut link, &payload, None));
+    drop((payload, tag));
+    drop(link);
+    (sent, is_kept, again)
+}
+
 // The first delivery is pending under the tag of its count, and the credit is spent.
 #[test]
 fn sent_delivery_is_pending(rt: HostRuntime) {
-    let mut link = link(&rt, SenderSettleMode::Mixed, 30, 1);
-    let told = told_by(send_flagged(&mut link, &payload_of(&rt, &[7]), None));
-    let wanted = Standing {
+    let sent = Standing {
         told: Told::Unsettled,
         credit: 0,
         count: 1,
         pending: 1,
     };
-    assert_eq!(rt; after(&link, told), wanted);
-    assert!(rt; link.unsettled().contains(&count_tag(&rt, 0)), "by its tag");
-    let again = told_by(send_flagged(&mut link, &payload_of(&rt, &[7]), None));
-    assert_eq!(rt; again, Told::CreditMissing);
-    drop(again);
-    drop(link);
+    assert_eq!(rt; sent_twice(&rt), (sent, true, Told::CreditMissing));
 }
 
 // What a send of these bytes with credit 1 at this limit comes to.
@@ -262,12 +275,21 @@ fn frames_have_room_or_nothing_changes(rt: HostRuntime) {
     }
 }
 
+// The handles of the first frame of a send that went.
+fn first_handles(sending: &Result<Sending, LinkStateError>) -> Option<(InputHandle, Handle)> {
+    handles_in(frames_of(sending)?.first()?)
+}
+
 // The handles of the first frame of a link with output handle 9.
 fn handles_at_9(rt: &(impl Abort + AllocGlobal)) -> Option<(InputHandle, Handle)> {
     let link = link(rt, SenderSettleMode::Mixed, 64, 1);
     let mut link = link.with_output_handle(OutputHandle(9));
-    let frames = frames_of(send_flagged(&mut link, &payload_of(rt, &[7]), None))?;
-    handles_in(frames.first()?)
+    let payload = payload_of(rt, &[7]);
+    let sending = send_flagged(&mut link, &payload, None);
+    let handles = first_handles(&sending);
+    drop((sending, payload));
+    drop(link);
+    handles
 }
 
 // The transfer has the link's output handle, the frame its input handle.
@@ -346,21 +368,33 @@ fn send_with(
     told
 }
 
+// Whether the delivery with count 1 is kept with format 3 and no state.
+fn is_plainly_kept(rt: &(impl Abort + AllocGlobal), link: &SenderLink<Target>) -> bool {
+    let tag = count_tag(rt, 1);
+    let entry = link.unsettled().get(&tag);
+    let is_plain = entry.is_some_and(|kept| kept.state.is_none() && kept.message_format == 3);
+    drop(tag);
+    is_plain
+}
+
+// What an unsettled transfer, the same again and a settled one tell, whether the first is plainly
+// kept, and how many deliveries are pending at last.
+fn sent_thrice(rt: &(impl Abort + AllocGlobal)) -> ([Told; 3], bool, usize) {
+    let mut link = link(rt, SenderSettleMode::Mixed, 64, 0);
+    let first = send_with(rt, &mut link, transfer(rt, 1, false));
+    let is_plain = is_plainly_kept(rt, &link);
+    let again = send_with(rt, &mut link, transfer(rt, 1, false));
+    let settled = send_with(rt, &mut link, transfer(rt, 1, true));
+    let pending = link.unsettled().len();
+    drop(link);
+    ([first, again, settled], is_plain, pending)
+}
+
 // A pending tag refuses an unsettled transfer, not a settled one; the entry has no state.
 #[test]
 fn transfers_name_their_delivery(rt: HostRuntime) {
-    let mut link = link(&rt, SenderSettleMode::Mixed, 64, 0);
-    let told = send_with(&rt, &mut link, transfer(&rt, 1, false));
-    assert_eq!(rt; told, Told::Unsettled);
-    let entry = link.unsettled().get(&count_tag(&rt, 1));
-    let plain = entry.is_some_and(|kept| kept.state.is_none() && kept.message_format == 3);
-    assert!(rt; plain, "the entry has the format and no state");
-    let told = send_with(&rt, &mut link, transfer(&rt, 1, false));
-    assert_eq!(rt; told, Told::TagPending);
-    let told = send_with(&rt, &mut link, transfer(&rt, 1, true));
-    assert_eq!(rt; told, Told::Settled);
-    assert_eq!(rt; link.unsettled().len(), 1);
-    drop(link);
+    let told = [Told::Unsettled, Told::TagPending, Told::Settled];
+    assert_eq!(rt; sent_thrice(&rt), (told, true, 1));
 }
 
 // Without a tag there is nothing to register.

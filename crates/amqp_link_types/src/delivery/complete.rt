@@ -1,9 +1,6 @@
 //! Deliveries that came whole (2.6.12).
 ghost use Rattle.std.specs.Prelude.{◌≡◌, IfOk};
 
-#[cfg(test)]
-mod tests;
-
 use crate::delivery::info::DeliveryInfo;
 use crate::types::{DeliveryNumber, DeliveryTag, Message, MessageFormat, OutputHandle};
 use std::alloc::AllocError;

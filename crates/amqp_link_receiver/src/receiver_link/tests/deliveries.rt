@@ -58,19 +58,32 @@ fn place(section_number: u32, section_offset: u64) -> DeliveryState {
     }
 }
 
+// The state that is kept, if one is named here.
+fn state_of(kept: Kept) -> Option<DeliveryState> {
+    match kept {
+        Kept::Accepted => Some(DeliveryState::Accepted),
+        Kept::Released => Some(DeliveryState::Released),
+        Kept::Place(section_number, section_offset) => Some(place(section_number, section_offset)),
+        Kept::Nothing | Kept::NoState | Kept::Other => None,
+    }
+}
+
 // A state is taken with this settled flag, where something was kept before or not.
 fn kept_after(
     rt: &(impl Abort + AllocGlobal),
-    before: Option<Option<DeliveryState>>,
+    before: Kept,
     settled: Option<bool>,
-    state: DeliveryState,
+    told: Kept,
 ) -> (bool, Kept) {
     let mut link = link_in(rt, ReceiverSettleMode::First, false);
-    if let Some(before) = before {
-        drop(link.unsettled.put(count_tag(rt, 1), before));
+    if before != Kept::Nothing {
+        drop(link.unsettled.put(count_tag(rt, 1), state_of(before)));
     }
     let tag = Some(count_tag(rt, 1));
-    let went = link.on_transfer_state(&tag, settled, state).is_ok();
+    let went = match state_of(told) {
+        Some(state) => link.on_transfer_state(&tag, settled, state).is_ok(),
+        None => false,
+    };
     drop(tag);
     let tag = count_tag(rt, 1);
     let kept = kept_of(&link, &tag);
@@ -80,23 +93,22 @@ fn kept_after(
 
 #[test]
 fn states_that_transfers_tell(rt: HostRuntime) {
-    let accepted = DeliveryState::Accepted;
-    let new = kept_after(&rt, None, None, accepted);
-    assert_eq!(rt; new, (true, Kept::Accepted), "of a new delivery");
-    let known = kept_after(&rt, Some(None), Some(false), place(0, 3));
-    assert_eq!(rt; known, (true, Kept::Place(0, 3)), "where none was known");
-    let further = kept_after(&rt, Some(Some(place(0, 3))), None, place(1, 0));
-    assert_eq!(rt; further, (true, Kept::Place(1, 0)), "of a place");
-    let ended = Some(Some(DeliveryState::Released));
-    let after_the_end = kept_after(&rt, ended, None, place(1, 0));
-    assert_eq!(rt; after_the_end, (true, Kept::Released), "of one that ended");
-    let settled = kept_after(&rt, Some(Some(place(0, 3))), Some(true), place(1, 0));
-    assert_eq!(rt; settled, (true, Kept::Nothing), "of a settled one");
-    let ended = Some(Some(DeliveryState::Released));
-    let settled_late = kept_after(&rt, ended, Some(true), DeliveryState::Accepted);
-    assert_eq!(rt; settled_late, (true, Kept::Nothing), "of one that ended");
-    let unknown = kept_after(&rt, None, Some(true), place(1, 0));
-    assert_eq!(rt; unknown, (true, Kept::Nothing), "of an unknown settled one");
+    let (first, second) = (Kept::Place(0, 3), Kept::Place(1, 0));
+    for (before, settled, told, wanted) in [
+        (Kept::Nothing, None, Kept::Accepted, Kept::Accepted),
+        (Kept::NoState, Some(false), first, first),
+        (first, None, second, second),
+        (Kept::Released, None, second, Kept::Released),
+        (first, Some(true), second, Kept::Nothing),
+        (Kept::Released, Some(true), Kept::Accepted, Kept::Nothing),
+        (Kept::Nothing, Some(true), second, Kept::Nothing),
+    ] {
+        assert_eq!(rt;
+            kept_after(&rt, before, settled, told),
+            (true, wanted),
+            "{told:?} after {before:?}, settled {settled:?}"
+        );
+    }
 }
 
 #[test]
@@ -108,16 +120,24 @@ fn state_without_tag_is_refused(rt: HostRuntime) {
     drop(link);
 }
 
+// Two fronts of a delivery come: whether each is taken, and what is kept after it; and how many
+// deliveries are kept in the end.
+fn fronts_kept(rt: &(impl Abort + AllocGlobal)) -> ([(bool, Kept); 2], usize) {
+    let mut link = link_in(rt, ReceiverSettleMode::First, false);
+    let tag = count_tag(rt, 1);
+    let went = link.on_incomplete_transfer(&tag, 0, 5).is_ok();
+    let first = (went, kept_of(&link, &tag));
+    let went = link.on_incomplete_transfer(&tag, 1, 2).is_ok();
+    let second = (went, kept_of(&link, &tag));
+    let left = link.unsettled().len();
+    drop((tag, link));
+    ([first, second], left)
+}
+
 #[test]
 fn place_of_a_front_is_kept(rt: HostRuntime) {
-    let mut link = link_in(&rt, ReceiverSettleMode::First, false);
-    let tag = count_tag(&rt, 1);
-    assert!(rt; link.on_incomplete_transfer(&tag, 0, 5).is_ok());
-    assert_eq!(rt; kept_of(&link, &tag), Kept::Place(0, 5));
-    assert!(rt; link.on_incomplete_transfer(&tag, 1, 2).is_ok());
-    assert_eq!(rt; kept_of(&link, &tag), Kept::Place(1, 2));
-    assert_eq!(rt; link.unsettled().len(), 1);
-    drop(link);
+    let kept = [(true, Kept::Place(0, 5)), (true, Kept::Place(1, 2))];
+    assert_eq!(rt; fronts_kept(&rt), (kept, 1));
 }
 
 // The handle and the bytes of the frame in which a transfer goes on.

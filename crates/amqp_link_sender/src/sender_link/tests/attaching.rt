@@ -137,6 +137,15 @@ fn ended(outcomes: &Outcomes, index: usize) -> Option<(u8, Told)> {
     }
 }
 
+// How many deliveries a reattach gives up, and the ends of the first three.
+fn ends_in(
+    sent: &Result<(LinkFrame, Outcomes), SenderAttachError>,
+) -> Option<(usize, [Option<(u8, Told)>; 3])> {
+    let (_, outcomes) = sent.as_ref().ok()?;
+    let ends = [ended(outcomes, 0), ended(outcomes, 1), ended(outcomes, 2)];
+    Some((outcomes.len(), ends))
+}
+
 fn reply(closed: bool) -> Detach {
     Detach {
         handle: Handle(0),
@@ -163,23 +172,24 @@ fn detached_after_three(rt: &(impl Abort + AllocGlobal)) -> SenderLink<Target> {
 #[test]
 fn reattach_gives_pending_deliveries_up(rt: HostRuntime) {
     let mut link = detached_after_three(&rt);
-    let (frame, outcomes) = link.send_attach(true).expect(&rt, "it goes");
+    let sent = link.send_attach(true);
+    let ends = ends_in(&sent);
+    let shown = shown_in(sent);
+    let pending = link.unsettled().len();
+    let state = *link.local_state();
+    drop(link);
     let wanted = Shown {
         len: Some(25),
         count: Some(3),
         entries: None,
         incomplete: false,
     };
-    assert_eq!(rt; shown_by(&frame), Some(wanted));
-    assert_eq!(rt; outcomes.len(), 3);
-    for count in 0u8..3 {
-        let given_up = ended(&outcomes, usize::from(count));
-        assert_eq!(rt; given_up, Some((count, Told::IllegalState)));
-    }
-    assert_eq!(rt; link.unsettled().len(), 0);
-    assert_eq!(rt; *link.local_state(), LinkState::AttachSent);
-    drop((frame, outcomes));
-    drop(link);
+    assert_eq!(rt; shown, Ok(Some(wanted)));
+    let illegal = Told::IllegalState;
+    let given_up = [Some((0, illegal)), Some((1, illegal)), Some((2, illegal))];
+    assert_eq!(rt; ends, Some((3, given_up)));
+    assert_eq!(rt; pending, 0);
+    assert_eq!(rt; state, LinkState::AttachSent);
 }
 
 // Where the state has no row, a reattach gives nothing up.

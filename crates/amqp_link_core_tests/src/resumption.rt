@@ -1,0 +1,280 @@
+//! Rows of the table that were worked out by hand.
+use amqp_link_core::resumption::{Resolution, ResumingDelivery, resume_delivery};
+use amqp_link_types::delivery::UnsettledMessage;
+use amqp_link_types::types::{DeliveryState, DeliveryTag};
+use bytes::Bytes;
+use std::alloc::{AllocError, Global};
+use std::process::Abort;
+use std::test::Fail;
+
+// What an end says of a delivery.
+#[derive(Clone, Copy, Debug, PartialEq, Eq)]
+enum Told {
+    Absent,
+    Null,
+    Front(u32, u64),
+    Accepted,
+    Rejected,
+    Released,
+    Failed(bool),
+}
+
+// What becomes of the delivery, with the number of the payload's bytes that are sent.
+#[derive(Clone, Copy, Debug, PartialEq, Eq)]
+enum Answer {
+    Resent(Told, usize),
+    Resumed(Told, usize, usize),
+    Aborted(u32, Option<u8>),
+    Restated(Told, u8, usize),
+    Ended(Told),
+    Failed,
+}
+
+fn state_of(told: Told) -> Option<DeliveryState> {
+    match told {
+        Told::Absent | Told::Null => None,
+        Told::Front(section_number, section_offset) => Some(DeliveryState::Received {
+            section_number,
+            section_offset,
+        }),
+        Told::Accepted => Some(DeliveryState::Accepted),
+        Told::Rejected => Some(DeliveryState::Rejected { error: None }),
+        Told::Released => Some(DeliveryState::Released),
+        Told::Failed(failed) => Some(DeliveryState::Modified {
+            delivery_failed: Some(failed),
+            undeliverable_here: None,
+            message_annotations: None,
+        }),
+    }
+}
+
+fn remote_of(told: Told) -> Option<Option<DeliveryState>> {
+    match told {
+        Told::Absent => None,
+        _ => Some(state_of(told)),
+    }
+}
+
+fn told_by(state: &DeliveryState) -> Told {
+    match state {
+        DeliveryState::Received {
+            section_number,
+            section_offset,
+        } => Told::Front(*section_number, *section_offset),
+        DeliveryState::Accepted => Told::Accepted,
+        DeliveryState::Rejected { .. } => Told::Rejected,
+        DeliveryState::Released => Told::Released,
+        DeliveryState::Modified {
+            delivery_failed,
+            ..
+        } => Told::Failed(delivery_failed.unwrap_or(false)),
+    }
+}
+
+fn known_by(state: &Option<DeliveryState>) -> Told {
+    match state {
+        Some(state) => told_by(state),
+        None => Told::Null,
+    }
+}
+
+fn first_of(tag: &DeliveryTag) -> u8 {
+    tag.as_bytes().first().copied().unwrap_or(0)
+}
+
+fn answer_of(resolution: &Resolution) -> Answer {
+    match resolution {
+        Resolution::Outcome(Ok(state)) => Answer::Ended(known_by(state)),
+        Resolution::Outcome(Err(_)) => Answer::Failed,
+        Resolution::Resuming(ResumingDelivery::Resend(entry)) => {
+            Answer::Resent(known_by(&entry.state), entry.payload.len())
+        }
+        Resolution::Resuming(ResumingDelivery::Resume { entry, rest }) => {
+            Answer::Resumed(known_by(&entry.state), entry.payload.len(), rest.len())
+        }
+        Resolution::Resuming(
+            ResumingDelivery::Abort {
+                message_format,
+                tag,
+            },
+        ) => match tag {
+            Some(tag) => Answer::Aborted(*message_format, Some(first_of(tag))),
+            None => Answer::Aborted(*message_format, None),
+        },
+        Resolution::Resuming(
+            ResumingDelivery::RestateOutcome {
+                tag,
+                payload,
+                local_state,
+                ..
+            },
+        ) => Answer::Restated(told_by(local_state), first_of(tag), payload.len()),
+    }
+}
+
+const EIGHT: &[u8] = b"\x00\x53\x70\xc0\x00\x53\x77\x41";
+
+fn answered(resolution: Result<Resolution, (AllocError, UnsettledMessage)>) -> Answer {
+    let answer = match &resolution {
+        Ok(resolution) => answer_of(resolution),
+        Err(_) => Answer::Failed,
+    };
+    drop(resolution);
+    answer
+}
+
+// What becomes of the delivery with the tag 01 and these bytes, of this format.
+fn resolved_in(rt: &(impl Abort + AllocGlobal), format: u32, local: Told, remote: Told) -> Answer {
+    let tag = DeliveryTag::from(vec![in rt.alloc(); 1].expect(rt, "memory"));
+    let payload = Bytes::from_static(EIGHT);
+    let entry = UnsettledMessage::new(payload, state_of(local), format);
+    answered(resume_delivery(tag, entry, remote_of(remote)))
+}
+
+// The same of format 5.
+fn resolved(rt: &(impl Abort + AllocGlobal), local: Told, remote: Told) -> Answer {
+    resolved_in(rt, 5, local, remote)
+}
+
+const ABORTED: Answer = Answer::Aborted(5, Some(1));
+
+#[test]
+fn rows_without_an_own_state(rt: HostRuntime) {
+    let own = Told::Null;
+    let rows = [
+        (Told::Absent, Answer::Resent(own, 8)),
+        (Told::Front(0, 5), Answer::Resumed(own, 8, 3)),
+        (Told::Null, Answer::Resumed(own, 8, 8)),
+        (Told::Rejected, Answer::Ended(Told::Rejected)),
+    ];
+    for (remote, want) in rows {
+        assert_eq!(rt; resolved(&rt, own, remote), want, "{remote:?}");
+    }
+}
+
+#[test]
+fn rows_of_an_own_front(rt: HostRuntime) {
+    let own = Told::Front(1, 2);
+    let rows = [
+        (Told::Absent, Answer::Resent(own, 8)),
+        (Told::Front(1, 2), Answer::Resumed(own, 8, 2)),
+        (Told::Front(1, 3), Answer::Resumed(own, 8, 1)),
+        (Told::Front(2, 0), Answer::Resumed(own, 8, 8)),
+        (Told::Front(1, 1), ABORTED),
+        (Told::Front(0, 6), ABORTED),
+        (Told::Null, ABORTED),
+        (Told::Accepted, Answer::Ended(Told::Accepted)),
+    ];
+    for (remote, want) in rows {
+        assert_eq!(rt; resolved(&rt, own, remote), want, "{remote:?}");
+    }
+    let first = Told::Front(0, 0);
+    let answer = resolved(&rt, first, Told::Null);
+    assert_eq!(rt; answer, Answer::Resumed(first, 8, 8), "a front of no bytes");
+    let beyond = resolved(&rt, Told::Front(1, 5), Told::Front(1, 2));
+    assert_eq!(rt; beyond, ABORTED, "a front beyond the other");
+}
+
+#[test]
+fn rows_of_an_own_end(rt: HostRuntime) {
+    let failed = Told::Failed(true);
+    let rows = [
+        (Told::Accepted, Told::Absent, Answer::Ended(Told::Accepted)),
+        (Told::Accepted, Told::Null, ABORTED),
+        (Told::Accepted, Told::Front(0, 0), ABORTED),
+        (failed, Told::Front(0, 0), ABORTED),
+        (Told::Rejected, Told::Front(0, 0), ABORTED),
+        (Told::Released, Told::Front(0, 0), ABORTED),
+        (
+            Told::Released,
+            Told::Released,
+            Answer::Ended(Told::Released),
+        ),
+        (failed, Told::Failed(false), Answer::Ended(failed)),
+        (failed, Told::Rejected, Answer::Restated(failed, 1, 8)),
+    ];
+    for (own, remote, want) in rows {
+        assert_eq!(rt; resolved(&rt, own, remote), want, "{own:?} {remote:?}");
+    }
+}
+
+#[test]
+fn ended_deliveries_of_format_0_are_aborted(rt: HostRuntime) {
+    let ends = [
+        Told::Accepted,
+        Told::Rejected,
+        Told::Released,
+        Told::Failed(true),
+    ];
+    for own in ends {
+        let answer = resolved_in(&rt, 0, own, Told::Front(0, 0));
+        assert_eq!(rt; answer, Answer::Aborted(0, Some(1)), "{own:?}");
+    }
+}
+
+// Whether a delivery goes on with these bytes.
+fn is_rest_of(resolution: &Resolution, want: &[u8]) -> bool {
+    match resolution {
+        Resolution::Resuming(ResumingDelivery::Resume { rest, .. }) => rest.as_slice() == want,
+        _ => false,
+    }
+}
+
+// Whether these bytes are sent of a delivery that has come up to this place.
+fn is_rest(rt: &(impl Abort + AllocGlobal), at: (u32, u64), want: &[u8]) -> bool {
+    let tag = DeliveryTag::from(vec![in rt.alloc(); 1].expect(rt, "memory"));
+    let entry = UnsettledMessage::new(Bytes::from_static(EIGHT), None, 5);
+    let resolution = resume_delivery(tag, entry, remote_of(Told::Front(at.0, at.1)));
+    let is_rest = match &resolution {
+        Ok(resolution) => is_rest_of(resolution, want),
+        Err(_) => false,
+    };
+    drop(resolution);
+    is_rest
+}
+
+#[test]
+fn rest_has_the_bytes_from_there(rt: HostRuntime) {
+    let rows: [((u32, u64), &[u8]); 6] = [
+        ((1, 0), b"\x00\x53\x77\x41"),
+        ((0, 5), b"\x53\x77\x41"),
+        ((1, 3), b"\x41"),
+        ((1, 4), b""),
+        ((0, 7), EIGHT),
+        ((2, 0), EIGHT),
+    ];
+    for (at, want) in rows {
+        assert!(rt; is_rest(&rt, at, want), "{at:?}");
+    }
+}
+
+#[test]
+fn rest_is_from_the_named_place(rt: HostRuntime) {
+    let rows = [
+        ((1, 0), 4, "from the second section on"),
+        ((0, 5), 3, "from within its header on"),
+        ((1, 4), 0, "nothing"),
+        ((0, 7), 8, "no place: past the next section's header"),
+        ((1, 5), 8, "no place: past the end"),
+        ((2, 0), 8, "no place: no such section"),
+    ];
+    for ((number, offset), rest, message) in rows {
+        let answer = resolved(&rt, Told::Null, Told::Front(number, offset));
+        assert_eq!(rt; answer, Answer::Resumed(Told::Null, 8, rest), "{message}");
+    }
+}
+
+// What becomes of a delivery without bytes.
+fn resolved_empty(alloc: Global, local: Told, remote: Told) -> Answer {
+    let tag = DeliveryTag::from(Vec::new(alloc));
+    let entry = UnsettledMessage::new(Bytes::new(), state_of(local), 0);
+    answered(resume_delivery(tag, entry, remote_of(remote)))
+}
+
+#[test]
+fn empty_payload_is_resumed(rt: HostRuntime) -> Result<(), Fail> {
+    let local = Told::Front(1, 2);
+    let answer = resolved_empty(rt.alloc(), local, local);
+    assert_eq!(rt; answer, Answer::Resumed(local, 0, 0), "an empty rest");
+    Ok(())
+}

@@ -1,0 +1,162 @@
+//! Copies, while there is memory.
+use super::samples::{attach, error, fields, source, tag, target, unsettled};
+use amqp_link_types::types::{
+    ConnectionStopReason, DeliveryState, Detach, Disposition, Handle, LinkFlow, Role,
+    SessionStopReason, TargetArchetype, TerminusDurability, Transfer,
+};
+use std::process::Abort;
+
+// A copy is equal to its original, and to nothing else.
+fn copied<T: Clone + PartialEq + Drop>(rt: &impl Abort, original: T, other: T, what: &str) {
+    let copy = original.clone().expect(rt, "memory");
+    assert!(rt; copy == original, "{what}: as it was");
+    assert!(rt; copy != other, "{what}: not as the other");
+}
+
+fn transfer(rt: &(impl Abort + AllocGlobal)) -> Transfer {
+    let error = Some(error(rt));
+    Transfer {
+        delivery_tag: Some(tag(rt, 1)),
+        state: Some(DeliveryState::Rejected { error }),
+        ..Transfer::default()
+    }
+}
+
+#[test]
+fn a_copied_transfer_is_equal(rt: HostRuntime) {
+    let mut other = transfer(&rt);
+    other.delivery_tag = None;
+    copied(&rt, transfer(&rt), other, "the tag");
+    let mut other = transfer(&rt);
+    other.state = Some(DeliveryState::Accepted);
+    copied(&rt, transfer(&rt), other, "the state");
+}
+
+#[test]
+fn a_copied_source_is_equal(rt: HostRuntime) {
+    let mut other = source(&rt);
+    other.timeout = 0;
+    copied(&rt, source(&rt), other, "the timeout");
+    let mut other = source(&rt);
+    other.capabilities = None;
+    copied(&rt, source(&rt), other, "the capabilities");
+}
+
+#[test]
+fn a_copied_target_is_equal(rt: HostRuntime) {
+    let mut other = target(&rt);
+    other.durable = TerminusDurability::None;
+    copied(&rt, target(&rt), other, "the durability");
+    let mut other = target(&rt);
+    other.address = None;
+    copied(&rt, target(&rt), other, "the address");
+    let mut other = target(&rt);
+    other.dynamic = false;
+    let original = TargetArchetype::from(target(&rt));
+    copied(&rt, original, TargetArchetype::from(other), "of any kind");
+}
+
+#[test]
+fn a_copied_attach_is_equal(rt: HostRuntime) {
+    let mut other = attach(&rt);
+    other.role = Role::Sender;
+    copied(&rt, attach(&rt), other, "the role");
+    let mut other = attach(&rt);
+    other.unsettled = None;
+    copied(&rt, attach(&rt), other, "the unsettled deliveries");
+    let mut other = attach(&rt);
+    other.properties = Some(fields(&rt, 5));
+    copied(&rt, attach(&rt), other, "the properties");
+}
+
+#[test]
+fn a_copied_map_is_equal(rt: HostRuntime) {
+    let original = unsettled(&rt, DeliveryState::Accepted);
+    let other = unsettled(&rt, DeliveryState::Released);
+    copied(&rt, original, other, "a state");
+    let original = unsettled(&rt, DeliveryState::Accepted);
+    let mut other = unsettled(&rt, DeliveryState::Accepted);
+    let _ = other.remove(&tag(&rt, 2));
+    copied(&rt, original, other, "a delivery less");
+}
+
+fn flow(rt: &(impl Abort + AllocGlobal)) -> LinkFlow {
+    LinkFlow {
+        handle: Handle(1),
+        delivery_count: Some(2),
+        link_credit: Some(3),
+        available: Some(4),
+        drain: true,
+        echo: true,
+        properties: Some(fields(rt, 5)),
+    }
+}
+
+fn disposition(state: DeliveryState) -> Disposition {
+    Disposition {
+        role: Role::Receiver,
+        first: 1,
+        last: Some(2),
+        settled: true,
+        state: Some(state),
+        batchable: true,
+    }
+}
+
+fn detach(rt: &(impl Abort + AllocGlobal), closed: bool) -> Detach {
+    Detach {
+        handle: Handle(1),
+        closed,
+        error: Some(error(rt)),
+    }
+}
+
+#[test]
+fn a_copied_flow_is_equal(rt: HostRuntime) {
+    let mut other = flow(&rt);
+    other.echo = false;
+    copied(&rt, flow(&rt), other, "whether to answer");
+    let mut other = flow(&rt);
+    other.available = None;
+    copied(&rt, flow(&rt), other, "what waits");
+}
+
+#[test]
+fn a_copied_disposition_is_equal(rt: HostRuntime) {
+    let error = Some(error(&rt));
+    let original = disposition(DeliveryState::Rejected { error });
+    let other = disposition(DeliveryState::Accepted);
+    copied(&rt, original, other, "the state");
+    let original = disposition(DeliveryState::Accepted);
+    let mut other = disposition(DeliveryState::Accepted);
+    other.last = None;
+    copied(&rt, original, other, "the last delivery");
+}
+
+#[test]
+fn a_copied_detach_is_equal(rt: HostRuntime) {
+    let other = detach(&rt, false);
+    copied(&rt, detach(&rt, true), other, "whether it closes");
+    let mut other = detach(&rt, true);
+    other.error = None;
+    copied(&rt, detach(&rt, true), other, "the error");
+}
+
+fn closed_with_error(rt: &(impl Abort + AllocGlobal)) -> ConnectionStopReason {
+    ConnectionStopReason::RemoteClosedWithError(error(rt))
+}
+
+#[test]
+fn a_copied_stop_reason_is_equal(rt: HostRuntime) {
+    let other = ConnectionStopReason::Closed;
+    copied(&rt, closed_with_error(&rt), other, "a connection");
+    let other = closed_with_error(&rt);
+    copied(&rt, ConnectionStopReason::Closed, other, "a closed one");
+    let original = SessionStopReason::ConnectionStopped(closed_with_error(&rt));
+    let closed = ConnectionStopReason::Closed;
+    let other = SessionStopReason::ConnectionStopped(closed);
+    copied(&rt, original, other, "a session, by its connection");
+    let closed = ConnectionStopReason::Closed;
+    let other = SessionStopReason::ConnectionStopped(closed);
+    copied(&rt, SessionStopReason::Ended, other, "an ended one");
+}

@@ -1,0 +1,114 @@
+//! The answers of a map of unsettled deliveries, while there is memory.
+use super::samples::tag;
+use amqp_link_types::types::UnsettledMap;
+use std::process::Abort;
+
+fn put(
+    rt: &(impl Abort + AllocGlobal),
+    map: &mut UnsettledMap<u8>,
+    byte: u8,
+    value: u8,
+) -> Option<u8> {
+    let put = map.put(tag(rt, byte), value);
+    put.expect(rt, "memory")
+}
+
+// The tags 1, 2 and 3 with 10, 20 and 30.
+fn three(rt: &(impl Abort + AllocGlobal)) -> UnsettledMap<u8> {
+    let mut map = UnsettledMap::new(rt.alloc());
+    for (byte, value) in [(1, 10), (2, 20), (3, 30)] {
+        assert_eq!(rt; put(rt, &mut map, byte, value), None, "tag {byte}");
+    }
+    map
+}
+
+// The byte of the tag at a place, and what is kept there.
+fn pair(map: &UnsettledMap<u8>, index: usize) -> Option<(u8, u8)> {
+    let (tag, value) = map.pair_at(index)?;
+    Some((*tag.as_bytes().first()?, *value))
+}
+
+// Whether the map holds these pairs, in this order, and no further one.
+fn is_held(map: &UnsettledMap<u8>, pairs: &[(u8, u8)]) -> bool {
+    for index in 0..pairs.len() {
+        if pair(map, index) != pairs.get(index).copied() {
+            return false;
+        }
+    }
+    map.len() == pairs.len() && pair(map, pairs.len()).is_none()
+}
+
+fn holds(rt: &impl Abort, map: &UnsettledMap<u8>, pairs: &[(u8, u8)], when: &str) {
+    assert!(rt; is_held(map, pairs), "what is held {when}");
+}
+
+// What is kept under a tag, and whether it stands in the map.
+fn found(rt: &(impl Abort + AllocGlobal), map: &UnsettledMap<u8>, byte: u8) -> (Option<u8>, bool) {
+    let tag = tag(rt, byte);
+    let found = (map.get(&tag).copied(), map.contains(&tag));
+    drop(tag);
+    found
+}
+
+fn removed(rt: &(impl Abort + AllocGlobal), map: &mut UnsettledMap<u8>, byte: u8) -> Option<u8> {
+    let tag = tag(rt, byte);
+    let removed = map.remove(&tag);
+    drop(tag);
+    removed
+}
+
+#[test]
+fn puts_keep_the_order(rt: HostRuntime) {
+    let none = UnsettledMap::new(rt.alloc());
+    holds(&rt, &none, &[], "at first");
+    let mut map = three(&rt);
+    holds(&rt, &map, &[(1, 10), (2, 20), (3, 30)], "after three puts");
+    let old = put(&rt, &mut map, 2, 25);
+    assert_eq!(rt; old, Some(20), "a put of a tag that is there");
+    holds(&rt, &map, &[(1, 10), (2, 25), (3, 30)], "after it");
+}
+
+#[test]
+fn deliveries_are_found_by_their_tags(rt: HostRuntime) {
+    let map = three(&rt);
+    for (byte, value) in [(1, Some(10)), (2, Some(20)), (3, Some(30)), (4, None)] {
+        let wanted = (value, value.is_some());
+        assert_eq!(rt; found(&rt, &map, byte), wanted, "tag {byte}");
+    }
+    drop(map);
+}
+
+#[test]
+fn the_last_pair_moves_into_the_gap(rt: HostRuntime) {
+    let mut map = three(&rt);
+    assert_eq!(rt; removed(&rt, &mut map, 4), None, "an absent tag");
+    holds(&rt, &map, &[(1, 10), (2, 20), (3, 30)], "as before");
+    assert_eq!(rt; removed(&rt, &mut map, 1), Some(10), "the first");
+    holds(&rt, &map, &[(3, 30), (2, 20)], "without the first");
+    assert_eq!(rt; removed(&rt, &mut map, 2), Some(20), "the last");
+    holds(&rt, &map, &[(3, 30)], "without the last");
+    assert_eq!(rt; removed(&rt, &mut map, 3), Some(30), "the only one");
+    holds(&rt, &map, &[], "at the end");
+    drop(map);
+}
+
+#[test]
+fn an_absent_tag_gives_the_value_back(rt: HostRuntime) {
+    let mut map = three(&rt);
+    assert_eq!(rt; map.replace(&tag(&rt, 2), 25), Ok(20), "one that is there");
+    holds(&rt, &map, &[(1, 10), (2, 25), (3, 30)], "after it");
+    assert_eq!(rt; map.replace(&tag(&rt, 4), 40), Err(40), "an absent one");
+    holds(&rt, &map, &[(1, 10), (2, 25), (3, 30)], "as before");
+}
+
+#[test]
+fn the_first_entries_are_kept(rt: HostRuntime) {
+    let mut map = three(&rt);
+    map.truncate(4);
+    holds(&rt, &map, &[(1, 10), (2, 20), (3, 30)], "as before");
+    map.truncate(2);
+    holds(&rt, &map, &[(1, 10), (2, 20)], "without the last");
+    map.truncate(0);
+    holds(&rt, &map, &[], "without any");
+    drop(map);
+}

@@ -1,0 +1,104 @@
+//! Parts in which nothing is absent and nothing has its default.
+use amqp_link_types::types::{
+    Attach, DeliveryState, DeliveryTag, DistributionMode, Error, Fields, Handle, Outcome,
+    ReceiverSettleMode, Role, SenderSettleMode, Source, Symbol, Symbols, Target, TargetArchetype,
+    TerminusDurability, TerminusExpiryPolicy, Text, UnsettledMap, Value,
+};
+use std::process::Abort;
+
+pub(super) fn text(rt: &(impl Abort + AllocGlobal), words: &str) -> Text {
+    let words = String::from_str(rt.alloc(), words);
+    Text::from(words.expect(rt, "memory"))
+}
+
+pub(super) fn symbol(rt: &(impl Abort + AllocGlobal), name: &str) -> Symbol {
+    let name = String::from_str(rt.alloc(), name);
+    Symbol::from(name.expect(rt, "memory"))
+}
+
+// A tag of one byte.
+pub(super) fn tag(rt: &(impl Abort + AllocGlobal), byte: u8) -> DeliveryTag {
+    let bytes = vec![in rt.alloc(); byte];
+    DeliveryTag::from(bytes.expect(rt, "memory"))
+}
+
+// Two symbols in order.
+pub(super) fn symbols(rt: &(impl Abort + AllocGlobal), first: &str, second: &str) -> Symbols {
+    let names = vec![in rt.alloc(); symbol(rt, first), symbol(rt, second)];
+    Symbols::from(names.expect(rt, "memory"))
+}
+
+// A field with a number.
+pub(super) fn fields(rt: &(impl Abort + AllocGlobal), number: u32) -> Fields {
+    let mut fields = Fields::new(rt.alloc());
+    let put = fields.insert(symbol(rt, "k"), Value::Uint(number));
+    put.expect(rt, "memory");
+    fields
+}
+
+pub(super) fn error(rt: &(impl Abort + AllocGlobal)) -> Error {
+    Error {
+        condition: symbol(rt, "x:y"),
+        description: Some(text(rt, "words")),
+        info: Some(fields(rt, 7)),
+    }
+}
+
+pub(super) fn source(rt: &(impl Abort + AllocGlobal)) -> Source {
+    let error = Some(error(rt));
+    Source {
+        address: Some(text(rt, "q1")),
+        durable: TerminusDurability::Configuration,
+        expiry_policy: TerminusExpiryPolicy::Never,
+        timeout: 7,
+        dynamic: true,
+        dynamic_node_properties: Some(fields(rt, 1)),
+        distribution_mode: Some(DistributionMode::Copy),
+        filter: Some(fields(rt, 2)),
+        default_outcome: Some(Outcome::Rejected { error }),
+        outcomes: Some(symbols(rt, "a", "b")),
+        capabilities: Some(symbols(rt, "c", "d")),
+    }
+}
+
+pub(super) fn target(rt: &(impl Abort + AllocGlobal)) -> Target {
+    Target {
+        address: Some(text(rt, "q2")),
+        durable: TerminusDurability::UnsettledState,
+        expiry_policy: TerminusExpiryPolicy::LinkDetach,
+        timeout: 8,
+        dynamic: true,
+        dynamic_node_properties: Some(fields(rt, 3)),
+        capabilities: Some(symbols(rt, "e", "f")),
+    }
+}
+
+// A delivery of which no state is known, and one with this state.
+pub(super) fn unsettled(
+    rt: &(impl Abort + AllocGlobal),
+    state: DeliveryState,
+) -> UnsettledMap<Option<DeliveryState>> {
+    let mut map = UnsettledMap::new(rt.alloc());
+    map.put(tag(rt, 1), None).expect(rt, "memory");
+    map.put(tag(rt, 2), Some(state)).expect(rt, "memory");
+    map
+}
+
+pub(super) fn attach(rt: &(impl Abort + AllocGlobal)) -> Attach {
+    Attach {
+        name: text(rt, "l"),
+        handle: Handle(1),
+        role: Role::Receiver,
+        snd_settle_mode: SenderSettleMode::Settled,
+        rcv_settle_mode: ReceiverSettleMode::Second,
+        source: Some(source(rt)),
+        target: Some(TargetArchetype::from(target(rt))),
+        unsettled: Some(unsettled(rt, DeliveryState::Accepted)),
+        incomplete_unsettled: true,
+        initial_delivery_count: Some(2),
+        max_message_size: Some(3),
+        offered_capabilities: Some(symbols(rt, "g", "h")),
+        desired_capabilities: Some(symbols(rt, "i", "j")),
+        properties: Some(fields(rt, 4)),
+    }
+}
