@@ -4,8 +4,8 @@ use Rattle.std.specs.declared.alloc.AllocError.{AllocError}
 use Rattle.amqp_link_types.specs.Unsettled.{states_of}
 use Rattle.amqp_link_types.specs.declared.frame.LinkFrame.{LinkFrame}
 use Rattle.amqp_link_types.specs.declared.frame.LinkFrame.TheVariants as frames
-use Rattle.amqp_link_types.specs.declared.state.LinkState.{LinkState}
-use Rattle.amqp_link_types.specs.declared.state.LinkState.TheVariants as state
+use Rattle.amqp_link_state.specs.declared.state.LinkState.{LinkState}
+use Rattle.amqp_link_state.specs.declared.state.LinkState.TheVariants as state
 use Rattle.amqp_link_types.specs.declared.types.terminus.TargetArchetype.TheVariants as archetype
 use Rattle.amqp_link_types.specs.declared.types.attach.Attach.{Attach}
 use Rattle.amqp_link_types.specs.declared.types.definitions.OutputHandle.{OutputHandle}

@@ -3,7 +3,7 @@ use Rattle.std.proofs.Common.{◌≡◌, ◌∙◌, sym, ap, subst, ℕ, ◌+◌
 use Rattle.std.specs.Prelude.{is_some, is_none, IsSomeAnd, unwrap_or}
 use Rattle.std.proofs.lemmas.Bool.Decides.{nat_tests}
 use Rattle.amqp_link_types.specs.Entries.{Tag, entry_at, with_entry}
-use Rattle.amqp_link_types.specs.Counts.{after_consuming}
+use Rattle.amqp_link_state.specs.Counts.{after_consuming}
 use Rattle.amqp_link_values.specs.Length.{text_len}
 use Rattle.amqp_link_types.specs.Refusals.{refusal}
 use Rattle.amqp_link_sender.specs.Room.{worst, has_room, payload_limit}

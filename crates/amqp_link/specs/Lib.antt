@@ -1,4 +1,4 @@
-pub use Rattle.amqp_link_types.specs.Counts
+pub use Rattle.amqp_link_state.specs.Counts
 pub use Rattle.amqp_link_types.specs.DeliveryStates
 pub use Rattle.amqp_link_types.specs.Entries
 pub use Rattle.amqp_link_types.specs.Frames

@@ -1,6 +1,6 @@
 -- What each call of a pair answers, and the world after it.
 use Rattle.std.specs.Prelude.{◌≡◌, ◌⊎◌, ℕ, ◌+◌, ◌^◌, ◌&&◌, Bool, true, false, not, ◌||◌, nat_lt, nat_le, ◌==◌, List, [], ◌∷◌, ◌++◌, length, Option, Some, None, is_some, unwrap_or, codes, Result, Ok, Err}
-use Rattle.amqp_link_types.specs.Counts.{granted, after_consuming}
+use Rattle.amqp_link_state.specs.Counts.{granted, after_consuming}
 use Rattle.amqp_link_types.specs.Entries.{Tag, entry_at, with_entry}
 use Rattle.amqp_link_types.specs.Frames.{payload_of, performative_of}
 use Rattle.amqp_link_core.specs.Held.{Held}
@@ -8,7 +8,7 @@ use Rattle.amqp_link_payloads.specs.Position.{position}
 use Rattle.amqp_link_types.specs.Refusals.{refusal}
 use Rattle.amqp_link_types.specs.Size.{attach_len}
 use Rattle.amqp_link_types.specs.Unsettled.{states_of}
-use Rattle.amqp_link_types.specs.declared.state.LinkFlowStateInner.{LinkFlowStateInner}
+use Rattle.amqp_link_state.specs.declared.state.LinkFlowStateInner.{LinkFlowStateInner}
 use Rattle.amqp_link_types.specs.declared.types.attach.Attach.{Attach}
 use Rattle.amqp_link_types.specs.declared.types.terminus.TargetArchetype.TheVariants as archetype
 use Rattle.amqp_link_core.specs.Attaching.{with_entries}
@@ -28,7 +28,7 @@ use Rattle.amqp_link_types.specs.declared.frame.LinkFrame.{LinkFrame}
 use Rattle.amqp_link.specs.declared.pair.error.PairError.{PairError}
 use Rattle.amqp_link.specs.declared.pair.error.PairError.TheVariants as error
 use Rattle.amqp_link.specs.declared.pair.progress.Progress.{Progress}
-use Rattle.amqp_link_types.specs.declared.state.LinkState.TheVariants.{Unattached, AttachSent, AttachReceived, Attached}
+use Rattle.amqp_link_state.specs.declared.state.LinkState.TheVariants.{Unattached, AttachSent, AttachReceived, Attached}
 use Rattle.amqp_link_types.specs.declared.types.definitions.SenderSettleMode.TheVariants.{Mixed}
 use Rattle.amqp_link_types.specs.declared.types.definitions.ReceiverSettleMode.TheVariants.{First}
 use Rattle.amqp_link_types.specs.declared.types.transfer.Transfer.{Transfer}

@@ -18,14 +18,14 @@ pub use amqp_link_ends::{
     Waiting, get_max_message_size,
 };
 pub use amqp_link_payloads::position::{place_of, position_of};
+pub use amqp_link_state::role::{IntoRole, ReceiverMarker, SenderMarker};
+pub use amqp_link_state::state::{
+    DEFAULT_CREDIT, InsufficientCredit, LinkFlowState, LinkFlowStateInner, LinkState,
+};
 pub use amqp_link_types::delivery::{
     Delivery, DeliveryInfo, DeliveryOutcome, Outcomes, Settlement, UnsettledMessage,
 };
 pub use amqp_link_types::frame::{LinkFrame, LinkTransfer, clear_continuation_fields};
-pub use amqp_link_types::role::{IntoRole, ReceiverMarker, SenderMarker};
-pub use amqp_link_types::state::{
-    DEFAULT_CREDIT, InsufficientCredit, LinkFlowState, LinkFlowStateInner, LinkState,
-};
 pub use amqp_link_types::types::{
     ApplyRemoteDetachError, Attach, ConnectionStopReason, DataBody, DecodeError, DeliveryNumber,
     DeliveryState, DeliveryTag, Descriptor, Detach, DetachError, Disposition, DistributionMode,

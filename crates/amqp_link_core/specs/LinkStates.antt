@@ -1,7 +1,7 @@
 -- The table of link states (OASIS AMQP 1.0 core, 2.6.3 to 2.6.6).
 use Rattle.std.specs.Prelude.{Bool, true, false, Option, Some, None}
-use Rattle.amqp_link_types.specs.declared.state.LinkState.{LinkState}
-use Rattle.amqp_link_types.specs.declared.state.LinkState.TheVariants.{Unattached, AttachSent, IncompleteAttachSent, AttachReceived, IncompleteAttachReceived, Attached, IncompleteAttachExchanged, DetachSent, Detached, CloseSent, Closed}
+use Rattle.amqp_link_state.specs.declared.state.LinkState.{LinkState}
+use Rattle.amqp_link_state.specs.declared.state.LinkState.TheVariants.{Unattached, AttachSent, IncompleteAttachSent, AttachReceived, IncompleteAttachReceived, Attached, IncompleteAttachExchanged, DetachSent, Detached, CloseSent, Closed}
 
 -- what moves a link: an attach or a detach is sent, an attach comes, a detach comes in answer to an
 -- own one, or the other end detaches of itself

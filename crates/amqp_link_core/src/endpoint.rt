@@ -6,7 +6,7 @@ ghost use Rattle.std.specs.Borrow.{Lends, sem};
 ghost use Rattle.std.specs.contracts.option.Option.{the_row as option_row};
 ghost use Rattle.amqp_link_types.specs.contracts.types.definitions.OutputHandle.{the_row as handle_row};
 ghost use Rattle.amqp_link_values.specs.contracts.fields.Fields.{the_row as fields_row};
-ghost use Rattle.amqp_link_types.specs.declared.state.LinkState.{LinkState as TheState};
+ghost use Rattle.amqp_link_state.specs.declared.state.LinkState.{LinkState as TheState};
 ghost use Rattle.amqp_link_types.specs.declared.types.definitions.ReceiverSettleMode.{ReceiverSettleMode as TheMode};
 ghost use Rattle.amqp_link_values.specs.Data.{Data};
 ghost use Rattle.amqp_link_types.specs.declared.types.definitions.OutputHandle.{OutputHandle as TheHandle};
@@ -25,9 +25,9 @@ pub mod steps;
 pub mod table;
 pub mod target;
 
+use amqp_link_state::state::LinkState;
 use amqp_link_types::delivery::Outcomes;
 use amqp_link_types::frame::LinkFrame;
-use amqp_link_types::state::LinkState;
 use amqp_link_types::types::{
     ApplyRemoteDetachError, Attach, Detach, Error, Fields, OutputHandle, ReceiverSettleMode,
 };

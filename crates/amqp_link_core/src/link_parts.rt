@@ -1,5 +1,5 @@
 //! What a link is made with.
-use amqp_link_types::state::LinkFlowStateInner;
+use amqp_link_state::state::LinkFlowStateInner;
 use amqp_link_types::types::{ReceiverSettleMode, SenderSettleMode, Source, Symbols, Text};
 
 /// What a link is made with, at either end.

@@ -4,7 +4,7 @@ use Rattle.std.specs.Prelude.{codes}
 use Rattle.amqp_link_types.specs.Refusals.{refusal}
 use Rattle.amqp_link_types.specs.Size.{transfer_len, before, list_of}
 use Rattle.amqp_link_types.specs.declared.types.transfer.Transfer.{Transfer}
-use Rattle.amqp_link_types.specs.declared.state.LinkState.TheVariants.{Attached}
+use Rattle.amqp_link_state.specs.declared.state.LinkState.TheVariants.{Attached}
 use Rattle.amqp_link_types.specs.declared.types.definitions.ReceiverSettleMode.TheVariants.{First, Second}
 use Rattle.amqp_link_types.specs.declared.types.definitions.SenderSettleMode.TheVariants as mode
 use Rattle.amqp_link_types.specs.declared.types.errors.LinkStateError.TheVariants.{IllegalState, NoRoom}

@@ -1,6 +1,6 @@
 //! What a caller of either end can rest on: the contracts of the traits alone.
 ghost use Rattle.std.specs.Prelude.{◌≡◌, Some, OnOk};
-ghost use Rattle.amqp_link_types.specs.declared.state.LinkState.TheVariants.{Attached, Detached};
+ghost use Rattle.amqp_link_state.specs.declared.state.LinkState.TheVariants.{Attached, Detached};
 
 use crate::samples::{coming, parts};
 use amqp_link_core::endpoint::LinkExt;
@@ -8,7 +8,7 @@ use amqp_link_receiver::receiver_link::ReceiverLink;
 use amqp_link_samples::links::went;
 use amqp_link_samples::table::{attached, taken};
 use amqp_link_sender::sender_link::SenderLink;
-use amqp_link_types::state::LinkState;
+use amqp_link_state::state::LinkState;
 use amqp_link_types::types::{Detach, Handle, OutputHandle, Role, SenderSettleMode};
 use std::process::Abort;
 

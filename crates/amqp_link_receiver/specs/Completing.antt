@@ -3,8 +3,8 @@
 use Rattle.std.specs.Prelude.{◌≡◌, ℕ, ◌==◌, Bool, true, false, not, ◌&&◌, List, [], ◌∷◌, if◌then◌else◌}
 use Rattle.std.specs.Prelude.{Option, Some, None, is_none, unwrap_or, Result, Ok, Err}
 use Rattle.std.specs.Option.{option_map}
-use Rattle.amqp_link_types.specs.declared.state.LinkState.{LinkState}
-use Rattle.amqp_link_types.specs.declared.state.LinkState.TheVariants.{Attached, IncompleteAttachExchanged}
+use Rattle.amqp_link_state.specs.declared.state.LinkState.{LinkState}
+use Rattle.amqp_link_state.specs.declared.state.LinkState.TheVariants.{Attached, IncompleteAttachExchanged}
 use Rattle.amqp_link_types.specs.declared.types.definitions.ReceiverSettleMode.{ReceiverSettleMode}
 use Rattle.amqp_link_types.specs.declared.types.definitions.ReceiverSettleMode.TheVariants.{First, Second}
 use Rattle.amqp_link_types.specs.declared.types.delivery_state.DeliveryState.TheVariants.{Received}
@@ -13,7 +13,7 @@ use Rattle.amqp_link_types.specs.declared.types.errors.ReceiverTransferError.{Re
 use Rattle.amqp_link_types.specs.declared.types.errors.ReceiverTransferError.TheVariants as error
 use Rattle.amqp_link_payloads.specs.declared.message.Message.{Message}
 use Rattle.amqp_link_types.specs.declared.types.transfer.Transfer.{Transfer}
-use Rattle.amqp_link_types.specs.Counts.{after_consuming}
+use Rattle.amqp_link_state.specs.Counts.{after_consuming}
 use Rattle.amqp_link_types.specs.Deliveries.{Info, Delivered}
 use Rattle.amqp_link_types.specs.Entries.{Tag}
 use Rattle.amqp_link_types.specs.Refusals.{refusal}

@@ -1,8 +1,8 @@
 -- The attach that a receiver's end sends, and the one that comes to it (OASIS AMQP 1.0 core, 2.6.3 and
 -- 2.7.3).
 use Rattle.std.specs.Prelude.{ℕ, Bool, true, false, [], ◌∷◌, Option, Some, None, is_none, option_map, unwrap_or}
-use Rattle.amqp_link_types.specs.declared.state.LinkState.{LinkState}
-use Rattle.amqp_link_types.specs.declared.state.LinkState.TheVariants.{IncompleteAttachSent, IncompleteAttachReceived, IncompleteAttachExchanged}
+use Rattle.amqp_link_state.specs.declared.state.LinkState.{LinkState}
+use Rattle.amqp_link_state.specs.declared.state.LinkState.TheVariants.{IncompleteAttachSent, IncompleteAttachReceived, IncompleteAttachExchanged}
 use Rattle.amqp_link_types.specs.declared.types.attach.Attach.{Attach}
 use Rattle.amqp_link_types.specs.declared.types.definitions.OutputHandle.{OutputHandle}
 use Rattle.amqp_link_types.specs.declared.types.definitions.Handle.{Handle}

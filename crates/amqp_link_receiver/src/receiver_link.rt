@@ -13,8 +13,8 @@ mod tests;
 pub use amqp_link_core::endpoint::attached::get_max_message_size;
 use amqp_link_core::endpoint::target::LinkTarget;
 use amqp_link_core::link_parts::LinkParts;
-use amqp_link_types::role::ReceiverMarker;
-use amqp_link_types::state::{LinkFlowState, LinkState};
+use amqp_link_state::role::ReceiverMarker;
+use amqp_link_state::state::{LinkFlowState, LinkState};
 use amqp_link_types::types::unsettled_map::UnsettledMap;
 use amqp_link_types::types::{
     DeliveryState, InputHandle, OutputHandle, ReceiverSettleMode, SenderSettleMode, Source,
@@ -81,7 +81,7 @@ impl<T: LinkTarget> Model for ReceiverLink<T> {
 }
 
 impl<T: LinkTarget> ReceiverLink<T> {
-    ghost use Rattle.amqp_link_types.specs.declared.state.LinkState.TheVariants.{Unattached};
+    ghost use Rattle.amqp_link_state.specs.declared.state.LinkState.TheVariants.{Unattached};
 
     /// A link that is not attached, without handles and unsettled deliveries. Takes no memory.
     ///

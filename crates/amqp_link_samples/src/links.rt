@@ -1,6 +1,6 @@
 //! Parts of links for tests.
 use amqp_link_core::link_parts::LinkParts;
-use amqp_link_types::state::LinkFlowStateInner;
+use amqp_link_state::state::LinkFlowStateInner;
 use amqp_link_types::types::{
     Attach, DeliveryTag, Fields, Handle, LinkFlow, LinkRelayError, ReceiverSettleMode, Role,
     SenderSettleMode, Source, Symbol, Target, TargetArchetype, Text, Value,

@@ -2,7 +2,7 @@
 //! where it leads. All other pairs of a call and a state lead nowhere.
 use crate::links::{attach_of, went};
 use amqp_link_core::endpoint::LinkExt;
-use amqp_link_types::state::LinkState;
+use amqp_link_state::state::LinkState;
 use amqp_link_types::types::{
     ApplyRemoteDetachError, Attach, Detach, DetachError, Handle, Role, SenderSettleMode,
 };

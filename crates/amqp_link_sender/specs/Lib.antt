@@ -3,7 +3,7 @@ pub use Rattle.amqp_link_core.specs.Attaching
 pub use Rattle.amqp_link_core.specs.Detaching
 pub use Rattle.amqp_link_core.specs.LinkStates
 pub use Rattle.amqp_link_core.specs.Targets
-pub use Rattle.amqp_link_types.specs.Counts
+pub use Rattle.amqp_link_state.specs.Counts
 pub use Rattle.amqp_link_types.specs.Deliveries
 pub use Rattle.amqp_link_types.specs.DeliveryStates
 pub use Rattle.amqp_link_types.specs.Entries

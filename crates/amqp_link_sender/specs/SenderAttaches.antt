@@ -2,8 +2,8 @@
 -- 2.7.3).
 use Rattle.std.specs.Prelude.{ℕ, Bool, true, false, List, [], ◌∷◌, map, Option, Some, None, is_none, option_map, Err}
 use Rattle.amqp_link_types.specs.declared.delivery.UnsettledMessage.{UnsettledMessage}
-use Rattle.amqp_link_types.specs.declared.state.LinkState.{LinkState}
-use Rattle.amqp_link_types.specs.declared.state.LinkState.TheVariants.{Unattached}
+use Rattle.amqp_link_state.specs.declared.state.LinkState.{LinkState}
+use Rattle.amqp_link_state.specs.declared.state.LinkState.TheVariants.{Unattached}
 use Rattle.amqp_link_types.specs.declared.types.attach.Attach.{Attach}
 use Rattle.amqp_link_types.specs.declared.types.definitions.OutputHandle.{OutputHandle}
 use Rattle.amqp_link_types.specs.declared.types.definitions.Handle.{Handle}

@@ -3,7 +3,7 @@
 use Rattle.std.specs.Prelude.{Bool, true, false, Option, Some, None}
 use Rattle.amqp_link_types.specs.declared.frame.LinkFrame.{LinkFrame}
 use Rattle.amqp_link_types.specs.declared.frame.LinkFrame.TheVariants as frame
-use Rattle.amqp_link_types.specs.declared.state.LinkState.{LinkState}
+use Rattle.amqp_link_state.specs.declared.state.LinkState.{LinkState}
 use Rattle.amqp_link_types.specs.declared.types.definitions.Error.{Error}
 use Rattle.amqp_link_types.specs.declared.types.errors.ApplyRemoteDetachError.{ApplyRemoteDetachError}
 use Rattle.amqp_link_types.specs.declared.types.errors.ApplyRemoteDetachError.TheVariants as apply

@@ -22,10 +22,10 @@ use crate::sender_link::room::payload_limit;
 use crate::sender_link::split::frames;
 use amqp_link_core::endpoint::target::LinkTarget;
 use amqp_link_core::link_parts::LinkParts;
+use amqp_link_state::role::SenderMarker;
+use amqp_link_state::state::{LinkFlowState, LinkState};
 use amqp_link_types::delivery::{Settlement, UnsettledMessage};
 use amqp_link_types::frame::LinkFrame;
-use amqp_link_types::role::SenderMarker;
-use amqp_link_types::state::{LinkFlowState, LinkState};
 use amqp_link_types::types::unsettled_map::UnsettledMap;
 use amqp_link_types::types::{
     DeliveryState, DeliveryTag, InputHandle, LinkStateError, MessageFormat, OutputHandle, Payload,
@@ -121,7 +121,7 @@ impl<T: LinkTarget> SenderLink<T> {
     ghost use Rattle.amqp_link_types.specs.Entries.{with_entry};
     ghost use Rattle.amqp_link_sender.specs.Waits.{waiting_error, after_waiting};
     ghost use Rattle.amqp_link_sender.specs.Senders.{transfer_tests, registering_tests, tagged_transfer_tests, payload_tests};
-    ghost use Rattle.amqp_link_types.specs.declared.state.LinkState.TheVariants.{Unattached};
+    ghost use Rattle.amqp_link_state.specs.declared.state.LinkState.TheVariants.{Unattached};
 
     /// A link that is not attached, without handles and unsettled deliveries. Takes no memory.
     ///

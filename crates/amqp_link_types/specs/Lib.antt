@@ -1,6 +1,5 @@
 pub use Rattle.amqp_link_values.specs.Data
 pub use Rattle.amqp_link_values.specs.Length
-pub mod Counts
 pub mod Deliveries
 pub mod DeliveryStates
 pub mod Entries

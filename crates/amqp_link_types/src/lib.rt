@@ -1,10 +1,8 @@
 //! The types of the link layer of AMQP 1.0 and what can be said of each by itself (OASIS AMQP 1.0
-//! core, 1.6, 2.7, 2.8 and 3.4): lengths, frames, flow states, unsettled deliveries.
+//! core, 1.6, 2.7, 2.8 and 3.4): lengths, frames, unsettled deliveries.
 #![tactic(auto)]
 
 pub mod delivery;
 pub mod frame;
-pub mod role;
 pub mod size;
-pub mod state;
 pub mod types;

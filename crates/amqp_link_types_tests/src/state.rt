@@ -1,6 +1,6 @@
 //! Worked values of flow states.
-use amqp_link_types::role::{IntoRole, ReceiverMarker, SenderMarker};
-use amqp_link_types::state::{InsufficientCredit, LinkFlowState, LinkFlowStateInner};
+use amqp_link_state::role::{IntoRole, ReceiverMarker, SenderMarker};
+use amqp_link_state::state::{InsufficientCredit, LinkFlowState, LinkFlowStateInner};
 use amqp_link_types::types::{Fields, LinkFlow, OutputHandle, Role, SequenceNo, Symbol, Value};
 use std::alloc::AllocError;
 use std::process::Abort;

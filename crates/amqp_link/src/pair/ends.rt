@@ -3,12 +3,12 @@
 //! The sender's attach goes first. Each of four steps takes memory, so that an exchange may stop
 //! between them; the attach on its way is kept, and handed in as a copy.
 ghost use Rattle.std.specs.Prelude.{◌≡◌, ◌⊎◌, ℕ, [], false, None, Some, IfOk, OnOk, OnErr};
-ghost use Rattle.amqp_link_types.specs.declared.state.LinkState.{LinkState as TheState};
+ghost use Rattle.amqp_link_state.specs.declared.state.LinkState.{LinkState as TheState};
 ghost use Rattle.amqp_link_types.specs.declared.types.definitions.OutputHandle.{OutputHandle as TheHandle};
 ghost use Rattle.amqp_link_core.specs.Attaching.{Fits, with_entries};
 ghost use Rattle.amqp_link_core.specs.LinkStates.{Call, next_state};
 ghost use Rattle.amqp_link.specs.Exchange.{CanAttach, MayStop, ends_at, asked, answered, plain_parts};
-ghost use Rattle.amqp_link_types.specs.Counts.{granted, stated_flow};
+ghost use Rattle.amqp_link_state.specs.Counts.{granted, stated_flow};
 ghost use Rattle.amqp_link.specs.Exchange.{IsFlow};
 ghost use Rattle.amqp_link.specs.Invariants.{CanGrant};
 ghost use Rattle.amqp_link.specs.Phases.{phase_of};
@@ -18,8 +18,8 @@ use amqp_link_core::endpoint::{LinkAttach, LinkExt};
 use amqp_link_core::link_parts::LinkParts;
 use amqp_link_receiver::receiver_link::ReceiverLink;
 use amqp_link_sender::sender_link::SenderLink;
+use amqp_link_state::state::LinkFlowStateInner;
 use amqp_link_types::frame::LinkFrame;
-use amqp_link_types::state::LinkFlowStateInner;
 use amqp_link_types::types::{
     Attach, LinkFlow, OutputHandle, ReceiverSettleMode, SenderSettleMode, SequenceNo, Source,
     Target, Text,

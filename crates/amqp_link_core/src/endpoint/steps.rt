@@ -1,7 +1,7 @@
 //! Two small steps that the attaches of both ends share.
 ghost use Rattle.std.specs.Prelude.{◌≡◌, if◌then◌else◌, unwrap_or};
 
-use amqp_link_types::state::LinkState;
+use amqp_link_state::state::LinkState;
 use amqp_link_types::types::OutputHandle;
 
 /// The number under which an end speaks, 0 where it has none yet (2.6.1). Takes no memory.

@@ -3,7 +3,7 @@
 ghost use Rattle.std.specs.Prelude.{◌≡◌, MatchOption, false, true, None, Some};
 ghost use Rattle.amqp_link_core.specs.LinkStates.{Call, next_state};
 
-use amqp_link_types::state::LinkState;
+use amqp_link_state::state::LinkState;
 
 /// The states after an attach was sent: after a complete one, and after one whose unsettled map is
 /// incomplete.

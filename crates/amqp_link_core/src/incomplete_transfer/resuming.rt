@@ -53,7 +53,8 @@ impl IncompleteTransfer {
         }
         if self.is_another_than_of(&transfer) {
             drop((transfer, payload));
-            return Err(ReceiverTransferError::InconsistentFieldInMultiFrameDelivery);
+            let refused = ReceiverTransferError::InconsistentFieldInMultiFrameDelivery;
+            return Err(refused);
         }
         self.add(transfer, payload, true)
     }

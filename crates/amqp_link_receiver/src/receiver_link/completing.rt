@@ -10,8 +10,8 @@ ghost use Rattle.amqp_link_receiver.specs.Completing.{entered, spent, reported};
 use crate::receiver_link::ReceiverLink;
 use crate::receiver_link::deliveries::is_settled;
 use amqp_link_core::endpoint::target::LinkTarget;
+use amqp_link_state::state::LinkState;
 use amqp_link_types::delivery::{Delivery, DeliveryInfo};
-use amqp_link_types::state::LinkState;
 use amqp_link_types::types::{
     DecodeError, DeliveryNumber, DeliveryState, DeliveryTag, FromBody, MessageDecodeError, Payload,
     ReceiverSettleMode, ReceiverTransferError, Transfer,

@@ -6,8 +6,8 @@ use amqp_link_core::endpoint::LinkDetach;
 use amqp_link_core::endpoint::detached::{detach_frame, outcome_of, reply_of};
 use amqp_link_core::endpoint::table::{after_detach_reply, after_remote_detach, after_sent_detach};
 use amqp_link_core::endpoint::target::LinkTarget;
+use amqp_link_state::state::LinkState;
 use amqp_link_types::frame::LinkFrame;
-use amqp_link_types::state::LinkState;
 use amqp_link_types::types::{ApplyRemoteDetachError, Detach, DetachError, Error};
 
 impl<T: LinkTarget> ReceiverLink<T> {

@@ -1,8 +1,8 @@
 //! Flows that go out from a receiver's end, and those that come to it (2.6.7).
 ghost use Rattle.std.specs.Prelude.{◌≡◌, ◌↔◌, true, None, Ok, Err};
 ghost use Rattle.std.specs.Prelude.{IfOk, IsErrOf, IsSomeAnd, OnOk, OnErr, MatchOption};
-ghost use Rattle.amqp_link_types.specs.Counts.{receiver_after, receiver_reply};
-ghost use Rattle.amqp_link_types.specs.Counts.{with_stated, stated_flow};
+ghost use Rattle.amqp_link_state.specs.Counts.{receiver_after, receiver_reply};
+ghost use Rattle.amqp_link_state.specs.Counts.{with_stated, stated_flow};
 
 use crate::receiver_link::ReceiverLink;
 use amqp_link_core::endpoint::target::LinkTarget;

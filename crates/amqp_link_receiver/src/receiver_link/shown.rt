@@ -3,8 +3,8 @@ use crate::receiver_link::ReceiverLink;
 use amqp_link_core::endpoint::attached::sent_limit;
 use amqp_link_core::endpoint::target::LinkTarget;
 use amqp_link_core::endpoint::{Link, LinkExt};
-use amqp_link_types::role::ReceiverMarker;
-use amqp_link_types::state::{LinkFlowState, LinkState};
+use amqp_link_state::role::ReceiverMarker;
+use amqp_link_state::state::{LinkFlowState, LinkState};
 use amqp_link_types::types::unsettled_map::UnsettledMap;
 use amqp_link_types::types::{self, DeliveryState, Fields};
 

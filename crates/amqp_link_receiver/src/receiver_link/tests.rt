@@ -6,9 +6,9 @@ use amqp_link_samples::table::{
     Call, STATES, answered, attached, detach, is_illegal, is_illegal_outcome, left, let_go, taken,
     wanted,
 };
+use amqp_link_state::state::LinkState;
 use amqp_link_types::delivery::Outcomes;
 use amqp_link_types::frame::LinkFrame;
-use amqp_link_types::state::LinkState;
 use amqp_link_types::types::{
     Attach, OutputHandle, ReceiverAttachError, Role, SenderSettleMode, Target, UnsettledMap,
 };

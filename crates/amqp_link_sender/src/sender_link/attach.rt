@@ -19,9 +19,9 @@ use amqp_link_core::endpoint::dividing::{divided, fits_whole};
 use amqp_link_core::endpoint::steps::{handle_or_zero, step_of};
 use amqp_link_core::endpoint::table::{after_incoming_attach, after_sent_attach};
 use amqp_link_core::endpoint::target::LinkTarget;
+use amqp_link_state::state::LinkState;
 use amqp_link_types::delivery::{Outcomes, UnsettledMessage};
 use amqp_link_types::frame::LinkFrame;
-use amqp_link_types::state::LinkState;
 use amqp_link_types::types::unsettled_map::UnsettledMap;
 use amqp_link_types::types::{
     Attach, DeliveryState, Fields, Handle, InputHandle, LinkStateError, OutputHandle,

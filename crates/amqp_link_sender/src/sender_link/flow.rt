@@ -1,6 +1,6 @@
 //! Flows that come to a sender's end (2.6.7), and transfers, which have no business there.
 ghost use Rattle.std.specs.Prelude.{◌≡◌, ◌+◌, ◌%◌, ◌^◌, Ok, Err, OnOk, OnErr, MatchOption};
-ghost use Rattle.amqp_link_types.specs.Counts.{limit_of, credit_after, sender_after, sender_reply};
+ghost use Rattle.amqp_link_state.specs.Counts.{limit_of, credit_after, sender_after, sender_reply};
 
 use crate::sender_link::SenderLink;
 use amqp_link_core::endpoint::target::LinkTarget;

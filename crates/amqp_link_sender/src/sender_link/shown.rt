@@ -3,9 +3,9 @@ use crate::sender_link::SenderLink;
 use amqp_link_core::endpoint::attached::sent_limit;
 use amqp_link_core::endpoint::target::LinkTarget;
 use amqp_link_core::endpoint::{Link, LinkExt};
+use amqp_link_state::role::SenderMarker;
+use amqp_link_state::state::{LinkFlowState, LinkState};
 use amqp_link_types::delivery::UnsettledMessage;
-use amqp_link_types::role::SenderMarker;
-use amqp_link_types::state::{LinkFlowState, LinkState};
 use amqp_link_types::types::unsettled_map::UnsettledMap;
 use amqp_link_types::types::{self, Fields};
 

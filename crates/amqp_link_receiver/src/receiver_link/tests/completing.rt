@@ -2,8 +2,8 @@
 use crate::receiver_link::ReceiverLink;
 use crate::samples::{count_tag, parts, payload_of};
 use amqp_link_core::endpoint::LinkExt;
+use amqp_link_state::state::{LinkFlowStateInner, LinkState};
 use amqp_link_types::delivery::{Delivery, DeliveryInfo};
-use amqp_link_types::state::{LinkFlowStateInner, LinkState};
 use amqp_link_types::types::{
     DataBody, DecodeError, DeliveryState, DeliveryTag, FromBody, MessageDecodeError, OutputHandle,
     Payload, ReceiverSettleMode, ReceiverTransferError, SenderSettleMode, Target, Transfer, Whole,

@@ -2,8 +2,8 @@
 use crate::receiver_link::ReceiverLink;
 use crate::samples::{fields, parts};
 use amqp_link_samples::links::{FlowTold, told, told_back};
+use amqp_link_state::state::LinkFlowStateInner;
 use amqp_link_types::frame::LinkFrame;
-use amqp_link_types::state::LinkFlowStateInner;
 use amqp_link_types::types::{
     FlowError, LinkFlow, LinkRelayError, OutputHandle, SenderSettleMode, Target,
 };

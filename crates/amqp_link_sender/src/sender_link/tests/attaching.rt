@@ -5,9 +5,9 @@ use crate::sender_link::tests::{Told, link, new_link, send_flagged, told_by, tol
 use amqp_link_core::endpoint::target::LinkTarget;
 use amqp_link_core::endpoint::{LinkAttach, LinkDetach, LinkExt};
 use amqp_link_core::link_parts::LinkParts;
+use amqp_link_state::state::LinkState;
 use amqp_link_types::delivery::{Outcomes, UnsettledMessage};
 use amqp_link_types::frame::LinkFrame;
-use amqp_link_types::state::LinkState;
 use amqp_link_types::types::{
     Attach, Detach, Handle, OutputHandle, ReceiverSettleMode, Role, SenderAttachError,
     SenderSettleMode, Target, TargetArchetype,

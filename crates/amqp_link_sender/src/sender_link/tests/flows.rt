@@ -2,7 +2,7 @@
 use crate::samples::{fields, parts, payload_of};
 use crate::sender_link::SenderLink;
 use amqp_link_samples::links::{FlowTold, told_back};
-use amqp_link_types::state::LinkFlowStateInner;
+use amqp_link_state::state::LinkFlowStateInner;
 use amqp_link_types::types::{
     LinkFlow, LinkRelayError, OutputHandle, SenderSettleMode, Target, Transfer,
 };

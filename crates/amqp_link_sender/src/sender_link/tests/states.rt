@@ -7,8 +7,8 @@ use amqp_link_samples::table::{
     Call, STATES, answered, attached, detach, is_illegal, is_illegal_outcome, left, let_go, taken,
     wanted,
 };
+use amqp_link_state::state::LinkState;
 use amqp_link_types::delivery::UnsettledMessage;
-use amqp_link_types::state::LinkState;
 use amqp_link_types::types::{Role, SenderSettleMode, Target};
 use std::process::Abort;
 

@@ -3,8 +3,8 @@ use crate::samples::{attach_of, payload_of, text};
 use crate::sender_link::Waiting;
 use crate::sender_link::tests::{Told, link, told_by};
 use amqp_link_core::endpoint::LinkExt;
+use amqp_link_state::state::LinkState;
 use amqp_link_types::frame::LinkFrame;
-use amqp_link_types::state::LinkState;
 use amqp_link_types::types::{
     Detach, Error, Handle, Role, SenderSettleMode, SessionStopReason, Symbol,
 };

@@ -4,7 +4,7 @@ use Rattle.std.specs.Prelude.{ℕ, ◌+◌, ◌-◌, ◌%◌, ◌^◌, ℤ, pos,
 use Rattle.std.specs.Prelude.{Bool, true, false, ◌||◌, Option, Some, None, unwrap_or}
 use Rattle.std.specs.Int.{w32, saturate_unsigned}
 use Rattle.std.specs.Option.{option_map_or}
-use Rattle.amqp_link_types.specs.declared.state.LinkFlowStateInner.{LinkFlowStateInner}
+use Rattle.amqp_link_state.specs.declared.state.LinkFlowStateInner.{LinkFlowStateInner}
 use Rattle.amqp_link_types.specs.declared.types.definitions.OutputHandle.{OutputHandle}
 use Rattle.amqp_link_types.specs.declared.types.performatives.LinkFlow.{LinkFlow}
 

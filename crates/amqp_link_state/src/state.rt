@@ -5,13 +5,13 @@
 ghost use Rattle.std.specs.Prelude.{◌≡◌};
 ghost use Rattle.std.specs.Borrow.{Lends, sem};
 ghost use Rattle.std.specs.contracts.option.Option.{the_row as option_row};
-ghost use Rattle.amqp_link_types.specs.contracts.state.LinkFlowState.{the_row as flow_row};
+ghost use Rattle.amqp_link_state.specs.contracts.state.LinkFlowState.{the_row as flow_row};
 ghost use Rattle.amqp_link_values.specs.contracts.fields.Fields.{the_row as fields_row};
 
 mod flow;
 
 use crate::role::{ReceiverMarker, SenderMarker};
-use crate::types::{Fields, SequenceNo};
+use amqp_link_types::types::{Fields, SequenceNo};
 use std::marker::{Model, PhantomData};
 use thiserror::Error;
 
@@ -103,7 +103,7 @@ pub struct LinkFlowState<R> {
 impl<R> Model for LinkFlowState<R> {
     ghost use Rattle.std.specs.Coded.{codes};
     ghost use Rattle.amqp_link_values.specs.contracts.fields.Fields as fields;
-    ghost use Rattle.amqp_link_types.specs.declared.state.LinkFlowStateInner.{LinkFlowStateInner as Inner};
+    ghost use Rattle.amqp_link_state.specs.declared.state.LinkFlowStateInner.{LinkFlowStateInner as Inner};
 
     ghost Value = { Inner };
 

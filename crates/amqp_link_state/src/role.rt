@@ -1,7 +1,7 @@
 //! The two ends of a link as types (2.8.1).
 ghost use Rattle.std.specs.Prelude.{◌≡◌};
 
-use crate::types::Role;
+use amqp_link_types::types::Role;
 
 /// Marks what belongs to a sender.
 #[derive(Clone, Copy, Debug, PartialEq, Eq)]

@@ -4,13 +4,13 @@
 ghost use Rattle.std.specs.Prelude.{◌≡◌, ◌↔◌, ◌+◌, ◌%◌, ◌^◌, ◌<◌, ◌≤◌, true, if◌then◌else◌, None};
 ghost use Rattle.std.specs.Prelude.{IfOk, IfErr, IsErr, OnErr, OnOk};
 ghost use Rattle.std.specs.Int.{w32, to_be_bytes};
-ghost use Rattle.amqp_link_types.specs.Counts.{sdiff, granted as granted_by, limit_of, after_consuming};
-ghost use Rattle.amqp_link_types.specs.Counts.{flow_of, credit_after, sender_after, sender_reply};
-ghost use Rattle.amqp_link_types.specs.Counts.{receiver_after, receiver_reply, with_stated, stated_flow};
+ghost use Rattle.amqp_link_state.specs.Counts.{sdiff, granted as granted_by, limit_of, after_consuming};
+ghost use Rattle.amqp_link_state.specs.Counts.{flow_of, credit_after, sender_after, sender_reply};
+ghost use Rattle.amqp_link_state.specs.Counts.{receiver_after, receiver_reply, with_stated, stated_flow};
 
 use crate::role::{ReceiverMarker, SenderMarker};
 use crate::state::{InsufficientCredit, LinkFlowState, LinkFlowStateInner};
-use crate::types::{Handle, LinkFlow, OutputHandle, ReceiverTransferError, SequenceNo};
+use amqp_link_types::types::{Handle, LinkFlow, OutputHandle, ReceiverTransferError, SequenceNo};
 use amqp_link_values::copy::copy_of;
 use std::alloc::AllocError;
 
