@@ -28,13 +28,13 @@ pub use amqp_link_types::delivery::{
 pub use amqp_link_types::frame::{LinkFrame, LinkTransfer, clear_continuation_fields};
 pub use amqp_link_types::types::{
     ApplyRemoteDetachError, Attach, ConnectionStopReason, DataBody, DecodeError, DeliveryNumber,
-    DeliveryState, DeliveryTag, Descriptor, Detach, DetachError, Disposition, DistributionMode,
-    Error, Fields, FilterSet, FlowError, FromBody, Handle, InputHandle, LinkFlow, LinkRelayError,
-    LinkStateError, Message, MessageDecodeError, MessageFormat, Outcome, OutputHandle, Payload,
-    ReceiverAttachError, ReceiverSettleMode, ReceiverTransferError, Role, SenderAttachError,
-    SenderSettleMode, SequenceNo, SessionStopReason, Source, Symbol, Symbols, Target,
-    TargetArchetype, TerminusDurability, TerminusExpiryPolicy, Text, Transfer, UnsettledMap, Value,
-    Whole,
+    DeliveryState, DeliveryTag, Descriptor, Detach, DetachError, Disposition, DispositionError,
+    DistributionMode, Error, Fields, FilterSet, FlowError, FromBody, Handle, InputHandle, LinkFlow,
+    LinkRelayError, LinkStateError, Message, MessageDecodeError, MessageFormat, Outcome,
+    OutputHandle, Payload, ReceiverAttachError, ReceiverSettleMode, ReceiverTransferError, Role,
+    SenderAttachError, SenderSettleMode, SequenceNo, SessionStopReason, Source, Symbol, Symbols,
+    Target, TargetArchetype, TerminusDurability, TerminusExpiryPolicy, Text, Transfer,
+    UnsettledMap, Value, Whole,
 };
 pub use amqp_link_values::length::EncodedLen;
 pub use pair::{Arrived, Pair, PairError, Sent};

@@ -1,5 +1,5 @@
 -- The attach that an end sends, and the one that comes (OASIS AMQP 1.0 core, 2.6.3 and 2.7.3).
-use Rattle.std.specs.Prelude.{◌≡◌, ℕ, Bool, false, List, [], Option, None, Some, is_none, Result, ◌==◌, min, if◌then◌else◌}
+use Rattle.std.specs.Prelude.{◌≡◌, ℕ, Bool, false, List, [], Option, None, Some, is_none, ◌==◌, min, if◌then◌else◌}
 use Rattle.std.specs.Str.{bytes_eq}
 use Rattle.indexmap.specs.IndexMap.{insert_all}
 use Rattle.amqp_link_types.specs.declared.frame.LinkFrame.{LinkFrame}
@@ -10,14 +10,9 @@ use Rattle.amqp_link_types.specs.declared.types.definitions.OutputHandle.{Output
 use Rattle.amqp_link_types.specs.declared.types.delivery_state.DeliveryState.{DeliveryState}
 use Rattle.amqp_link_types.specs.declared.types.terminus.TargetArchetype.{TargetArchetype}
 use Rattle.amqp_link_values.specs.Data.{Data}
-use Rattle.amqp_link_types.specs.declared.types.errors.LinkStateError.{LinkStateError}
-use Rattle.amqp_link_types.specs.Entries.{Tag, Entries}
+use Rattle.amqp_link_types.specs.Entries.{Entries}
 use Rattle.amqp_link_core.specs.Attaching.{IsDivided, NeverFits}
 use Rattle.amqp_link_core.specs.LinkStates.{Call, next_state}
-
--- the tag of a delivery that a call ended, and what became of it
-abbrev pub Ended : Type 0
-Ended = Tag × Result (Option DeliveryState) LinkStateError
 
 -- An end in this state, with this output handle and frame limit, sends its attach: the whole one with
 -- as many of the entries as fit, by a row of the table for a complete or an incomplete one.

@@ -14,7 +14,8 @@ ghost use Rattle.amqp_link_types.specs.declared.types.definitions.Error.{Error a
 ghost use Rattle.amqp_link_types.specs.declared.types.delivery_state.DeliveryState.{DeliveryState as State};
 ghost use Rattle.amqp_link_types.specs.declared.types.attach.Attach.{Attach as TheAttach};
 ghost use Rattle.amqp_link_types.specs.Entries.{Entries};
-ghost use Rattle.amqp_link_core.specs.AttachSent.{SendsAttach, IsTooLarge, Ended, limit_of};
+ghost use Rattle.amqp_link_core.specs.AttachSent.{SendsAttach, IsTooLarge, limit_of};
+ghost use Rattle.amqp_link_types.specs.Deliveries.{Ended};
 ghost use Rattle.amqp_link_core.specs.LinkStates.{Call, next_state};
 ghost use Rattle.amqp_link_core.specs.Detaching.{detach_frame, recorded, remote_error};
 

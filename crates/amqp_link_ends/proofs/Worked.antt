@@ -14,7 +14,7 @@ use Rattle.amqp_link_payloads.specs.declared.error.DecodeError.{DecodeError}
 use Rattle.amqp_link_types.specs.declared.types.errors.ReceiverTransferError.TheVariants.{DeliveryIdIsNone, TransferLimitExceeded}
 use Rattle.amqp_link_payloads.specs.declared.message.Message.{Message}
 use Rattle.amqp_link_receiver.specs.Completing.{is_illegal_mode, info_of, unsettled_tag, first_of, transfer_refusal, completion_refusal}
-use Rattle.amqp_link_receiver.specs.ReceiverDeliveries.{is_settled, settles_at_once, told_of}
+use Rattle.amqp_link_receiver.specs.ReceiverDeliveries.{is_settled, told_of}
 use Rattle.amqp_link_receiver.specs.Receivers.{Receiver}
 use Rattle.amqp_link_sender.specs.Senders.{Sender, next_tag, delivery_of, settled_by_mode, payload_tests, missing_credit, refused}
 
@@ -150,9 +150,6 @@ third = record at_rest {
 
 unset_flag_settles_nothing : is_settled third ≡ false
 unset_flag_settles_nothing = refl
-
-mode_first_settles_at_once : settles_at_once First ≡ true
-mode_first_settles_at_once = refl
 
 session_is_told_in_mode_second : told_of (record (receiver 1) { rcv_settle_mode = Second }) third ≡ Some (3, 1 ∷ [])
 session_is_told_in_mode_second = refl

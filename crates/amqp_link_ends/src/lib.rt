@@ -2,6 +2,8 @@
 #![tactic(auto)]
 
 #[cfg(test)]
+mod dispositions;
+#[cfg(test)]
 mod generic;
 #[cfg(test)]
 mod samples;

@@ -1,7 +1,7 @@
 //! Samples for tests that take memory: a test ends where it is wanting.
 use amqp_link_core::link_parts::LinkParts;
 use amqp_link_samples::{links, table};
-use amqp_link_types::types::{Attach, Role, SenderSettleMode, Target};
+use amqp_link_types::types::{Attach, DeliveryTag, Role, SenderSettleMode, Target};
 use std::process::Abort;
 
 pub(crate) fn parts(
@@ -14,4 +14,16 @@ pub(crate) fn parts(
 
 pub(crate) fn coming(rt: &(impl Abort + AllocGlobal), role: Role, incomplete: bool) -> Attach {
     table::coming(rt.alloc(), role, incomplete).expect(rt, "memory")
+}
+
+pub(crate) fn attach_of(
+    rt: &(impl Abort + AllocGlobal),
+    role: Role,
+    mode: SenderSettleMode,
+) -> Attach {
+    links::attach_of(rt.alloc(), role, mode).expect(rt, "memory")
+}
+
+pub(crate) fn count_tag(rt: &(impl Abort + AllocGlobal), count: u8) -> DeliveryTag {
+    links::count_tag(rt.alloc(), count).expect(rt, "memory")
 }

@@ -3,22 +3,16 @@
 use Rattle.std.specs.Prelude.{ℕ, Bool, true, false, ◌||◌, List, Option, Some, None, unwrap_or, if◌then◌else◌}
 use Rattle.amqp_link_types.specs.declared.frame.LinkFrame.{LinkFrame}
 use Rattle.amqp_link_types.specs.declared.frame.LinkFrame.TheVariants as frame
-use Rattle.amqp_link_types.specs.declared.types.definitions.ReceiverSettleMode.{ReceiverSettleMode}
-use Rattle.amqp_link_types.specs.declared.types.definitions.ReceiverSettleMode.TheVariants.{First, Second}
 use Rattle.amqp_link_types.specs.declared.types.delivery_state.DeliveryState.{DeliveryState}
 use Rattle.amqp_link_types.specs.declared.types.transfer.Transfer.{Transfer}
 use Rattle.amqp_link_types.specs.DeliveryStates.{is_terminal}
 use Rattle.amqp_link_types.specs.Entries.{Tag, entry_at, with_entry, without_entry}
+use Rattle.amqp_link_dispositions.specs.Said.{settles_at_once}
 use Rattle.amqp_link_receiver.specs.Receivers.{Receiver}
 
 -- a transfer that does not say so is not settled
 abbrev pub is_settled : Transfer → Bool
 is_settled t = unwrap_or t.settled false
-
--- a receiver in this mode settles as deliveries come, by itself
-abbrev pub settles_at_once : ReceiverSettleMode → Bool
-settles_at_once First = true
-settles_at_once Second = false
 
 -- whether what is kept of a delivery is a terminal state
 abbrev pub has_ended : Option (Option DeliveryState) → Bool

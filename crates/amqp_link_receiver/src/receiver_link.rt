@@ -5,6 +5,7 @@ mod attach;
 mod completing;
 mod deliveries;
 mod detach;
+mod disposing;
 mod flow;
 mod shown;
 #[cfg(test)]

@@ -1,5 +1,5 @@
 -- A stable sort by a number gives the one list by rising numbers.
-use Rattle.std.proofs.Common.{◌≡◌, ◌∙◌, sym, ap, subst, ℕ, suc, zero, ◌+◌, ◌<◌, ◌≤◌, Bool, true, false, cond, ◌&&◌, not, List, [], ◌∷◌, length, refl, nat_le, nat_eq, arith, inl, inr}
+use Rattle.std.proofs.Common.{◌≡◌, ◌∙◌, sym, ap, subst, ℕ, suc, zero, ◌+◌, ◌<◌, ◌≤◌, Bool, true, false, cond, ◌&&◌, not, List, [], ◌∷◌, map, length, refl, nat_le, nat_eq, arith, inl, inr}
 use Rattle.std.specs.List.{filter, AllByRecursion}
 use Rattle.std.proofs.lemmas.Bool.Decides.{nat_tests}
 use Rattle.std.proofs.lemmas.Bool.{cases_lt}
@@ -207,3 +207,17 @@ module _ {A : Type 0} (n : A → ℕ) where
   sorted_by-permutes [] = IsPermutation-refl []
   sorted_by-permutes (x ∷ xs) = IsPermutation-trans (x ∷ xs) (x ∷ sorted_by n xs) (placed n x (sorted_by n xs))
       (IsPermutation-cons x xs (sorted_by n xs) (sorted_by-permutes xs)) (placed-permutes x (sorted_by n xs))
+
+-- a list whose elements are changed and keep their numbers is sorted alike
+module _ {A B : Type 0} (f : A → B) (n : B → ℕ) where
+  placed-map : (a : A) (xs : List A) → map f (placed (λ x. n (f x)) a xs) ≡ placed n (f a) (map f xs)
+  placed-map a [] = refl
+  placed-map a (x ∷ xs) =
+      elim (nat_le (n (f a)) (n (f x))) as (λ b. map f (cond b (a ∷ x ∷ xs) (x ∷ placed (λ y. n (f y)) a xs)) ≡ cond b (f a ∷ f x ∷ map f xs) (f x ∷ placed n (f a) (map f xs))) [
+        | true ↦ refl
+        | false ↦ ap (λ l. f x ∷ l) (placed-map a xs)
+      ]
+
+  pub sorted-map : (xs : List A) → map f (sorted_by (λ x. n (f x)) xs) ≡ sorted_by n (map f xs)
+  sorted-map [] = refl
+  sorted-map (x ∷ xs) = placed-map x (sorted_by (λ y. n (f y)) xs) ∙ ap (placed n (f x)) (sorted-map xs)

@@ -3,6 +3,9 @@ pub use Rattle.amqp_link_core.specs.Attaching
 pub use Rattle.amqp_link_core.specs.Detaching
 pub use Rattle.amqp_link_core.specs.LinkStates
 pub use Rattle.amqp_link_core.specs.Targets
+pub use Rattle.amqp_link_dispositions.specs.Ending
+pub use Rattle.amqp_link_dispositions.specs.Listed
+pub use Rattle.amqp_link_dispositions.specs.Said
 pub use Rattle.amqp_link_state.specs.Counts
 pub use Rattle.amqp_link_types.specs.Deliveries
 pub use Rattle.amqp_link_types.specs.DeliveryStates
@@ -14,6 +17,7 @@ pub use Rattle.amqp_link_types.specs.Size
 pub use Rattle.amqp_link_types.specs.Unsettled
 pub mod Room
 pub mod SenderAttaches
+pub mod SenderDisposes
 pub mod Senders
 pub mod Split
 pub mod Waits

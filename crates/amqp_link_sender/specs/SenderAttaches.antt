@@ -16,7 +16,8 @@ use Rattle.amqp_link_types.specs.declared.types.errors.SenderAttachError.TheVari
 use Rattle.amqp_link_types.specs.declared.types.terminus.TargetArchetype.{TargetArchetype}
 use Rattle.amqp_link_types.specs.Entries.{Entries}
 use Rattle.amqp_link_types.specs.Refusals.{refusal}
-use Rattle.amqp_link_core.specs.AttachSent.{Ended, limit_of, smaller_limit, joined, is_foreign, next_of}
+use Rattle.amqp_link_types.specs.Deliveries.{Ended}
+use Rattle.amqp_link_core.specs.AttachSent.{limit_of, smaller_limit, joined, is_foreign, next_of}
 use Rattle.amqp_link_sender.specs.Senders.{Sender}
 
 -- the count that an attach states: the first attach of a link the initial one, each later one the

@@ -10,6 +10,7 @@ ghost use Rattle.amqp_link_sender.specs.Split.{Least};
 
 mod attach;
 mod detach;
+mod disposing;
 mod flow;
 mod room;
 mod shown;

@@ -1,6 +1,6 @@
 -- A search for a tag, and what puts and removals keep.
-use Rattle.std.proofs.Common.{◌≡◌, ℕ, zero, suc, ◌<◌, ◌+◌, Bool, true, false, cond, not, nat_lt, List, [], ◌∷◌, ◌++◌, map, length, slice_get, slice_set, take, position, refl, sym, ap, ◌∙◌, subst, arith, Some, None, Option, IfSome, IfNone, is_some}
-use Rattle.std.specs.List.{position_or_len, swap_remove, slice_index_or, IsDistinct}
+use Rattle.std.proofs.Common.{◌≡◌, ℕ, zero, suc, ◌<◌, ◌+◌, Bool, true, false, cond, ◌||◌, not, nat_lt, List, [], ◌∷◌, ◌++◌, map, length, slice_get, slice_set, take, position, refl, sym, ap, ◌∙◌, subst, arith, Some, None, Option, IfSome, IfNone, is_some}
+use Rattle.std.specs.List.{position_or_len, swap_remove, slice_index_or, IsDistinct, AllByRecursion}
 use Rattle.std.specs.Map.{keys_of, values_of, set_value}
 use Rattle.std.specs.Str.{bytes_eq}
 use lib.ListN.{length-map}
@@ -11,7 +11,9 @@ use Rattle.std.proofs.lemmas.Map.Made.{is_some-lookup}
 use Rattle.std.proofs.lemmas.Cmp.{nat_list_eq_equiv}
 use Rattle.indexmap.specs.IndexMap.{set_value_at}
 use Rattle.indexmap.proofs.MapLemmas.{Found-position, Missing-position, insert_entry-first, insert_entry-absent, swap_remove_entry-found, swap_remove_entry-missing, distinct-take}
-use Rattle.amqp_link_types.specs.Entries.{Tag, Entries, entry_at, with_entry, IsMap}
+use Rattle.std.proofs.lemmas.Slice.Eq.{bytes_eq-Decides}
+use Rattle.std.proofs.lemmas.List.Quantifiers.{position-Some}
+use Rattle.amqp_link_types.specs.Entries.{Tag, Entries, entry_at, with_entry, changed_at, IsMap}
 use Rattle.amqp_link_types.specs.Found.{FoundAt, IsMissing}
 
 module _ {X Y : Type 0} (f : X → Y) (p : Y → Bool) where
@@ -22,11 +24,42 @@ module _ {X Y : Type 0} (f : X → Y) (p : Y → Bool) where
   pub position-map : (xs : List X) → position p (map f xs) ≡ position (λ x. p (f x)) xs
   position-map xs = λ i. cond (nat_lt (or_len-map xs i) (length-map xs f i)) (Some (or_len-map xs i)) None
 
+module _ {V : Type 0} (f : V → V) where
+  -- a pair with another tag stays, and the one with the tag is changed
+  stays : (t : Tag) (e : Tag × V) (es : Entries V) → bytes_eq t e.0 ≡ false → changed_at f (t ∷ []) (e ∷ es) ≡ e ∷ changed_at f (t ∷ []) es
+  stays t e es h = ap (λ b. cond (b || false) (e.0, f e.1) e ∷ changed_at f (t ∷ []) es) h
+
+  changes : (t : Tag) (e : Tag × V) (es : Entries V) → bytes_eq t e.0 ≡ true → changed_at f (t ∷ []) (e ∷ es) ≡ (e.0, f e.1) ∷ changed_at f (t ∷ []) es
+  changes t e es h = ap (λ b. cond (b || false) (e.0, f e.1) e ∷ changed_at f (t ∷ []) es) h
+
+  pub changed-none : (t : Tag) (es : Entries V) → AllByRecursion (λ k. bytes_eq t k ≡ false) (keys_of es) → changed_at f (t ∷ []) es ≡ es
+  changed-none t [] h = refl
+  changed-none t (e ∷ es) h = stays t e es h.0 ∙ ap (λ l. e ∷ l) (changed-none t es h.1)
+
+  changed-first : (t : Tag) (es : Entries V) (i : ℕ) (e : Tag × V) → IsMap es → bytes_eq t (slice_index_or es i e).0 ≡ true
+      → ((k : ℕ) → k < i → bytes_eq t (slice_index_or es k e).0 ≡ false) → i < length es → e ≡ slice_index_or es i e
+      → changed_at f (t ∷ []) es ≡ slice_set es i (e.0, f e.1)
+  unfolding IsDistinct
+  changed-first t [] i e m first before within at = absurd (omega arith)
+  changed-first t (x ∷ es) zero e m first before within at =
+      let is : t ≡ x.0 = (bytes_eq-Decides t x.0).0 first in
+      changes t x es first
+      ∙ ap (λ l. (x.0, f x.1) ∷ l) (changed-none t es (subst (λ k. AllByRecursion (λ y. bytes_eq k y ≡ false) (keys_of es)) (sym is) m.0))
+      ∙ ap (λ y. (y.0, f y.1) ∷ es) (sym at)
+  changed-first t (x ∷ es) (suc i) e m first before within at =
+      stays t x es (before zero (omega arith))
+      ∙ ap (λ l. x ∷ l) (changed-first t es i e m.1 first (λ k h. before (suc k) (omega arith)) (omega arith) at)
+
 pub missing_from_position : {V : Type 0} (es : Entries V) (t : Tag) → position (λ e. bytes_eq t e.0) es ≡ None → IsMissing es t
 missing_from_position es t p =
     let k = position-map (λ e. e.0) (bytes_eq t) es ∙ p in
     let m = Missing-position (bytes_eq t) es k in
-    record { value = m.value; put = λ v. insert_entry-absent bytes_eq t v es m.absent; removed = swap_remove_entry-missing (bytes_eq t) es k }
+    record {
+      value = m.value;
+      put = λ v. insert_entry-absent bytes_eq t v es m.absent;
+      removed = swap_remove_entry-missing (bytes_eq t) es k;
+      changed = λ f. changed-none f t es m.absent;
+    }
 
 module _ {V : Type 0} where
   value_there : (es : Entries V) (i : ℕ) (e : Tag × V) → i < length es → e ≡ slice_index_or es i e → slice_get (values_of es) i ≡ Some e.1
@@ -43,11 +76,14 @@ pub found_from_position : {V : Type 0} (es : Entries V) (t : Tag) (i : ℕ) → 
 found_from_position es t i p =
     let k = position-map (λ e. e.0) (bytes_eq t) es ∙ p in
     let f = Found-position (bytes_eq t) es i k in
+    let there = λ (e : Tag × _). position-Some (λ y. bytes_eq t y.0) es i e p in
     record {
       within = f.within;
+      tag = λ e at. ap (λ y. y.0) at ∙ sym ((bytes_eq-Decides t (slice_index_or es i e).0).0 (there e).1);
       value = λ e at. f.value ∙ value_there es i e f.within at;
       put = λ e v at. insert_entry-first bytes_eq t v es i f.first ∙ set_there es i e v f.within at;
       removed = λ e. swap_remove_entry-found (bytes_eq t) es i e k;
+      changed = λ e g v m at is. changed-first g t es i e m (there e).1 (there e).2 f.within at ∙ ap (λ w. slice_set es i (e.0, w)) (sym is);
     }
 
 -- the same, of a search's answer

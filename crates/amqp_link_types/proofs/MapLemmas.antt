@@ -1,14 +1,20 @@
 -- Puts and look-ups of maps from tags.
-use Rattle.std.proofs.Common.{◌≡◌, ◌≢◌, ◌∙◌, sym, ap, Bool, true, false, cond, [], ◌∷◌, ◌++◌, refl, ℕ, suc, ◌+◌, ◌-◌, Some, None, not, nat_lt, length, take, position, arith, length-append, slice_set, slice_index_or}
+use Rattle.std.proofs.Common.{◌≡◌, ◌≢◌, ◌∙◌, sym, ap, subst, Bool, true, false, cond, [], ◌∷◌, ◌++◌, refl, ℕ, suc, ◌+◌, ◌-◌, ◌||◌, List, map, Option, Some, None, not, slice_get, nat_lt, length, take, position, arith, length-append, slice_set, slice_index_or}
 use Rattle.std.specs.Prelude.{bytes_eq}
-use Rattle.std.specs.List.{position_or_len}
+use Rattle.std.specs.List.{position_or_len, list_any}
+use Rattle.std.proofs.lemmas.List.Folds.{list_any-append}
 use Rattle.std.specs.Map.{keys_of}
 use lib.ListN.{length-map}
 use Rattle.std.proofs.Math.Seq.{set-append_seam, take-append_seam}
 use Rattle.std.proofs.lemmas.Bool.Decides.{nat_tests}
 use Rattle.std.proofs.lemmas.Slice.Eq.{bytes_eq-Decides}
-use Rattle.indexmap.proofs.MapLemmas.{swap_remove_entry-found}
-use Rattle.amqp_link_types.specs.Entries.{Tag, Entries, entry_at, with_entry, without_entry}
+use Rattle.std.proofs.lemmas.Option.{slice_get-get_or}
+use Rattle.std.proofs.lemmas.Cmp.{nat_list_eq_equiv}
+use Rattle.indexmap.proofs.MapLemmas.{Found-position, absent_from_lookup, index-absent, insert_entry-absent, swap_remove_entry-found, swap_remove_entry-missing}
+use Rattle.indexmap.proofs.RemoveLemmas.{none_out, swap_out}
+use Rattle.amqp_link_types.specs.Entries.{Tag, Entries, entry_at, with_entry, without_entry, changed_at, IsMap}
+use Rattle.amqp_link_types.specs.Found.{IsMissing}
+use Rattle.amqp_link_types.proofs.EntriesLemmas.{changed-none}
 
 pub false_is_not_true : false ≡ true → ⊥
 false_is_not_true h = cc
@@ -101,3 +107,74 @@ module _ {X : Type 0} where
     where
       below : (n : ℕ) → nat_lt n (n + 1) ≡ true
       below n = grind (arith, nat_tests)
+
+module _ {X : Type 0} where
+  -- what a look-up that finds nothing tells
+  pub missing_from_lookup : (m : Entries X) (tag : Tag) → entry_at m tag ≡ None → IsMissing m tag
+  missing_from_lookup m tag h =
+      let absent = absent_from_lookup (bytes_eq tag) m h in
+      record {
+        value = h;
+        put = λ v. insert_entry-absent bytes_eq tag v m absent;
+        removed = swap_remove_entry-missing (bytes_eq tag) m (index-absent (bytes_eq tag) m absent);
+        changed = λ f. changed-none f tag m absent;
+      }
+
+  -- what a removal leaves: a map, in which the tag is not found, and the others are as before
+  record Leaves (m : Entries X) (tag : Tag) : Type 0 where
+    pub is_map : IsMap (without_entry m tag)
+    pub found : (other : Tag) → entry_at (without_entry m tag) other ≡ cond (bytes_eq tag other) None (entry_at m other)
+
+  leaves_at : (m : Entries X) (tag : Tag) (d : Tag × X) → IsMap m → (r : Option ℕ) → position (bytes_eq tag) (keys_of m) ≡ r → Leaves m tag
+  leaves_at m tag d is None p =
+      let same = swap_remove_entry-missing (bytes_eq tag) m p in
+      record {
+        is_map = subst IsMap (sym same) is;
+        found = (none_out bytes_eq nat_list_eq_equiv (bytes_eq tag) (nat_list_eq_equiv.congr tag) m (without_entry m tag) p same).0;
+      }
+  leaves_at m tag d is (Some i) p =
+      let f = Found-position (bytes_eq tag) m i p in
+      let e = slice_index_or m i d in
+      let out = swap_out bytes_eq nat_list_eq_equiv (bytes_eq tag) (nat_list_eq_equiv.congr tag) m i e p (slice_get-get_or m i d f.within) is
+      (without_entry m tag) (swap_remove_entry-found (bytes_eq tag) m i e p) in
+      record { is_map = out.unique; found = out.updated.0 }
+
+  leaves : (m : Entries X) (tag : Tag) → IsMap m → Leaves m tag
+  leaves [] tag is = record { is_map = is; found = λ other. sym (none_either (bytes_eq tag other)) }
+    where
+      none_either : (b : Bool) → cond {A = Option X} b None None ≡ None
+      none_either true = refl
+      none_either false = refl
+  leaves (e ∷ m) tag is = leaves_at (e ∷ m) tag e is (position (bytes_eq tag) (keys_of (e ∷ m))) refl
+
+  pub IsMap-removed : (m : Entries X) (tag : Tag) → IsMap m → IsMap (without_entry m tag)
+  IsMap-removed m tag is = (leaves m tag is).is_map
+
+  pub entry_at-removed : (m : Entries X) (tag other : Tag) → IsMap m → entry_at (without_entry m tag) other ≡ cond (bytes_eq tag other) None (entry_at m other)
+  entry_at-removed m tag other is = (leaves m tag is).found other
+
+-- changes in place
+module _ {X : Type 0} (f : X → X) where
+  pub changed-nothing : (m : Entries X) → changed_at f [] m ≡ m
+  changed-nothing [] = refl
+  changed-nothing (e ∷ m) = ap (λ l. e ∷ l) (changed-nothing m)
+
+  module _ (again : (x : X) → f (f x) ≡ f x) where
+    one : (a b : Bool) (e : Tag × X) → cond b (e.0, f (cond a (f e.1) e.1)) (e.0, cond a (f e.1) e.1) ≡ cond (a || b) (e.0, f e.1) e
+    one true true e = ap (λ x. (e.0, x)) (again e.1)
+    one true false e = refl
+    one false true e = refl
+    one false false e = refl
+
+    head : (a : Bool) (vs : List Tag) (e : Tag × X)
+        → (let e2 = cond a (e.0, f e.1) e in cond (list_any (λ t. bytes_eq t e2.0) vs) (e2.0, f e2.1) e2) ≡ cond (a || list_any (λ t. bytes_eq t e.0) vs) (e.0, f e.1) e
+    head true vs e = one true (list_any (λ t. bytes_eq t e.0) vs) e
+    head false vs e = one false (list_any (λ t. bytes_eq t e.0) vs) e
+
+    -- a change after a change is one of both
+    pub changed-twice : (us vs : List Tag) (m : Entries X) → changed_at f vs (changed_at f us m) ≡ changed_at f (us ++ vs) m
+    changed-twice us vs [] = refl
+    changed-twice us vs (e ∷ m) =
+        let p : Tag → Bool = λ t. bytes_eq t e.0 in
+        ap (λ l. (let e2 = cond (list_any p us) (e.0, f e.1) e in cond (list_any (λ t. bytes_eq t e2.0) vs) (e2.0, f e2.1) e2) ∷ l) (changed-twice us vs m)
+        ∙ ap (λ x. x ∷ changed_at f (us ++ vs) m) (head (list_any p us) vs e ∙ ap (λ b. cond b (e.0, f e.1) e) (sym (list_any-append p us vs)))

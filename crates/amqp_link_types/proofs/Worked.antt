@@ -1,7 +1,7 @@
 -- Values of the definitions that were worked out by hand: docs/DEFINITIONS.md lists them.
-use Rattle.std.proofs.Common.{◌≡◌, ℕ, true, false, List, [], ◌∷◌, replicate, refl, Option, Some, None}
+use Rattle.std.proofs.Common.{◌≡◌, ℕ, ◌+◌, true, false, List, [], ◌∷◌, replicate, refl, Option, Some, None}
 use Rattle.std.specs.Prelude.{codes}
-use Rattle.amqp_link_types.specs.Entries.{Entries, with_entry, without_entry}
+use Rattle.amqp_link_types.specs.Entries.{Entries, with_entry, without_entry, without_entries, changed_at}
 use Rattle.amqp_link_types.specs.Size.{attach_len, transfer_len, before, list_of, state_len}
 use Rattle.amqp_link_types.specs.Size.{outcome_len, source_len, target_len, expiry_field}
 use Rattle.amqp_link_types.specs.declared.types.attach.Attach.{Attach}
@@ -27,6 +27,12 @@ put_in_place = refl
 
 put_last : with_entry {V = ℕ} ((1 ∷ [], 5) ∷ []) (2 ∷ []) 6 ≡ (1 ∷ [], 5) ∷ (2 ∷ [], 6) ∷ []
 put_last = refl
+
+two_removals : without_entries {V = ℕ} ((1 ∷ [], 5) ∷ (2 ∷ [], 6) ∷ (3 ∷ [], 7) ∷ []) ((1 ∷ []) ∷ (3 ∷ []) ∷ []) ≡ (2 ∷ [], 6) ∷ []
+two_removals = refl
+
+changed_in_place : changed_at {V = ℕ} (λ v. v + 1) ((3 ∷ []) ∷ (1 ∷ []) ∷ (4 ∷ []) ∷ []) ((1 ∷ [], 5) ∷ (2 ∷ [], 6) ∷ (3 ∷ [], 7) ∷ []) ≡ (1 ∷ [], 6) ∷ (2 ∷ [], 6) ∷ (3 ∷ [], 8) ∷ []
+changed_in_place = refl
 
 last_takes_the_gap : without_entry {V = ℕ} ((1 ∷ [], 5) ∷ (2 ∷ [], 6) ∷ (3 ∷ [], 7) ∷ []) (1 ∷ []) ≡ (3 ∷ [], 7) ∷ (2 ∷ [], 6) ∷ []
 last_takes_the_gap = refl

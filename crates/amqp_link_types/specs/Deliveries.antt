@@ -1,5 +1,9 @@
--- Deliveries that came whole, as those who take them see them (OASIS AMQP 1.0 core, 2.6.12).
-use Rattle.std.specs.Prelude.{ℕ, List, Option}
+-- Deliveries that came whole, as those who take them see them, and such as have ended (OASIS AMQP 1.0
+-- core, 2.6.12).
+use Rattle.std.specs.Prelude.{ℕ, List, Option, Result}
+use Rattle.amqp_link_types.specs.declared.types.delivery_state.DeliveryState.{DeliveryState}
+use Rattle.amqp_link_types.specs.declared.types.errors.LinkStateError.{LinkStateError}
+use Rattle.amqp_link_types.specs.Entries.{Tag}
 use Rattle.amqp_link_types.specs.declared.types.definitions.OutputHandle.{OutputHandle}
 use Rattle.amqp_link_types.specs.declared.types.definitions.ReceiverSettleMode.{ReceiverSettleMode}
 use Rattle.amqp_link_payloads.specs.declared.message.Message.{Message}
@@ -16,3 +20,7 @@ pub record Delivered (T : Type 0) : Type 0 where
   pub info : Info
   pub message_format : Option ℕ
   pub message : Message T
+
+-- the tag of a delivery that a call ended, and what became of it
+abbrev pub Ended : Type 0
+Ended = Tag × Result (Option DeliveryState) LinkStateError

@@ -24,8 +24,9 @@ pub use definitions::{
 };
 pub use delivery_state::{DeliveryState, Outcome};
 pub use errors::{
-    ApplyRemoteDetachError, DetachError, FlowError, LinkRelayError, LinkStateError,
-    MessageDecodeError, ReceiverAttachError, ReceiverTransferError, SenderAttachError,
+    ApplyRemoteDetachError, DetachError, DispositionError, FlowError, LinkRelayError,
+    LinkStateError, MessageDecodeError, ReceiverAttachError, ReceiverTransferError,
+    SenderAttachError,
 };
 pub use performatives::{Detach, Disposition, LinkFlow};
 pub use stop_reason::{ConnectionStopReason, SessionStopReason};
@@ -33,4 +34,4 @@ pub use terminus::{
     DistributionMode, Source, Target, TargetArchetype, TerminusDurability, TerminusExpiryPolicy,
 };
 pub use transfer::Transfer;
-pub use unsettled_map::UnsettledMap;
+pub use unsettled_map::{KeepsState, UnsettledMap};

@@ -246,6 +246,24 @@ impl From<AllocError> for FlowError {
     }
 }
 
+/// Why deliveries were not disposed of. Nothing has changed.
+#[derive(Clone, Copy, Debug, PartialEq, Eq, Error)]
+pub enum DispositionError {
+    /// There was no memory.
+    #[error("out of memory")]
+    OutOfMemory,
+}
+
+impl From<AllocError> for DispositionError {
+    ghost use Rattle.amqp_link_types.specs.declared.types.errors.DispositionError.TheVariants.{OutOfMemory};
+
+    ghost from_gives = { λ _ error. error ≡ OutOfMemory };
+
+    fn from(_error: AllocError) -> DispositionError {
+        DispositionError::OutOfMemory
+    }
+}
+
 /// Why a frame that the session hands to a link was not taken. Nothing has changed.
 #[derive(Clone, Copy, Debug, PartialEq, Eq, Error)]
 pub enum LinkRelayError {

@@ -4,13 +4,13 @@
 //! or adds last, a removal moves the last pair into the gap.
 #![tactic(auto, using(crate::proofs::EntriesLemmas::map_steps))]
 
-ghost use Rattle.std.specs.Prelude.{◌≡◌, ◌&&◌, [], length, position, slice_get, take, is_some, None, Some};
+ghost use Rattle.std.specs.Prelude.{◌≡◌, ◌+◌, ◌&&◌, ◌∷◌, [], length, position, slice_get, take, is_some, None, Option, Some};
 ghost use Rattle.std.specs.Prelude.{IfOk, IfErr, IfSome, IfNone, OnOk, OnErr};
 ghost use Rattle.std.specs.Map.Iter.{deref_pair};
-ghost use Rattle.std.specs.Option.{option_map, option_copied};
+ghost use Rattle.std.specs.Option.{option_map, option_copied, option_to_list};
 ghost use Rattle.std.specs.Str.{bytes_eq};
 ghost use Rattle.amqp_link_types.specs.Found.{FoundAt, IsMissing};
-ghost use Rattle.amqp_link_types.specs.Entries.{entry_at, with_entry, without_entry, IsMap};
+ghost use Rattle.amqp_link_types.specs.Entries.{entry_at, with_entry, without_entry, changed_at, IsMap};
 ghost use Rattle.amqp_link_types.specs.Unsettled.{states_of};
 
 use crate::delivery::UnsettledMessage;
@@ -132,9 +132,18 @@ impl<V> UnsettledMap<V> {
         ensures value { result ≡ entry_at self.old tag.now }
         ensures removed { self.new ≡ without_entry self.old tag.now }
     {
-        let i = find(&self.pairs, tag)?;
-        let (_, value) = self.pairs.swap_remove(i);
+        let (_, value) = self.remove_entry(tag)?;
         Some(value)
+    }
+
+    /// Takes a delivery out with its tag. The last pair moves into the gap. Takes no memory.
+    pub fn remove_entry(&mut self, tag: &DeliveryTag) -> Option<(DeliveryTag, V)>
+        ensures entry { result ≡ option_map (λ value. (tag.now, value)) (entry_at self.old tag.now) }
+        ensures removed { self.new ≡ without_entry self.old tag.now }
+        ensures len { length self.new + length (option_to_list result) ≡ length self.old }
+    {
+        let i = find(&self.pairs, tag)?;
+        Some(self.pairs.swap_remove(i))
     }
 
     /// Sets what is kept of a delivery that is there, and answers what was kept before; where it is
@@ -163,6 +172,49 @@ impl<V> UnsettledMap<V> {
         ensures { self.new ≡ take count self.old }
     {
         self.pairs.truncate(count);
+    }
+}
+
+/// What an end keeps of a delivery that is not settled: the state that is known of it stands in it.
+pub trait KeepsState {
+    ghost use Rattle.amqp_link_types.specs.declared.types.delivery_state.DeliveryState.{DeliveryState};
+
+    /// The same with another state, or with none.
+    ghost with_state: { Self → Option DeliveryState → Self };
+
+    /// Sets the state that is known of the delivery, or that none is. Takes no memory.
+    fn set_state(&mut self, state: Option<DeliveryState>)
+        ensures { self.new ≡ with_state self.old state };
+}
+
+impl KeepsState for UnsettledMessage {
+    ghost with_state = { λ message state. record message { state = state } };
+
+    fn set_state(&mut self, state: Option<DeliveryState>) {
+        self.state = state;
+    }
+}
+
+impl KeepsState for Option<DeliveryState> {
+    ghost with_state = { λ _ state. state };
+
+    fn set_state(&mut self, state: Option<DeliveryState>) {
+        *self = state;
+    }
+}
+
+impl<V: KeepsState> UnsettledMap<V> {
+    /// Sets the state that is known of a delivery, in its place; nothing is entered for one that is
+    /// not there. Takes no memory.
+    pub fn set_state(&mut self, tag: &DeliveryTag, state: Option<DeliveryState>)
+        ensures { self.new ≡ changed_at (λ value. V.with_state value state) (tag.now ∷ []) self.old }
+    {
+        let Some(i) = find(&self.pairs, tag) else {
+            drop(state);
+            return;
+        };
+        let pair = &mut self.pairs[i];
+        pair.1.set_state(state);
     }
 }
 

@@ -1,0 +1,59 @@
+-- What dispositions name.
+use Rattle.std.proofs.Common.{◌≡◌, ◌∙◌, sym, ap, inl, inr, ℕ, ◌+◌, ◌-◌, ◌==◌, Bool, true, false, List, [], ◌∷◌, ◌++◌, map, refl, Option, Some, None, if◌then◌else◌, unwrap_or}
+use Rattle.std.specs.List.{flat_map, range_with_len}
+use Rattle.std.proofs.lemmas.List.{map-append}
+use Rattle.std.proofs.lemmas.List.Folds.{flat_map-map}
+use Rattle.std.proofs.lemmas.Simd.{map-map}
+use Rattle.std.proofs.lemmas.Bool.Decides.{eqb_tells}
+use Rattle.amqp_link_runs.specs.declared.Run.{Run}
+use Rattle.amqp_link_runs.specs.Order.{sorted_by}
+use Rattle.amqp_link_runs.specs.Runs.{written_out}
+use Rattle.amqp_link_runs.proofs.OrderLemmas.{sorted-map}
+use Rattle.amqp_link_types.specs.declared.frame.LinkFrame.{LinkFrame}
+use Rattle.amqp_link_types.specs.declared.types.definitions.ReceiverSettleMode.{ReceiverSettleMode}
+use Rattle.amqp_link_types.specs.declared.types.delivery_state.DeliveryState.{DeliveryState}
+use Rattle.amqp_link_types.specs.Deliveries.{Info}
+use Rattle.amqp_link_dispositions.specs.declared.groups.Group.{Group}
+use Rattle.amqp_link_dispositions.specs.Groups.{Numbered, numbered, group_out}
+use Rattle.amqp_link_dispositions.specs.Said.{AreSaid, AreSaidAlike, named_by, said_of_run, said_of_group}
+
+-- a run's last number that is left out is its first
+last_or_first : (first last : ℕ) → unwrap_or (if first == last then None else Some last) first ≡ last
+last_or_first first last = elim (eqb_tells first last) [
+  | inl same ↦ ap (λ b. unwrap_or (if b then None else Some last) first) same.0 ∙ same.1
+  | inr other ↦ ap (λ b. unwrap_or (if b then None else Some last) first) other.0
+]
+
+named-run : (settled : Bool) (state : DeliveryState) (batchable : Bool) (run : Run) → named_by (said_of_run settled state batchable run) ≡ written_out run
+named-run settled state batchable run = ap (λ last. range_with_len run.first (last + 1 - run.first)) (last_or_first run.first run.last)
+
+pub names_listed : (settled : Bool) (state : DeliveryState) (batchable : Bool) (ids : List ℕ) (frames : List LinkFrame)
+    → AreSaid settled state batchable ids frames → flat_map named_by frames ≡ sorted_by (λ id. id) ids
+names_listed settled state batchable ids frames said =
+    ap (flat_map named_by) said.each
+    ∙ flat_map-map named_by (said_of_run settled state batchable) said.runs
+    ∙ (λ i. flat_map (λ run. named-run settled state batchable run i) said.runs)
+    ∙ said.are_runs.all
+
+-- the numbers of what groups name
+numbers_out : (groups : List Group) → map (λ d. d.0) (flat_map group_out groups) ≡ flat_map (λ group. written_out group.run) groups
+numbers_out [] = refl
+numbers_out (g ∷ groups) =
+    map-append (λ d. d.0) (group_out g) (flat_map group_out groups)
+    ∙ ap (λ l. l ++ map (λ d. d.0) (flat_map group_out groups)) (map-map (λ (d : Numbered). d.0) (λ id. (id, g.mode)) (written_out g.run) ∙ same (written_out g.run))
+    ∙ ap (λ l. written_out g.run ++ l) (numbers_out groups)
+  where
+    same : (xs : List ℕ) → map (λ x. x) xs ≡ xs
+    same [] = refl
+    same (x ∷ xs) = ap (λ l. x ∷ l) (same xs)
+
+pub names_sorted : (given : Option Bool) (own : ReceiverSettleMode) (state : DeliveryState) (batchable : Bool) (infos : List Info) (frames : List LinkFrame)
+    → AreSaidAlike given own state batchable (sorted_by (λ info. info.delivery_id) infos) frames
+    → flat_map named_by frames ≡ sorted_by (λ id. id) (map (λ info. info.delivery_id) infos)
+names_sorted given own state batchable infos frames said =
+    ap (flat_map named_by) said.each
+    ∙ flat_map-map named_by (said_of_group given own state batchable) said.groups
+    ∙ sym (numbers_out said.groups)
+    ∙ ap (map (λ d. d.0)) said.are_groups.all
+    ∙ map-map (λ (d : Numbered). d.0) numbered (sorted_by (λ info. info.delivery_id) infos)
+    ∙ sorted-map (λ info. info.delivery_id) (λ id. id) infos

@@ -1,0 +1,5 @@
+use Rattle.amqp_link_dispositions.proofs.SaidLemmas.{names_listed}
+use Rattle.amqp_link_dispositions.proofs.laws.frames_name_what_is_listed.Goals as goal
+
+pub returns : goal.returns
+returns c = names_listed

@@ -1,0 +1,11 @@
+pub use Rattle.amqp_link_runs.specs.Order
+pub use Rattle.amqp_link_runs.specs.Runs
+pub use Rattle.amqp_link_types.specs.Deliveries
+pub use Rattle.amqp_link_types.specs.DeliveryStates
+pub use Rattle.amqp_link_types.specs.Entries
+pub mod Changes
+pub mod Ending
+pub mod Groups
+pub mod Keeping
+pub mod Listed
+pub mod Said

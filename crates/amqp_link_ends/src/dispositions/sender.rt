@@ -1,0 +1,301 @@
+//! A sender's end.
+use super::{Said, Told, all_said, told_by, told_by_state};
+use crate::samples::{attach_of, count_tag, parts};
+use amqp_link_core::endpoint::{LinkAttach, LinkExt};
+use amqp_link_sender::sender_link::{SenderLink, Waiting};
+use amqp_link_types::delivery::Outcomes;
+use amqp_link_types::frame::LinkFrame;
+use amqp_link_types::types::{
+    DeliveryNumber, DeliveryState, DeliveryTag, Detach, Handle, LinkFlow, LinkRelayError,
+    OutputHandle, Payload, ReceiverSettleMode, Role, SenderSettleMode, Target,
+};
+use std::process::Abort;
+
+// A sender at output handle 0 in this mode, at a receiver in that one, with so many pending
+// deliveries, whose tags are 00000000 and on.
+fn link(
+    rt: &(impl Abort + AllocGlobal),
+    mode: SenderSettleMode,
+    receiver: ReceiverSettleMode,
+    pending: u32,
+) -> SenderLink<Target> {
+    let link = SenderLink::new(rt.alloc(), parts(rt, mode, 512));
+    let mut link = link.with_output_handle(OutputHandle(0));
+    drop(link.send_attach(false));
+    let mut attach = attach_of(rt, Role::Receiver, mode);
+    attach.rcv_settle_mode = receiver;
+    drop(link.on_incoming_attach(attach));
+    drop(link.on_incoming_flow(LinkFlow {
+        link_credit: Some(pending),
+        ..LinkFlow::default()
+    }));
+    let payload = Payload::copy_from_slice(rt.alloc(), &[7]).expect(rt, "memory");
+    for _ in 0..pending {
+        drop(link.send_payload(Waiting::Nothing, &payload, 0, None, None, false));
+    }
+    drop(payload);
+    link
+}
+
+fn mixed(rt: &(impl Abort + AllocGlobal), pending: u32) -> SenderLink<Target> {
+    link(
+        rt,
+        SenderSettleMode::Mixed,
+        ReceiverSettleMode::First,
+        pending,
+    )
+}
+
+// These numbers, each with the tag of a count.
+fn listed<const N: usize>(
+    rt: &(impl Abort + AllocGlobal),
+    pairs: [(DeliveryNumber, u8); N],
+) -> Vec<(DeliveryNumber, DeliveryTag)> {
+    let mut listed = Vec::new(rt.alloc());
+    for (id, count) in pairs {
+        listed.push((id, count_tag(rt, count))).expect(rt, "memory");
+    }
+    listed
+}
+
+// What frames and outcomes tell: the frames, how many outcomes there are, and the first three.
+type Answer = (usize, [Said; 4], usize, [Told; 3]);
+
+fn answer_of(frames: &[LinkFrame], outcomes: &Outcomes) -> Answer {
+    let (count, said) = all_said(frames);
+    let outcomes = outcomes.as_slice();
+    let told = [
+        told_by(outcomes.first()),
+        told_by(outcomes.get(1)),
+        told_by(outcomes.get(2)),
+    ];
+    (count, said, outcomes.len(), told)
+}
+
+// The answer of a call that went.
+fn told_of<E: Drop>(answer: Result<(Vec<LinkFrame>, Outcomes), E>) -> Option<Answer> {
+    let Ok((frames, outcomes)) = answer else {
+        return None;
+    };
+    let told = answer_of(frames.as_slice(), &outcomes);
+    drop(frames);
+    drop(outcomes);
+    Some(told)
+}
+
+const NONE: [Told; 3] = [Told::Absent, Told::Absent, Told::Absent];
+
+// What is known of the delivery of a count, and how many are pending.
+fn known(rt: &(impl Abort + AllocGlobal), link: &SenderLink<Target>, count: u8) -> (usize, Told) {
+    let tag = count_tag(rt, count);
+    let told = match link.unsettled().get(&tag) {
+        Some(message) => told_by_state(&message.state),
+        None => Told::Absent,
+    };
+    drop(tag);
+    (link.unsettled().len(), told)
+}
+
+#[test]
+fn stored_state_is_the_outcome(rt: HostRuntime) {
+    let mut link = mixed(&rt, 1);
+    let tag = count_tag(&rt, 0);
+    let set = told_of(link.dispose(9, &tag, false, DeliveryState::Accepted, false));
+    let between = known(&rt, &link, 0);
+    let settled = told_of(link.dispose(9, &tag, true, DeliveryState::Released, false));
+    let unknown = told_of(link.dispose(9, &tag, true, DeliveryState::Released, false));
+    let after = known(&rt, &link, 0);
+    drop(tag);
+    drop(link);
+    let alone = |settled| [Some((9, None, settled)), None, None, None];
+    assert_eq!(rt; set, Some((1, alone(false), 0, NONE)));
+    assert_eq!(rt; between, (1, Told::Accepted));
+    let accepted = [Told::Accepted, Told::Absent, Told::Absent];
+    assert_eq!(rt; settled, Some((1, alone(true), 1, accepted)));
+    assert_eq!(rt;
+        unknown,
+        Some((1, alone(true), 0, NONE)),
+        "a tag that is not kept"
+    );
+    assert_eq!(rt; after, (0, Told::Absent));
+}
+
+#[test]
+fn mode_settled_says_nothing(rt: HostRuntime) {
+    let mut link = link(&rt, SenderSettleMode::Settled, ReceiverSettleMode::First, 2);
+    let pairs = listed(&rt, [(1, 0), (2, 1)]);
+    let batch = told_of(link.batch_dispose(&pairs, true, DeliveryState::Accepted, false));
+    let one = told_of(link.dispose(1, &count_tag(&rt, 0), true, DeliveryState::Accepted, false));
+    drop(pairs);
+    drop(link);
+    let nothing = Some((0, [None, None, None, None], 0, NONE));
+    assert_eq!(rt; batch, nothing);
+    assert_eq!(rt; one, nothing);
+}
+
+// What a sender that keeps nothing says of these numbers.
+fn batch<const N: usize>(
+    rt: &(impl Abort + AllocGlobal),
+    pairs: [(DeliveryNumber, u8); N],
+) -> Option<(usize, [Said; 4])> {
+    let mut link = mixed(rt, 0);
+    let pairs = listed(rt, pairs);
+    let told = told_of(link.batch_dispose(&pairs, true, DeliveryState::Accepted, false));
+    drop(pairs);
+    drop(link);
+    let (count, said, _, _) = told?;
+    Some((count, said))
+}
+
+#[test]
+fn dispositions_name_runs(rt: HostRuntime) {
+    let runs = batch(&rt, [(1, 0), (2, 1), (3, 2), (5, 3)]);
+    let one_to_three = Some((1, Some(3), true));
+    assert_eq!(rt;
+        runs,
+        Some((2, [one_to_three, Some((5, None, true)), None, None]))
+    );
+    let runs = batch(&rt, [(1, 0), (1, 1), (2, 2)]);
+    let said = [Some((1, None, true)), Some((1, Some(2), true)), None, None];
+    assert_eq!(rt; runs, Some((2, said)), "equal ids");
+    let last = u32::MAX;
+    let runs = batch(&rt, [(last, 0), (0, 1), (last - 1, 2)]);
+    let said = [
+        Some((0, None, true)),
+        Some((last - 1, Some(last), true)),
+        None,
+        None,
+    ];
+    assert_eq!(rt; runs, Some((2, said)), "the ends of the numbers");
+    assert_eq!(rt; batch(&rt, []), Some((0, [None, None, None, None])));
+}
+
+#[test]
+fn outcomes_come_by_number_and_once(rt: HostRuntime) {
+    let mut link = mixed(&rt, 3);
+    let tag = count_tag(&rt, 2);
+    drop(link.dispose(8, &tag, false, DeliveryState::Released, false));
+    drop(tag);
+    // the third by the least number, the first twice, and one that is not kept
+    let pairs = listed(&rt, [(6, 0), (5, 2), (7, 0), (8, 9)]);
+    let told = told_of(link.batch_dispose(&pairs, true, DeliveryState::Accepted, false));
+    let left = known(&rt, &link, 1);
+    drop(pairs);
+    drop(link);
+    let ended = [Told::Released, Told::NoState, Told::Absent];
+    assert_eq!(rt;
+        told,
+        Some((1, [Some((5, Some(8), true)), None, None, None], 2, ended))
+    );
+    assert_eq!(rt; left, (1, Told::NoState));
+}
+
+#[test]
+fn states_are_set_of_those_that_are_kept(rt: HostRuntime) {
+    let mut link = mixed(&rt, 2);
+    let pairs = listed(&rt, [(1, 1), (2, 9), (3, 1)]);
+    let told = told_of(link.batch_dispose(&pairs, false, DeliveryState::Accepted, false));
+    let set = known(&rt, &link, 1);
+    let other = known(&rt, &link, 0);
+    drop(pairs);
+    drop(link);
+    assert_eq!(rt;
+        told,
+        Some((1, [Some((1, Some(3), false)), None, None, None], 0, NONE))
+    );
+    assert_eq!(rt; set, (2, Told::Accepted));
+    assert_eq!(rt; other, (2, Told::NoState));
+}
+
+// What a disposition that comes answers of the first delivery, and what is known of it then.
+fn told_back(
+    rt: &(impl Abort + AllocGlobal),
+    receiver: ReceiverSettleMode,
+    settled: bool,
+    state: Option<DeliveryState>,
+) -> (bool, Told, Told) {
+    let mut link = link(rt, SenderSettleMode::Mixed, receiver, 1);
+    let tag = count_tag(rt, 0);
+    let (echo, ended) = link.on_incoming_disposition(settled, state, &tag);
+    let told = told_by(ended.as_ref());
+    let (_, after) = known(rt, &link, 0);
+    drop(tag);
+    drop(ended);
+    drop(link);
+    (echo, told, after)
+}
+
+#[test]
+fn dispositions_that_come_end_or_are_kept(rt: HostRuntime) {
+    let (first, second) = (ReceiverSettleMode::First, ReceiverSettleMode::Second);
+    let told = told_back(&rt, second, false, Some(DeliveryState::Accepted));
+    assert_eq!(rt; told, (true, Told::Accepted, Told::Absent));
+    let received = DeliveryState::Received {
+        section_number: 0,
+        section_offset: 3,
+    };
+    let told = told_back(&rt, first, false, Some(received));
+    assert_eq!(rt; told, (false, Told::Absent, Told::Received(0, 3)));
+    let told = told_back(&rt, second, true, None);
+    assert_eq!(rt;
+        told,
+        (false, Told::NoState, Told::Absent),
+        "settled without a state"
+    );
+    let told = told_back(&rt, second, false, None);
+    assert_eq!(rt; told, (true, Told::Absent, Told::NoState));
+}
+
+// What a detach answers: the handle, whether it closes and whether there is an error; how many
+// deliveries ended, the first and the last of them; and how many are left.
+type Detached = (Option<(u32, bool, bool)>, usize, Told, Told, usize);
+
+fn detached(
+    link: &mut SenderLink<Target>,
+    closed: bool,
+    remote_initiated: bool,
+) -> Result<Detached, LinkRelayError> {
+    let detach = Detach {
+        handle: Handle(7),
+        closed,
+        error: None,
+    };
+    let (reply, outcomes) = link.on_incoming_detach(&detach, remote_initiated)?;
+    let said = reply.as_ref().map(|reply| (reply.handle.0, reply.closed, reply.error.is_some()));
+    let ended = (told_by(outcomes.first()), told_by(outcomes.last()));
+    let told = (
+        said,
+        outcomes.len(),
+        ended.0,
+        ended.1,
+        link.unsettled().len(),
+    );
+    drop(outcomes);
+    drop(reply);
+    drop(detach);
+    Ok(told)
+}
+
+#[test]
+fn closing_detach_ends_all(rt: HostRuntime) {
+    let mut link = mixed(&rt, 3);
+    let own = detached(&mut link, true, false);
+    let open = detached(&mut link, false, true);
+    let closing = detached(&mut link, true, true);
+    *link.output_handle_mut() = None;
+    let unattached = detached(&mut link, true, true);
+    drop(link);
+    assert_eq!(rt;
+        own,
+        Ok((None, 0, Told::Absent, Told::Absent, 3)),
+        "an answer to an own one"
+    );
+    let said = Some((0, false, false));
+    assert_eq!(rt; open, Ok((said, 0, Told::Absent, Told::Absent, 3)));
+    let said = Some((0, true, false));
+    assert_eq!(rt;
+        closing,
+        Ok((said, 3, Told::RemoteClosed, Told::RemoteClosed, 0))
+    );
+    assert_eq!(rt; unattached, Err(LinkRelayError::UnattachedHandle));
+}

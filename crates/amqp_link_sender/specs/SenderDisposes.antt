@@ -1,0 +1,33 @@
+-- What a sender says of its deliveries, and what becomes of them (OASIS AMQP 1.0 core, 2.6.12 and
+-- 2.7.6). One that sends all settled has none to speak of.
+use Rattle.std.specs.Prelude.{◌≡◌, ℕ, ◌&&◌, not, Bool, true, false, List, [], if◌then◌else◌}
+use Rattle.amqp_link_types.specs.declared.frame.LinkFrame.{LinkFrame}
+use Rattle.amqp_link_types.specs.declared.types.definitions.ReceiverSettleMode.{ReceiverSettleMode}
+use Rattle.amqp_link_types.specs.declared.types.delivery_state.DeliveryState.{DeliveryState}
+use Rattle.amqp_link_types.specs.Deliveries.{Ended}
+use Rattle.amqp_link_types.specs.Entries.{Tag}
+use Rattle.amqp_link_dispositions.specs.Ending.{ended_of, disposed}
+use Rattle.amqp_link_dispositions.specs.Said.{AreSaid, settles_at_once}
+use Rattle.amqp_link_sender.specs.Senders.{Sender, settles}
+
+-- the frames say the runs of these numbers, if anything is said
+abbrev pub SaysRuns : Bool → Bool → DeliveryState → Bool → List ℕ → List LinkFrame → Type 0
+SaysRuns true settled state batchable ids frames = frames ≡ []
+SaysRuns false settled state batchable ids frames = AreSaid settled state batchable ids frames
+
+-- a disposition that does not settle is answered where the receiver waits for the sender to settle
+abbrev pub is_echoed : Bool → ReceiverSettleMode → Bool
+is_echoed settled mode = not settled && not (settles_at_once mode)
+
+module _ {T : Type 0} where
+  abbrev pub Says : Sender T → Bool → DeliveryState → Bool → List ℕ → List LinkFrame → Type 0
+  Says s settled state batchable ids frames = SaysRuns (settles s.snd_settle_mode) settled state batchable ids frames
+
+  -- what ends
+  abbrev pub ended_at : Sender T → Bool → List Tag → List Ended
+  ended_at s settled tags = if settles s.snd_settle_mode then [] else ended_of settled tags s.unsettled
+
+  -- and the link then
+  abbrev pub after_disposing : Sender T → Bool → DeliveryState → List Tag → Sender T
+  after_disposing s settled state tags =
+      if settles s.snd_settle_mode then s else record s { unsettled = disposed settled state tags s.unsettled }

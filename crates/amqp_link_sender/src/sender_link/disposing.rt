@@ -1,0 +1,194 @@
+//! Dispositions that go out from a sender's end and such as come to it (2.6.12, 2.7.6), and what
+//! becomes of its deliveries as the link is closed (2.6.6).
+ghost use Rattle.std.specs.Prelude.{◌≡◌, ◌∷◌, ◌&&◌, ◌↔◌, [], map, true, false, None};
+ghost use Rattle.std.specs.Prelude.{IfOk, IfSome, IsSome, IsErrOf, OnOk, OnErr, if◌then◌else◌};
+ghost use Rattle.std.specs.Option.{option_map};
+ghost use Rattle.amqp_link_dispositions.specs.Ending.{all_closed as all_closed_for, ended_by, reply_of, told};
+ghost use Rattle.amqp_link_dispositions.specs.Listed.{tags_in_order};
+ghost use Rattle.amqp_link_sender.specs.Senders.{settles};
+ghost use Rattle.amqp_link_sender.specs.SenderDisposes.{Says, ended_at, after_disposing, is_echoed};
+
+use crate::sender_link::SenderLink;
+use amqp_link_core::endpoint::target::LinkTarget;
+use amqp_link_dispositions::closing::{all_closed, reply_to};
+use amqp_link_dispositions::sender;
+use amqp_link_types::delivery::{DeliveryOutcome, Outcomes};
+use amqp_link_types::frame::LinkFrame;
+use amqp_link_types::types::{
+    DeliveryNumber, DeliveryState, DeliveryTag, Detach, DispositionError, LinkRelayError,
+    ReceiverSettleMode, SenderSettleMode,
+};
+use std::alloc::AllocError;
+
+impl<T: LinkTarget> SenderLink<T> {
+    /// Says of one delivery that it has this state, and is settled or not. A settled one that is
+    /// kept is forgotten, and ends with the state that was known of it before; else the state is
+    /// kept of it, where it is kept at all. The disposition names its number without a last one. In
+    /// mode `Settled` nothing is said and nothing ends.
+    ///
+    /// Refused where memory is wanting, with nothing changed; in mode `Settled` none is taken.
+    pub fn dispose(
+        &mut self,
+        delivery_id: DeliveryNumber,
+        delivery_tag: &DeliveryTag,
+        settled: bool,
+        state: DeliveryState,
+        batchable: bool,
+    ) -> Result<(Vec<LinkFrame>, Outcomes), DispositionError>
+        ensures frames { IfOk result (λ said.
+            Says self.old settled state batchable (delivery_id ∷ []) said.0.items) }
+        ensures outcomes { IfOk result (λ said.
+            said.1.items ≡ ended_at self.old settled (delivery_tag.now ∷ [])) }
+        ensures after { OnOk result
+            (self.new ≡ after_disposing self.old settled state (delivery_tag.now ∷ [])) }
+        ensures memory { OnErr result (settles self.old.snd_settle_mode ≡ false) }
+        ensures left { OnErr result (self.new ≡ self.old) }
+    {
+        if let Some(nothing) = self.nothing_to_say() {
+            drop(state);
+            return Ok(nothing);
+        }
+        let said = sender::dispose(
+            self.alloc,
+            &mut self.unsettled,
+            delivery_id,
+            delivery_tag,
+            settled,
+            state,
+            batchable,
+        )?;
+        Ok(said)
+    }
+
+    /// The same of several deliveries, by rising numbers, and those of one number as they are listed;
+    /// their outcomes come in that order. The dispositions name all numbers, each as often as it is
+    /// listed, in the longest runs; a run of one number names no last one.
+    ///
+    /// Refused where memory is wanting, with nothing changed; in mode `Settled` none is taken.
+    pub fn batch_dispose(
+        &mut self,
+        ids_and_tags: &[(DeliveryNumber, DeliveryTag)],
+        settled: bool,
+        state: DeliveryState,
+        batchable: bool,
+    ) -> Result<(Vec<LinkFrame>, Outcomes), DispositionError>
+        ensures frames { IfOk result (λ said.
+            Says self.old settled state batchable (map (λ pair. pair.0) ids_and_tags.now) said.0.items) }
+        ensures outcomes { IfOk result (λ said.
+            said.1.items ≡ ended_at self.old settled (tags_in_order ids_and_tags.now)) }
+        ensures after { OnOk result
+            (self.new ≡ after_disposing self.old settled state (tags_in_order ids_and_tags.now)) }
+        ensures memory { OnErr result (settles self.old.snd_settle_mode ≡ false) }
+        ensures left { OnErr result (self.new ≡ self.old) }
+    {
+        if let Some(nothing) = self.nothing_to_say() {
+            drop(state);
+            return Ok(nothing);
+        }
+        let said = sender::batch_dispose(
+            self.alloc,
+            &mut self.unsettled,
+            ids_and_tags,
+            settled,
+            state,
+            batchable,
+        )?;
+        Ok(said)
+    }
+
+    // What is answered in mode `Settled`, in which no delivery awaits its outcome.
+    fn nothing_to_say(&self) -> Option<(Vec<LinkFrame>, Outcomes)>
+        ensures settled { IsSome result ↔ (settles self.now.snd_settle_mode ≡ true) }
+        ensures frames { IfSome result (λ said. said.0.items ≡ []) }
+        ensures outcomes { IfSome result (λ said. said.1.items ≡ []) }
+    {
+        match self.snd_settle_mode {
+            SenderSettleMode::Settled => Some((Vec::new(self.alloc), Vec::new(self.alloc))),
+            _ => None,
+        }
+    }
+
+    /// Takes what the receiver says of a delivery. One that is kept ends with this state, or with
+    /// none, where it is settled or the state is terminal; else the state is kept of it, or that none
+    /// is known.
+    ///
+    /// The flag asks that the disposition be answered: it does not settle, and the receiver settles
+    /// only after the sender has. Takes no memory.
+    pub fn on_incoming_disposition(
+        &mut self,
+        settled: bool,
+        state: Option<DeliveryState>,
+        delivery_tag: &DeliveryTag,
+    ) -> (bool, Option<(DeliveryTag, DeliveryOutcome)>)
+        ensures echo { result.0 ≡ is_echoed settled self.old.rcv_settle_mode }
+        ensures ended { result.1 ≡ ended_by settled state delivery_tag.now self.old.unsettled }
+        ensures after { self.new ≡ record self.old {
+          unsettled = told settled state delivery_tag.now self.old.unsettled;
+        } }
+    {
+        let is_second = matches!(self.rcv_settle_mode, ReceiverSettleMode::Second);
+        let unsettled = &mut self.unsettled;
+        let ended = sender::on_incoming_disposition(unsettled, settled, state, delivery_tag);
+        (!settled && is_second, ended)
+    }
+
+    /// Ends each delivery that is kept, in order, since this detach closes the link: with its error,
+    /// where it has one.
+    ///
+    /// Refused where memory is wanting, with nothing changed.
+    pub fn fail_pending_unsettled(&mut self, detach: &Detach) -> Result<Outcomes, AllocError>
+        ensures ended { IfOk result (λ outcomes.
+            outcomes.items ≡ all_closed_for detach.now.error self.old.unsettled) }
+        ensures after { OnOk result (self.new ≡ record self.old { unsettled = [] }) }
+        ensures left { OnErr result (self.new ≡ self.old) }
+    {
+        let outcomes = all_closed(self.alloc, &self.unsettled, &detach.error)?;
+        // All memory is taken: from here on nothing can fail.
+        drop(self.unsettled.take_all(self.alloc));
+        Ok(outcomes)
+    }
+
+    /// Takes a detach off the session. One that the other end sent of itself is answered at the own
+    /// handle, as closed and with the same error; where it closes the link, each delivery ends as by
+    /// `fail_pending_unsettled`. One that answers an own detach is not answered, and ends nothing.
+    ///
+    /// The state stays as it is: `apply_remote_detach_outcome`, or `on_detach_reply`, moves it.
+    ///
+    /// Refused with nothing changed: `UnattachedHandle` without output handle, then `OutOfMemory`;
+    /// neither where the detach answers an own one.
+    pub fn on_incoming_detach(
+        &mut self,
+        detach: &Detach,
+        remote_initiated: bool,
+    ) -> Result<(Option<Detach>, Outcomes), LinkRelayError>
+        ensures reply { IfOk result (λ answer. answer.0 ≡ (if remote_initiated
+            then option_map (λ handle. reply_of handle detach.now) self.old.output_handle else None)) }
+        ensures ended { IfOk result (λ answer. answer.1.items
+            ≡ (if remote_initiated && detach.now.closed
+            then all_closed_for detach.now.error self.old.unsettled else [])) }
+        ensures after { OnOk result (self.new ≡ (if remote_initiated && detach.now.closed
+            then record self.old { unsettled = [] } else self.old)) }
+        ensures unattached { IsErrOf result LinkRelayError.UnattachedHandle
+            ↔ ((remote_initiated ≡ true) × (self.old.output_handle ≡ None)) }
+        ensures memory { OnErr result (remote_initiated ≡ true) }
+        ensures left { OnErr result (self.new ≡ self.old) }
+    {
+        if !remote_initiated {
+            return Ok((None, Vec::new(self.alloc)));
+        }
+        let Some(handle) = self.output_handle else {
+            return Err(LinkRelayError::UnattachedHandle);
+        };
+        let reply = reply_to(detach, handle)?;
+        if !detach.closed {
+            return Ok((Some(reply), Vec::new(self.alloc)));
+        }
+        match self.fail_pending_unsettled(detach) {
+            Ok(outcomes) => Ok((Some(reply), outcomes)),
+            Err(refused) => {
+                drop(reply);
+                Err(refused.into())
+            }
+        }
+    }
+}
