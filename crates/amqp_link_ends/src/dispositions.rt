@@ -36,6 +36,7 @@ enum Told {
     Released,
     Received(u32, u64),
     RemoteClosed,
+    RemoteClosedWithError,
     Other,
 }
 
@@ -59,6 +60,7 @@ fn told_by(outcome: Option<&(DeliveryTag, DeliveryOutcome)>) -> Told {
         None => Told::Absent,
         Some((_, Ok(state))) => told_by_state(state),
         Some((_, Err(LinkStateError::RemoteClosed))) => Told::RemoteClosed,
+        Some((_, Err(LinkStateError::RemoteClosedWithError(_)))) => Told::RemoteClosedWithError,
         _ => Told::Other,
     }
 }

@@ -6,8 +6,8 @@ use amqp_link_sender::sender_link::{SenderLink, Waiting};
 use amqp_link_types::delivery::Outcomes;
 use amqp_link_types::frame::LinkFrame;
 use amqp_link_types::types::{
-    DeliveryNumber, DeliveryState, DeliveryTag, Detach, Handle, LinkFlow, LinkRelayError,
-    OutputHandle, Payload, ReceiverSettleMode, Role, SenderSettleMode, Target,
+    DeliveryNumber, DeliveryState, DeliveryTag, Detach, Error, Handle, LinkFlow, LinkRelayError,
+    OutputHandle, Payload, ReceiverSettleMode, Role, SenderSettleMode, Symbol, Target,
 };
 use std::process::Abort;
 
@@ -298,4 +298,46 @@ fn closing_detach_ends_all(rt: HostRuntime) {
         Ok((said, 3, Told::RemoteClosed, Told::RemoteClosed, 0))
     );
     assert_eq!(rt; unattached, Err(LinkRelayError::UnattachedHandle));
+}
+
+// How many deliveries end as a detach with an error fails them, the first and the last of them, and how
+// many are left.
+fn failed(
+    rt: &(impl Abort + AllocGlobal),
+    link: &mut SenderLink<Target>,
+) -> Option<(usize, Told, Told, usize)> {
+    let condition = String::from_str(rt.alloc(), "x:y").expect(rt, "memory");
+    let detach = Detach {
+        handle: Handle(7),
+        closed: true,
+        error: Some(Error {
+            condition: Symbol::from(condition),
+            description: None,
+            info: None,
+        }),
+    };
+    let answer = link.fail_pending_unsettled(&detach);
+    drop(detach);
+    let Ok(outcomes) = answer else {
+        return None;
+    };
+    let ended = (told_by(outcomes.first()), told_by(outcomes.last()));
+    let told = (outcomes.len(), ended.0, ended.1, link.unsettled().len());
+    drop(outcomes);
+    Some(told)
+}
+
+#[test]
+fn deliveries_fail_with_the_error(rt: HostRuntime) {
+    let mut link = mixed(&rt, 2);
+    let told = failed(&rt, &mut link);
+    let again = failed(&rt, &mut link);
+    drop(link);
+    let closed = Told::RemoteClosedWithError;
+    assert_eq!(rt; told, Some((2, closed, closed, 0)));
+    assert_eq!(rt;
+        again,
+        Some((0, Told::Absent, Told::Absent, 0)),
+        "nothing is pending"
+    );
 }
