@@ -1,5 +1,5 @@
 -- Deliveries that are settled one after the other end as those of the list do, each once.
-use Rattle.std.proofs.Common.{◌≡◌, ◌≢◌, ◌∙◌, sym, ap, subst, Bool, true, false, cond, not, List, [], ◌∷◌, ◌++◌, refl, Option, Some, None, Result, Ok}
+use Rattle.std.proofs.Common.{◌≡◌, ◌≢◌, ◌∙◌, ap, Bool, true, false, cond, not, List, [], ◌∷◌, refl, Option, Some, None, Ok}
 use Rattle.std.specs.List.{filter, filter_map, cons_option, AllByRecursion, IsDistinct}
 use Rattle.std.specs.Map.{keys_of}
 use Rattle.std.specs.Option.{option_map}

@@ -1,6 +1,5 @@
 -- Groups that go on, and such as begin.
-use Rattle.std.proofs.Common.{◌≡◌, ◌∙◌, sym, ap, subst, ℕ, suc, ◌+◌, ◌-◌, ◌≤◌, List, [], ◌∷◌, ◌++◌, map, length, take, get_or, ◌<◌, refl, arith, Option}
-use Rattle.std.specs.Prelude.{flat_map}
+use Rattle.std.proofs.Common.{◌≡◌, ◌∙◌, sym, ap, subst, ℕ, ◌+◌, ◌≤◌, List, [], ◌∷◌, ◌++◌, map, length, take, get_or, ◌<◌, arith, Option}
 use Rattle.std.proofs.lemmas.List.{map-append, take_more}
 use Rattle.amqp_link_runs.specs.Runs.{written_out}
 use Rattle.amqp_link_runs.proofs.RunLemmas.{span, all_last, all_push, all_end, next_last, next_push, written_more, written_one, names_more, names_next}
@@ -49,16 +48,6 @@ begins ds groups r id mode are breaks =
       all = names_next group_out ds (groups ++ r ∷ []) s (id, mode) are.all (ap (map (λ i. (i, mode))) (written_one id));
       longest = next_push AreParted groups r s breaks are.longest;
     }
-
-pub first_group : (id : ℕ) (mode : Option ReceiverSettleMode) → AreGroups ((id, mode) ∷ []) (group id id mode ∷ [])
-first_group id mode = record {
-  not_empty = (omega arith, tt);
-  all = names_next group_out [] [] (group id id mode) (id, mode) refl (ap (map (λ i. (i, mode))) (written_one id));
-  longest = tt;
-}
-
-pub no_groups : AreGroups [] []
-no_groups = record { not_empty = tt; all = refl; longest = tt }
 
 -- one more of a list of infos, by what is seen of them
 pub one_more : {T : Type 0} (see : T → Info) (rest : List T) (i : ℕ) (x : T) (d : Numbered) → i < length rest → x ≡ get_or rest i x → d ≡ numbered (see x)

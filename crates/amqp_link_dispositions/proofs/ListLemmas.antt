@@ -1,5 +1,6 @@
 -- Lists that are sorted by numbers beside their elements, and changes one after the other.
-use Rattle.std.proofs.Common.{◌≡◌, ◌∙◌, sym, ap, ℕ, Bool, true, false, List, [], ◌∷◌, ◌++◌, map, refl, Option, Some, None, is_some, if◌then◌else◌}
+use Rattle.std.proofs.Common.{◌≡◌, ◌∙◌, sym, ap, ℕ, Bool, true, false, List, [], ◌∷◌, map, refl, Option, Some, None, is_some, if◌then◌else◌}
+use Rattle.std.proofs.lemmas.List.{map-id}
 use Rattle.std.proofs.lemmas.Simd.{map-map}
 use Rattle.amqp_link_runs.specs.Order.{sorted_by}
 use Rattle.amqp_link_runs.proofs.OrderLemmas.{sorted-map}
@@ -7,10 +8,6 @@ use Rattle.amqp_link_types.specs.declared.types.delivery_state.DeliveryState.{De
 use Rattle.amqp_link_types.specs.Entries.{Tag, Entries, entry_at, without_entry, changed_at}
 use Rattle.amqp_link_types.proofs.MapLemmas.{missing_from_lookup, changed-nothing, changed-twice}
 use Rattle.amqp_link_dispositions.specs.Changes.{Change, with_states}
-
-same_list : {A : Type 0} (xs : List A) → map (λ x. x) xs ≡ xs
-same_list [] = refl
-same_list (x ∷ xs) = ap (λ l. x ∷ l) (same_list xs)
 
 -- pairs are sorted by their numbers; what is seen of them is sorted alike
 module _ {T A : Type 0} (see : T → A) where
@@ -40,7 +37,7 @@ module _ {T A : Type 0} (see : T → A) where
   own_sorted n items sorted xs out are by is =
       elements_sorted items sorted (map {B = ℕ × A} (λ x. (n x, x)) xs) out are by is
       ∙ ap (map (λ pair. pair.1)) (sym (sorted-map (λ x. (n x, x)) (λ (pair : ℕ × A). pair.0) xs))
-      ∙ map-map (λ pair. pair.1) (λ x. (n x, x)) (sorted_by n xs) ∙ same_list (sorted_by n xs)
+      ∙ map-map (λ pair. pair.1) (λ x. (n x, x)) (sorted_by n xs) ∙ map-id (sorted_by n xs)
 
 -- one state that is set of several deliveries in turn is set of all
 pub with_states_same : {V : Type 0} (set : V → Option DeliveryState → V) (es : Entries V) (state : DeliveryState) (tags : List Tag)

@@ -1,7 +1,7 @@
 -- What dispositions name.
-use Rattle.std.proofs.Common.{◌≡◌, ◌∙◌, sym, ap, inl, inr, ℕ, ◌+◌, ◌-◌, ◌==◌, Bool, true, false, List, [], ◌∷◌, ◌++◌, map, refl, Option, Some, None, if◌then◌else◌, unwrap_or}
+use Rattle.std.proofs.Common.{◌≡◌, ◌∙◌, sym, ap, inl, inr, ℕ, ◌+◌, ◌-◌, ◌==◌, Bool, List, [], ◌∷◌, ◌++◌, map, refl, Option, Some, None, if◌then◌else◌, unwrap_or}
 use Rattle.std.specs.List.{flat_map, range_with_len}
-use Rattle.std.proofs.lemmas.List.{map-append}
+use Rattle.std.proofs.lemmas.List.{map-append, map-id}
 use Rattle.std.proofs.lemmas.List.Folds.{flat_map-map}
 use Rattle.std.proofs.lemmas.Simd.{map-map}
 use Rattle.std.proofs.lemmas.Bool.Decides.{eqb_tells}
@@ -40,12 +40,8 @@ numbers_out : (groups : List Group) → map (λ d. d.0) (flat_map group_out grou
 numbers_out [] = refl
 numbers_out (g ∷ groups) =
     map-append (λ d. d.0) (group_out g) (flat_map group_out groups)
-    ∙ ap (λ l. l ++ map (λ d. d.0) (flat_map group_out groups)) (map-map (λ (d : Numbered). d.0) (λ id. (id, g.mode)) (written_out g.run) ∙ same (written_out g.run))
+    ∙ ap (λ l. l ++ map (λ d. d.0) (flat_map group_out groups)) (map-map (λ (d : Numbered). d.0) (λ id. (id, g.mode)) (written_out g.run) ∙ map-id (written_out g.run))
     ∙ ap (λ l. written_out g.run ++ l) (numbers_out groups)
-  where
-    same : (xs : List ℕ) → map (λ x. x) xs ≡ xs
-    same [] = refl
-    same (x ∷ xs) = ap (λ l. x ∷ l) (same xs)
 
 pub names_sorted : (given : Option Bool) (own : ReceiverSettleMode) (state : DeliveryState) (batchable : Bool) (infos : List Info) (frames : List LinkFrame)
     → AreSaidAlike given own state batchable (sorted_by (λ info. info.delivery_id) infos) frames

@@ -1,5 +1,5 @@
 -- What becomes of deliveries that end (OASIS AMQP 1.0 core, 2.6.12 and 2.7.7).
-use Rattle.std.specs.Prelude.{Bool, false, ◌||◌, if◌then◌else◌, List, [], ◌∷◌, map, Option, None, Some, option_map, Result, Ok, Err}
+use Rattle.std.specs.Prelude.{Bool, false, ◌||◌, if◌then◌else◌, List, [], ◌∷◌, map, Option, None, Some, option_map, Ok, Err}
 use Rattle.std.specs.List.{filter_map}
 use Rattle.std.specs.Option.{option_map_or}
 use Rattle.amqp_link_types.specs.declared.delivery.UnsettledMessage.{UnsettledMessage}

@@ -10,7 +10,6 @@ use Rattle.amqp_link_types.specs.declared.types.definitions.ReceiverSettleMode.T
 use Rattle.amqp_link_types.specs.declared.types.definitions.Role.{Role}
 use Rattle.amqp_link_types.specs.declared.types.definitions.Role.TheVariants as role
 use Rattle.amqp_link_types.specs.declared.types.delivery_state.DeliveryState.{DeliveryState}
-use Rattle.amqp_link_types.specs.declared.types.performatives.Disposition.{Disposition}
 use Rattle.amqp_link_types.specs.Deliveries.{Info}
 use Rattle.amqp_link_dispositions.specs.declared.groups.Group.{Group}
 use Rattle.amqp_link_dispositions.specs.Groups.{AreGroups, numbered}

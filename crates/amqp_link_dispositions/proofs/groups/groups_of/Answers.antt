@@ -1,4 +1,4 @@
-use Rattle.std.proofs.Common.{◌≡◌, ◌++◌, ◌∷◌, [], ◌+◌, ap, subst, take, map}
+use Rattle.std.proofs.Common.{◌≡◌, ◌++◌, ◌∷◌, [], ap, subst, take, map}
 use Rattle.amqp_link_dispositions.specs.Groups.{AreGroups, numbered}
 use Rattle.amqp_link_dispositions.proofs.GroupLemmas.{one_more}
 use Rattle.amqp_link_dispositions.proofs.groups.groups_of.Goals as goal

@@ -1,4 +1,4 @@
-use Rattle.std.proofs.Common.{rules, arith, ◌≡◌, map, is_some}
+use Rattle.std.proofs.Common.{rules, arith, is_some}
 use Rattle.std.proofs.lemmas.Grind.{common_steps}
 use Rattle.std.specs.List.{filter}
 use Rattle.amqp_link_types.specs.Entries.{entry_at}

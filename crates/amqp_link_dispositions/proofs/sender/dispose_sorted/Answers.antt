@@ -1,4 +1,4 @@
-use Rattle.std.proofs.Common.{◌≡◌, ◌∙◌, sym, ap, map, refl}
+use Rattle.std.proofs.Common.{◌∙◌, sym, ap, map, refl}
 use Rattle.amqp_link_dispositions.specs.Changes.{with_states}
 use Rattle.amqp_link_dispositions.specs.Ending.{with_state, disposed}
 use Rattle.amqp_link_dispositions.proofs.ListLemmas.{with_states_same}

@@ -1,6 +1,5 @@
-use Rattle.std.proofs.Common.{rules, arith, ◌≡◌, map, ℕ}
+use Rattle.std.proofs.Common.{rules, arith}
 use Rattle.std.proofs.lemmas.Grind.{common_steps}
-use Rattle.amqp_link_runs.specs.Order.{sorted_by}
 use Rattle.amqp_link_dispositions.proofs.ListLemmas.{numbers_sorted, elements_sorted}
 use Rattle.amqp_link_dispositions.proofs.sender.in_order.Goals as goal
 
