@@ -4,6 +4,7 @@ use amqp_link_types::frame::LinkFrame;
 use amqp_link_types::types::{DeliveryState, DeliveryTag, LinkStateError};
 
 mod receiver;
+mod refused;
 mod sender;
 
 // What a disposition says: the first and the last number, and whether it settles.

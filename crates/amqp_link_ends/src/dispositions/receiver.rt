@@ -4,6 +4,7 @@ use crate::samples::{count_tag, parts};
 use amqp_link_core::endpoint::LinkExt;
 use amqp_link_receiver::receiver_link::ReceiverLink;
 use amqp_link_types::delivery::DeliveryInfo;
+use amqp_link_types::frame::LinkFrame;
 use amqp_link_types::types::{
     DeliveryState, Detach, Handle, LinkRelayError, OutputHandle, ReceiverSettleMode,
     SenderSettleMode, Target,
@@ -12,7 +13,7 @@ use std::process::Abort;
 
 // A receiver in mode `First` that keeps so many deliveries, whose tags are 00000000 and on, as received
 // to their beginning.
-fn link(rt: &(impl Abort + AllocGlobal), kept: u8) -> ReceiverLink<Target> {
+pub(super) fn link(rt: &(impl Abort + AllocGlobal), kept: u8) -> ReceiverLink<Target> {
     let mut link = ReceiverLink::new(rt.alloc(), parts(rt, SenderSettleMode::Mixed, 512));
     for count in 0..kept {
         let tag = count_tag(rt, count);
@@ -22,9 +23,9 @@ fn link(rt: &(impl Abort + AllocGlobal), kept: u8) -> ReceiverLink<Target> {
     link
 }
 
-type Listed = (u32, u8, Option<ReceiverSettleMode>);
+pub(super) type Listed = (u32, u8, Option<ReceiverSettleMode>);
 
-fn listed<const N: usize>(
+pub(super) fn listed<const N: usize>(
     rt: &(impl Abort + AllocGlobal),
     listed: [Listed; N],
 ) -> Vec<DeliveryInfo> {
@@ -37,7 +38,11 @@ fn listed<const N: usize>(
 }
 
 // What is known of the delivery of a count.
-fn known(rt: &(impl Abort + AllocGlobal), link: &ReceiverLink<Target>, count: u8) -> Told {
+pub(super) fn known(
+    rt: &(impl Abort + AllocGlobal),
+    link: &ReceiverLink<Target>,
+    count: u8,
+) -> Told {
     let tag = count_tag(rt, count);
     let told = match link.unsettled().get(&tag) {
         Some(state) => told_by_state(state),
@@ -45,6 +50,16 @@ fn known(rt: &(impl Abort + AllocGlobal), link: &ReceiverLink<Target>, count: u8
     };
     drop(tag);
     told
+}
+
+// What the frames of a call that went say.
+pub(super) fn frames_of<E: Drop>(answer: Result<Vec<LinkFrame>, E>) -> Option<(usize, [Said; 4])> {
+    let Ok(frames) = answer else {
+        return None;
+    };
+    let told = all_said(frames.as_slice());
+    drop(frames);
+    Some(told)
 }
 
 // What is said of these deliveries, accepted; which tags are kept then, up to three, in order; and what
@@ -59,26 +74,21 @@ fn all_accepted<const N: usize>(
 ) -> Answer {
     let mut link = link(rt, kept);
     let infos = listed(rt, infos);
-    let answer = link.dispose_all(&infos, settled, DeliveryState::Accepted, false);
-    let said = answer
-        .as_ref()
-        .ok()
-        .map(|frames| all_said(frames.as_slice()));
+    let said = frames_of(link.dispose_all(&infos, settled, DeliveryState::Accepted, false));
     let tags = [tag_at(&link, 0), tag_at(&link, 1), tag_at(&link, 2)];
     let told = [known(rt, &link, 0), known(rt, &link, 1)];
-    drop(answer);
     drop(infos);
     drop(link);
     (said, tags, told)
 }
 
 // The last byte of the tag at this place.
-fn tag_at(link: &ReceiverLink<Target>, index: usize) -> Option<u8> {
+pub(super) fn tag_at(link: &ReceiverLink<Target>, index: usize) -> Option<u8> {
     let (tag, _) = link.unsettled().pair_at(index)?;
     tag.as_bytes().last().copied()
 }
 
-const SECOND: Option<ReceiverSettleMode> = Some(ReceiverSettleMode::Second);
+pub(super) const SECOND: Option<ReceiverSettleMode> = Some(ReceiverSettleMode::Second);
 
 #[test]
 fn dispositions_break_where_modes_differ(rt: HostRuntime) {

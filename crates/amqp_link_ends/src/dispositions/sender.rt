@@ -37,7 +37,7 @@ fn link(
     link
 }
 
-fn mixed(rt: &(impl Abort + AllocGlobal), pending: u32) -> SenderLink<Target> {
+pub(super) fn mixed(rt: &(impl Abort + AllocGlobal), pending: u32) -> SenderLink<Target> {
     link(
         rt,
         SenderSettleMode::Mixed,
@@ -47,7 +47,7 @@ fn mixed(rt: &(impl Abort + AllocGlobal), pending: u32) -> SenderLink<Target> {
 }
 
 // These numbers, each with the tag of a count.
-fn listed<const N: usize>(
+pub(super) fn listed<const N: usize>(
     rt: &(impl Abort + AllocGlobal),
     pairs: [(DeliveryNumber, u8); N],
 ) -> Vec<(DeliveryNumber, DeliveryTag)> {
@@ -59,7 +59,7 @@ fn listed<const N: usize>(
 }
 
 // What frames and outcomes tell: the frames, how many outcomes there are, and the first three.
-type Answer = (usize, [Said; 4], usize, [Told; 3]);
+pub(super) type Answer = (usize, [Said; 4], usize, [Told; 3]);
 
 fn answer_of(frames: &[LinkFrame], outcomes: &Outcomes) -> Answer {
     let (count, said) = all_said(frames);
@@ -73,7 +73,7 @@ fn answer_of(frames: &[LinkFrame], outcomes: &Outcomes) -> Answer {
 }
 
 // The answer of a call that went.
-fn told_of<E: Drop>(answer: Result<(Vec<LinkFrame>, Outcomes), E>) -> Option<Answer> {
+pub(super) fn told_of<E: Drop>(answer: Result<(Vec<LinkFrame>, Outcomes), E>) -> Option<Answer> {
     let Ok((frames, outcomes)) = answer else {
         return None;
     };
@@ -86,7 +86,11 @@ fn told_of<E: Drop>(answer: Result<(Vec<LinkFrame>, Outcomes), E>) -> Option<Ans
 const NONE: [Told; 3] = [Told::Absent, Told::Absent, Told::Absent];
 
 // What is known of the delivery of a count, and how many are pending.
-fn known(rt: &(impl Abort + AllocGlobal), link: &SenderLink<Target>, count: u8) -> (usize, Told) {
+pub(super) fn known(
+    rt: &(impl Abort + AllocGlobal),
+    link: &SenderLink<Target>,
+    count: u8,
+) -> (usize, Told) {
     let tag = count_tag(rt, count);
     let told = match link.unsettled().get(&tag) {
         Some(message) => told_by_state(&message.state),
@@ -248,9 +252,9 @@ fn dispositions_that_come_end_or_are_kept(rt: HostRuntime) {
 
 // What a detach answers: the handle, whether it closes and whether there is an error; how many
 // deliveries ended, the first and the last of them; and how many are left.
-type Detached = (Option<(u32, bool, bool)>, usize, Told, Told, usize);
+pub(super) type Detached = (Option<(u32, bool, bool)>, usize, Told, Told, usize);
 
-fn detached(
+pub(super) fn detached(
     link: &mut SenderLink<Target>,
     closed: bool,
     remote_initiated: bool,
@@ -302,7 +306,7 @@ fn closing_detach_ends_all(rt: HostRuntime) {
 
 // How many deliveries end as a detach with an error fails them, the first and the last of them, and how
 // many are left.
-fn failed(
+pub(super) fn failed(
     rt: &(impl Abort + AllocGlobal),
     link: &mut SenderLink<Target>,
 ) -> Option<(usize, Told, Told, usize)> {
