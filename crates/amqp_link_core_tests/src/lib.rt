@@ -6,4 +6,6 @@ mod dividing;
 #[cfg(test)]
 mod incomplete_transfer;
 #[cfg(test)]
+mod properties;
+#[cfg(test)]
 mod resumption;

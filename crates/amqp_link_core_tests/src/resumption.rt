@@ -171,8 +171,12 @@ fn rows_of_an_own_front(rt: HostRuntime) {
     let first = Told::Front(0, 0);
     let answer = resolved(&rt, first, Told::Null);
     assert_eq!(rt; answer, Answer::Resumed(first, 8, 8), "a front of no bytes");
-    let beyond = resolved(&rt, Told::Front(1, 5), Told::Front(1, 2));
-    assert_eq!(rt; beyond, ABORTED, "a front beyond the other");
+    let beyond = resolved_in(&rt, 0, Told::Front(1, 5), Told::Front(1, 2));
+    assert_eq!(rt;
+        beyond,
+        Answer::Aborted(0, Some(1)),
+        "a front beyond the other"
+    );
 }
 
 #[test]

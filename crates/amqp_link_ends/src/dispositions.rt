@@ -1,11 +1,22 @@
 //! Worked values of dispositions, and of the detach that closes a link, at both ends.
 use amqp_link_types::delivery::DeliveryOutcome;
 use amqp_link_types::frame::LinkFrame;
-use amqp_link_types::types::{DeliveryState, DeliveryTag, LinkStateError};
+use amqp_link_types::types::{DeliveryState, DeliveryTag, Error, LinkStateError, Symbol};
+use std::process::Abort;
 
 mod receiver;
 mod refused;
 mod sender;
+
+// An error with a condition alone.
+fn error(rt: &(impl Abort + AllocGlobal)) -> Error {
+    let condition = String::from_str(rt.alloc(), "x:y").expect(rt, "memory");
+    Error {
+        condition: Symbol::from(condition),
+        description: None,
+        info: None,
+    }
+}
 
 // What a disposition says: the first and the last number, and whether it settles.
 type Said = Option<(u32, Option<u32>, bool)>;

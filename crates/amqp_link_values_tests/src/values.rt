@@ -1,5 +1,6 @@
 //! What no clause says of the values: that each call answers while there is memory, and that
 //! hashed maps find what was made apart.
+mod copies;
 mod symbols;
 
 use amqp_link_values::{DeliveryTag, Descriptor, Fields, Symbol, Text, Value};

@@ -1,12 +1,12 @@
 //! A receiver's end.
-use super::{Said, Told, all_said, said, told_by_state};
+use super::{Said, Told, all_said, error, said, told_by_state};
 use crate::samples::{count_tag, parts};
 use amqp_link_core::endpoint::LinkExt;
 use amqp_link_receiver::receiver_link::ReceiverLink;
 use amqp_link_types::delivery::DeliveryInfo;
 use amqp_link_types::frame::LinkFrame;
 use amqp_link_types::types::{
-    DeliveryState, Detach, Handle, LinkRelayError, OutputHandle, ReceiverSettleMode,
+    DeliveryState, Detach, Error, Handle, LinkRelayError, OutputHandle, ReceiverSettleMode,
     SenderSettleMode, Target,
 };
 use std::process::Abort;
@@ -63,8 +63,8 @@ pub(super) fn frames_of<E: Drop>(answer: Result<Vec<LinkFrame>, E>) -> Option<(u
 }
 
 // What is said of these deliveries, accepted; which tags are kept then, up to three, in order; and what
-// is known of the first two.
-type Answer = (Option<(usize, [Said; 4])>, [Option<u8>; 3], [Told; 2]);
+// is known of the first three.
+type Answer = (Option<(usize, [Said; 4])>, [Option<u8>; 3], [Told; 3]);
 
 fn all_accepted<const N: usize>(
     rt: &(impl Abort + AllocGlobal),
@@ -76,7 +76,11 @@ fn all_accepted<const N: usize>(
     let infos = listed(rt, infos);
     let said = frames_of(link.dispose_all(&infos, settled, DeliveryState::Accepted, false));
     let tags = [tag_at(&link, 0), tag_at(&link, 1), tag_at(&link, 2)];
-    let told = [known(rt, &link, 0), known(rt, &link, 1)];
+    let told = [
+        known(rt, &link, 0),
+        known(rt, &link, 1),
+        known(rt, &link, 2),
+    ];
     drop(infos);
     drop(link);
     (said, tags, told)
@@ -106,7 +110,7 @@ fn dispositions_break_where_modes_differ(rt: HostRuntime) {
         [Some(2), Some(1), None],
         "the last moves into the gap"
     );
-    assert_eq!(rt; told, [Told::Absent, Told::Accepted]);
+    assert_eq!(rt; told, [Told::Absent, Told::Accepted, Told::Accepted]);
 }
 
 #[test]
@@ -156,7 +160,7 @@ fn nothing_is_said_of_what_is_not_kept(rt: HostRuntime) {
         Some((1, [Some((4, Some(4), false)), None, None, None]))
     );
     assert_eq!(rt; tags, [Some(0), None, None]);
-    assert_eq!(rt; told, [Told::Accepted, Told::Absent]);
+    assert_eq!(rt; told, [Told::Accepted, Told::Absent, Told::Absent]);
     let (said, tags, _) = all_accepted(&rt, 1, None, []);
     assert_eq!(rt;
         said,
@@ -250,19 +254,21 @@ fn dispositions_that_come_are_never_answered(rt: HostRuntime) {
     assert_eq!(rt; told_back(&rt, false, None), (false, Told::NoState));
 }
 
+// What a detach answers: the handle, whether it closes and whether there is an error.
 fn detached(
     link: &ReceiverLink<Target>,
+    error: Option<Error>,
     remote_initiated: bool,
-) -> Result<Option<(u32, bool)>, LinkRelayError> {
+) -> Result<Option<(u32, bool, bool)>, LinkRelayError> {
     let detach = Detach {
         handle: Handle(7),
         closed: true,
-        error: None,
+        error,
     };
     let reply = link.on_incoming_detach(&detach, remote_initiated);
     drop(detach);
     let reply = reply?;
-    let said = reply.as_ref().map(|reply| (reply.handle.0, reply.closed));
+    let said = reply.as_ref().map(|reply| (reply.handle.0, reply.closed, reply.error.is_some()));
     drop(reply);
     Ok(said)
 }
@@ -270,12 +276,14 @@ fn detached(
 #[test]
 fn detach_is_answered_at_the_own_handle(rt: HostRuntime) {
     let link = link(&rt, 1);
-    let unattached = detached(&link, true);
-    let own = detached(&link, false);
+    let unattached = detached(&link, None, true);
+    let own = detached(&link, None, false);
     let link = link.with_output_handle(OutputHandle(3));
-    let answered = detached(&link, true);
+    let answered = detached(&link, None, true);
+    let with_error = detached(&link, Some(error(&rt)), true);
     drop(link);
     assert_eq!(rt; unattached, Err(LinkRelayError::UnattachedHandle));
     assert_eq!(rt; own, Ok(None));
-    assert_eq!(rt; answered, Ok(Some((3, true))));
+    assert_eq!(rt; answered, Ok(Some((3, true, false))));
+    assert_eq!(rt; with_error, Ok(Some((3, true, true))));
 }

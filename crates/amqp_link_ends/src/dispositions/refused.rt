@@ -47,8 +47,6 @@ fn sender_loses_nothing(rt: HostRuntime) {
     );
 }
 
-const CLOSED: Told = Told::RemoteClosedWithError;
-
 #[test]
 fn failed_deliveries_are_not_lost(rt: HostRuntime) {
     let mut link = sender::mixed(&rt, 3);
@@ -66,7 +64,8 @@ fn failed_deliveries_are_not_lost(rt: HostRuntime) {
     if first.is_none() {
         assert_eq!(rt; between, before);
     }
-    assert_eq!(rt; told, Some((3, CLOSED, CLOSED, 0)));
+    let closed = sender::all_ended(Told::RemoteClosedWithError);
+    assert_eq!(rt; told, Some((closed, 0)));
 }
 
 #[test]
@@ -76,19 +75,18 @@ fn closing_detach_loses_nothing(rt: HostRuntime) {
     if before[0].0 < 3 {
         return;
     }
-    let first = sender::detached(&mut link, true, true).ok();
+    let first = sender::detached(&mut link, sender::detach(true, None), true).ok();
     let between = kept(&rt, &link);
     let told = match first {
         Some(told) => Some(told),
-        None => sender::detached(&mut link, true, true).ok(),
+        None => sender::detached(&mut link, sender::detach(true, None), true).ok(),
     };
     drop(link);
     if first.is_none() {
         assert_eq!(rt; between, before);
     }
-    let said = Some((0, true, false));
-    let closed = Told::RemoteClosed;
-    assert_eq!(rt; told, Some((said, 3, closed, closed, 0)));
+    let closed = sender::all_ended(Told::RemoteClosed);
+    assert_eq!(rt; told, Some((Some((0, true, false)), closed, 0)));
 }
 
 // The tags that a receiver keeps, and what is known of two.

@@ -1,5 +1,5 @@
 //! A sender's end.
-use super::{Said, Told, all_said, told_by, told_by_state};
+use super::{Said, Told, all_said, error, told_by, told_by_state};
 use crate::samples::{attach_of, count_tag, parts};
 use amqp_link_core::endpoint::{LinkAttach, LinkExt};
 use amqp_link_sender::sender_link::{SenderLink, Waiting};
@@ -7,7 +7,7 @@ use amqp_link_types::delivery::Outcomes;
 use amqp_link_types::frame::LinkFrame;
 use amqp_link_types::types::{
     DeliveryNumber, DeliveryState, DeliveryTag, Detach, Error, Handle, LinkFlow, LinkRelayError,
-    OutputHandle, Payload, ReceiverSettleMode, Role, SenderSettleMode, Symbol, Target,
+    OutputHandle, Payload, ReceiverSettleMode, Role, SenderSettleMode, Target,
 };
 use std::process::Abort;
 
@@ -250,98 +250,108 @@ fn dispositions_that_come_end_or_are_kept(rt: HostRuntime) {
     assert_eq!(rt; told, (true, Told::Absent, Told::NoState));
 }
 
-// What a detach answers: the handle, whether it closes and whether there is an error; how many
-// deliveries ended, the first and the last of them; and how many are left.
-pub(super) type Detached = (Option<(u32, bool, bool)>, usize, Told, Told, usize);
+// How many deliveries ended, and the tag's last byte and the outcome of the first three.
+pub(super) type Ends = (usize, [(Option<u8>, Told); 3]);
+
+fn end_at(outcomes: &Outcomes, index: usize) -> (Option<u8>, Told) {
+    let outcome = outcomes.as_slice().get(index);
+    let tag = outcome.and_then(|ended| ended.0.as_bytes().last().copied());
+    (tag, told_by(outcome))
+}
+
+fn ends_in(outcomes: &Outcomes) -> Ends {
+    let ends = [
+        end_at(outcomes, 0),
+        end_at(outcomes, 1),
+        end_at(outcomes, 2),
+    ];
+    (outcomes.len(), ends)
+}
+
+// The first three deliveries, each ended so.
+pub(super) const fn all_ended(so: Told) -> Ends {
+    (3, [(Some(0), so), (Some(1), so), (Some(2), so)])
+}
+
+pub(super) const NO_END: Ends = (0, [(None, Told::Absent); 3]);
+
+pub(super) fn detach(closed: bool, error: Option<Error>) -> Detach {
+    Detach {
+        handle: Handle(7),
+        closed,
+        error,
+    }
+}
+
+// What a detach answers: the handle, whether it closes and whether there is an error; what ended; and
+// how many are left.
+pub(super) type Detached = (Option<(u32, bool, bool)>, Ends, usize);
 
 pub(super) fn detached(
     link: &mut SenderLink<Target>,
-    closed: bool,
+    detach: Detach,
     remote_initiated: bool,
 ) -> Result<Detached, LinkRelayError> {
-    let detach = Detach {
-        handle: Handle(7),
-        closed,
-        error: None,
-    };
-    let (reply, outcomes) = link.on_incoming_detach(&detach, remote_initiated)?;
+    let answer = link.on_incoming_detach(&detach, remote_initiated);
+    drop(detach);
+    let (reply, outcomes) = answer?;
     let said = reply.as_ref().map(|reply| (reply.handle.0, reply.closed, reply.error.is_some()));
-    let ended = (told_by(outcomes.first()), told_by(outcomes.last()));
-    let told = (
-        said,
-        outcomes.len(),
-        ended.0,
-        ended.1,
-        link.unsettled().len(),
-    );
+    let told = (said, ends_in(&outcomes), link.unsettled().len());
     drop(outcomes);
     drop(reply);
-    drop(detach);
     Ok(told)
 }
 
 #[test]
 fn closing_detach_ends_all(rt: HostRuntime) {
     let mut link = mixed(&rt, 3);
-    let own = detached(&mut link, true, false);
-    let open = detached(&mut link, false, true);
-    let closing = detached(&mut link, true, true);
+    let own = detached(&mut link, detach(true, None), false);
+    let open = detached(&mut link, detach(false, None), true);
+    let closing = detached(&mut link, detach(true, None), true);
     *link.output_handle_mut() = None;
-    let unattached = detached(&mut link, true, true);
+    let unattached = detached(&mut link, detach(true, None), true);
     drop(link);
-    assert_eq!(rt;
-        own,
-        Ok((None, 0, Told::Absent, Told::Absent, 3)),
-        "an answer to an own one"
-    );
-    let said = Some((0, false, false));
-    assert_eq!(rt; open, Ok((said, 0, Told::Absent, Told::Absent, 3)));
-    let said = Some((0, true, false));
-    assert_eq!(rt;
-        closing,
-        Ok((said, 3, Told::RemoteClosed, Told::RemoteClosed, 0))
-    );
+    assert_eq!(rt; own, Ok((None, NO_END, 3)), "an answer to an own one");
+    assert_eq!(rt; open, Ok((Some((0, false, false)), NO_END, 3)));
+    let closed = all_ended(Told::RemoteClosed);
+    assert_eq!(rt; closing, Ok((Some((0, true, false)), closed, 0)));
     assert_eq!(rt; unattached, Err(LinkRelayError::UnattachedHandle));
 }
 
-// How many deliveries end as a detach with an error fails them, the first and the last of them, and how
-// many are left.
+#[test]
+fn detach_with_an_error_is_answered_with_it(rt: HostRuntime) {
+    let mut link = mixed(&rt, 3);
+    let open = detached(&mut link, detach(false, Some(error(&rt))), true);
+    let closing = detached(&mut link, detach(true, Some(error(&rt))), true);
+    drop(link);
+    assert_eq!(rt; open, Ok((Some((0, false, true)), NO_END, 3)));
+    let closed = all_ended(Told::RemoteClosedWithError);
+    assert_eq!(rt; closing, Ok((Some((0, true, true)), closed, 0)));
+}
+
+// What ends as a detach with an error fails the deliveries, and how many are left.
 pub(super) fn failed(
     rt: &(impl Abort + AllocGlobal),
     link: &mut SenderLink<Target>,
-) -> Option<(usize, Told, Told, usize)> {
-    let condition = String::from_str(rt.alloc(), "x:y").expect(rt, "memory");
-    let detach = Detach {
-        handle: Handle(7),
-        closed: true,
-        error: Some(Error {
-            condition: Symbol::from(condition),
-            description: None,
-            info: None,
-        }),
-    };
+) -> Option<(Ends, usize)> {
+    let detach = detach(true, Some(error(rt)));
     let answer = link.fail_pending_unsettled(&detach);
     drop(detach);
     let Ok(outcomes) = answer else {
         return None;
     };
-    let ended = (told_by(outcomes.first()), told_by(outcomes.last()));
-    let told = (outcomes.len(), ended.0, ended.1, link.unsettled().len());
+    let told = (ends_in(&outcomes), link.unsettled().len());
     drop(outcomes);
     Some(told)
 }
 
 #[test]
 fn deliveries_fail_with_the_error(rt: HostRuntime) {
-    let mut link = mixed(&rt, 2);
+    let mut link = mixed(&rt, 3);
     let told = failed(&rt, &mut link);
     let again = failed(&rt, &mut link);
     drop(link);
-    let closed = Told::RemoteClosedWithError;
-    assert_eq!(rt; told, Some((2, closed, closed, 0)));
-    assert_eq!(rt;
-        again,
-        Some((0, Told::Absent, Told::Absent, 0)),
-        "nothing is pending"
-    );
+    let closed = all_ended(Told::RemoteClosedWithError);
+    assert_eq!(rt; told, Some((closed, 0)));
+    assert_eq!(rt; again, Some((NO_END, 0)), "nothing is pending");
 }

@@ -161,6 +161,36 @@ fn shown_at_30(rt: &(impl Abort + AllocGlobal), bytes: &[u8]) -> Option<[Option<
     shown
 }
 
+// What a transfer that was made says: its handle, format, settlement, whether it resumes and is
+// batchable, and whether it has a tag and an id.
+fn made(transfer: &Transfer) -> (u32, Option<u32>, Option<bool>, [bool; 4]) {
+    let flags = [
+        transfer.resume,
+        transfer.batchable,
+        transfer.delivery_tag.is_some(),
+        transfer.delivery_id.is_some(),
+    ];
+    let Transfer {
+        handle,
+        message_format,
+        settled,
+        ..
+    } = transfer;
+    (handle.0, *message_format, *settled, flags)
+}
+
+#[test]
+fn transfer_of_a_new_delivery_is_made(rt: HostRuntime) {
+    let link = new_link(&rt, SenderSettleMode::Mixed);
+    let tag = count_tag(&rt, 3);
+    let answer = link.generate_non_resuming_transfer_performative(tag, 5, Some(true), None, true);
+    let told = answer.as_ref().ok().map(made);
+    drop(answer);
+    drop(link);
+    let flags = [false, true, true, false];
+    assert_eq!(rt; told, Some((0, Some(5), Some(true), flags)));
+}
+
 // Twelve bytes at 30 go as five, five and two; only the first frame names the delivery.
 #[test]
 fn twelve_bytes_are_three_frames(rt: HostRuntime) {

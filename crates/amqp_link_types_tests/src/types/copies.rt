@@ -1,7 +1,7 @@
 //! Copies, while there is memory.
 use super::samples::{attach, error, fields, source, tag, target, unsettled};
 use amqp_link_types::types::{
-    ConnectionStopReason, DeliveryState, Detach, Disposition, Handle, LinkFlow, Role,
+    ConnectionStopReason, DeliveryState, Detach, Disposition, Handle, LinkFlow, Outcome, Role,
     SessionStopReason, TargetArchetype, TerminusDurability, Transfer,
 };
 use std::process::Abort;
@@ -30,6 +30,23 @@ fn a_copied_transfer_is_equal(rt: HostRuntime) {
     let mut other = transfer(&rt);
     other.state = Some(DeliveryState::Accepted);
     copied(&rt, transfer(&rt), other, "the state");
+}
+
+#[test]
+fn a_copied_state_is_equal(rt: HostRuntime) {
+    let why = Some(error(&rt));
+    let original = DeliveryState::Rejected { error: why };
+    copied(&rt, original, DeliveryState::Released, "a state");
+    let why = Some(error(&rt));
+    copied(
+        &rt,
+        Outcome::Rejected { error: why },
+        Outcome::Released,
+        "an outcome",
+    );
+    let mut other = error(&rt);
+    other.info = Some(fields(&rt, 9));
+    copied(&rt, error(&rt), other, "an error");
 }
 
 #[test]

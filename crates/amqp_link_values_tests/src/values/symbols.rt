@@ -2,7 +2,7 @@
 use amqp_link_values::{Symbol, Symbols};
 use std::process::Abort;
 
-fn symbol(rt: &(impl Abort + AllocGlobal), name: &str) -> Symbol {
+pub(super) fn symbol(rt: &(impl Abort + AllocGlobal), name: &str) -> Symbol {
     let name = String::from_str(rt.alloc(), name);
     Symbol::from(name.expect(rt, "memory"))
 }
@@ -14,7 +14,12 @@ fn symbols(rt: &(impl Abort + AllocGlobal), first: &str, second: &str) -> Symbol
 }
 
 // A copy is equal to its original, and to nothing else.
-fn copied<T: Clone + PartialEq + Drop>(rt: &impl Abort, original: T, other: T, what: &str) {
+pub(super) fn copied<T: Clone + PartialEq + Drop>(
+    rt: &impl Abort,
+    original: T,
+    other: T,
+    what: &str,
+) {
     let copy = original.clone().expect(rt, "memory");
     let (is_original, is_other) = (copy == original, copy == other);
     drop((copy, original));

@@ -1,0 +1,50 @@
+//! Fields, and copies of names, while there is memory.
+use super::symbols::{copied, symbol};
+use amqp_link_values::{DeliveryTag, Fields, Text, Value};
+use std::process::Abort;
+
+// These numbers under these names.
+fn named<const N: usize>(rt: &(impl Abort + AllocGlobal), pairs: [(&str, u8); N]) -> Fields {
+    let mut fields = Fields::new(rt.alloc());
+    for (name, number) in pairs {
+        let put = fields.insert(symbol(rt, name), Value::Ubyte(number));
+        drop(put.expect(rt, "memory"));
+    }
+    fields
+}
+
+#[test]
+fn fields_are_put_one_by_one(rt: HostRuntime) {
+    let own = named(&rt, [("a", 1), ("b", 2)]);
+    let theirs = named(&rt, [("b", 3), ("c", 4)]);
+    let both = own.merged(&theirs).expect(&rt, "memory");
+    let wanted = named(&rt, [("a", 1), ("b", 3), ("c", 4)]);
+    let is_wanted = both == wanted;
+    drop((both, wanted));
+    drop((own, theirs));
+    assert!(rt; is_wanted, "a, the newer b, and c");
+}
+
+#[test]
+fn copied_fields_are_equal(rt: HostRuntime) {
+    let original = named(&rt, [("a", 1), ("b", 2)]);
+    let other = named(&rt, [("a", 1), ("b", 3)]);
+    copied(&rt, original, other, "a value");
+    let original = named(&rt, [("a", 1)]);
+    copied(&rt, original, named(&rt, [("b", 1)]), "a name");
+}
+
+fn text(rt: &(impl Abort + AllocGlobal), words: &str) -> Text {
+    Text::from(String::from_str(rt.alloc(), words).expect(rt, "memory"))
+}
+
+fn tag(rt: &(impl Abort + AllocGlobal), byte: u8) -> DeliveryTag {
+    DeliveryTag::from(vec![in rt.alloc(); byte].expect(rt, "memory"))
+}
+
+#[test]
+fn copied_names_are_equal(rt: HostRuntime) {
+    copied(&rt, symbol(&rt, "a"), symbol(&rt, "b"), "a symbol");
+    copied(&rt, text(&rt, "a"), text(&rt, "b"), "a text");
+    copied(&rt, tag(&rt, 1), tag(&rt, 2), "a tag");
+}
