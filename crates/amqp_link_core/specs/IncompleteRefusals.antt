@@ -59,7 +59,8 @@ resume_tests held t payload =
     ∷ (is_of_another held.performative t, InconsistentFieldInMultiFrameDelivery)
     ∷ long_test (bytes_of held ++ payload)
 
--- A result by the first test that holds. Want of memory may come before each of them.
+-- A result by the first test that holds. Want of memory may come before each of them; a clause `memory`
+-- of the call says before which it does not.
 abbrev pub Answers : {A : Type 0} → Result A ReceiverTransferError → List Test → Type 0
 Answers (Ok a) tests = refusal tests ≡ None
 Answers (Err OutOfMemory) tests = Unit {0}

@@ -1,7 +1,7 @@
 //! What both ends of a link share, whatever their role and target: how an attach and a detach move
 //! them (2.6.3 to 2.6.6).
 ghost use Rattle.std.specs.Prelude.{◌≡◌, ◌⊎◌, ℕ, Bool, true, false, List, [], if◌then◌else◌};
-ghost use Rattle.std.specs.Prelude.{Option, None, Some, Ok, Err, MatchOption, MatchResult, IfOk, IfErr, IfNone, IsErrAnd, OnOk, OnErr};
+ghost use Rattle.std.specs.Prelude.{Option, None, Some, Ok, Err, MatchOption, MatchResult, IfOk, IfErr, IfNone, IsErrAnd, IsErrOf, OnOk, OnErr, is_none};
 ghost use Rattle.std.specs.Borrow.{Lends, sem};
 ghost use Rattle.std.specs.contracts.option.Option.{the_row as option_row};
 ghost use Rattle.amqp_link_types.specs.contracts.types.definitions.OutputHandle.{the_row as handle_row};
@@ -164,6 +164,8 @@ pub trait LinkAttach: LinkDetach {
             ⊎ (next_state Call.SendAttach false (Self.state self.old) ≡ None)))
             ⊎ ((error ≡ too_large) × IsTooLarge (Self.state self.old) (Self.handle self.old) (whole self.old)
             (if is_reattaching then [] else entries self.old) (frame_limit self.old))) }
+        ensures memory { IsErrOf result out_of_memory → (is_none (Self.handle self.old) ≡ false)
+            × (is_none (next_state Call.SendAttach false (Self.state self.old)) ≡ false) }
         ensures left { OnErr result (self.new ≡ self.old) };
 
     // ---- the attach that comes

@@ -4,7 +4,7 @@
 //! which they came. The first transfer names the delivery; a continuation may leave its tag, id and
 //! format out, and is refused where it names another.
 ghost use Rattle.std.specs.Prelude.{◌≡◌, ◌++◌, [], ◌∷◌};
-ghost use Rattle.std.specs.Prelude.{List, Some, not, nat_eq, length, IfOk, OnOk, OnErr};
+ghost use Rattle.std.specs.Prelude.{List, Some, false, not, nat_eq, length, is_none, IfOk, IsErrOf, OnOk, OnErr};
 ghost use Rattle.std.specs.Str.{bytes_eq};
 ghost use Rattle.std.specs.Option.{option_or};
 ghost use Rattle.amqp_link_payloads.specs.Position.{position};
@@ -67,6 +67,8 @@ impl IncompleteTransfer {
         ensures merged { IfOk result (λ held. Merged (opening transfer ∷ []) held.performative) }
         ensures bytes { IfOk result (λ held. bytes_of held ≡ payload) }
         ensures refused { Answers result (start_tests transfer payload) }
+        ensures memory { IsErrOf result ReceiverTransferError.OutOfMemory
+            → (is_none transfer.delivery_id ≡ false) × (is_none transfer.delivery_tag ≡ false) }
     {
         if transfer.delivery_id.is_none() {
             drop((transfer, payload));
@@ -116,6 +118,8 @@ impl IncompleteTransfer {
             → self.new.performative ≡ self.old.performative) }
 
         ensures refused { Answers result (append_tests self.old transfer payload) }
+        ensures memory { IsErrOf result ReceiverTransferError.OutOfMemory
+            → is_inconsistent self.old.performative transfer ≡ false }
         ensures err { OnErr result (self.new ≡ self.old) }
     {
         if self.is_inconsistent_with(&transfer) {

@@ -1,6 +1,6 @@
 //! What a detach that comes makes of the deliveries that a sender keeps, and what is answered
 //! (2.6.5, 2.6.6 and 2.7.7).
-ghost use Rattle.std.specs.Prelude.{◌≡◌, IfOk};
+ghost use Rattle.std.specs.Prelude.{◌≡◌, IfOk, OnErr, true, is_some};
 ghost use Rattle.amqp_link_dispositions.specs.Ending.{closed_for as why_closed, all_closed as all_closed_for, reply_of};
 
 use amqp_link_types::delivery::{Outcomes, UnsettledMessage};
@@ -9,9 +9,11 @@ use amqp_link_types::types::{Detach, Error, LinkStateError, OutputHandle};
 use amqp_link_values::copy::copy_of;
 use std::alloc::{AllocError, Global};
 
-/// The detach that answers one at an own handle: as closed, and with the same error.
+/// The detach that answers one at an own handle: as closed, and with the same error. Only an error
+/// takes memory.
 pub fn reply_to(detach: &Detach, handle: OutputHandle) -> Result<Detach, AllocError>
-    ensures { IfOk result (λ reply. reply ≡ reply_of handle detach.now) }
+    ensures reply { IfOk result (λ reply. reply ≡ reply_of handle detach.now) }
+    ensures memory { OnErr result (is_some detach.now.error ≡ true) }
 {
     Ok(Detach {
         handle: handle.into(),

@@ -1,7 +1,7 @@
 //! Delivery ids in order, and the runs in which dispositions name them (OASIS AMQP 1.0 core, 2.7.6).
 #![tactic(auto)]
 
-ghost use Rattle.std.specs.Prelude.{◌≡◌, ◌++◌, ◌∷◌, [], ℕ, List, IfOk, OnOk, OnErr};
+ghost use Rattle.std.specs.Prelude.{◌≡◌, ◌++◌, ◌∷◌, ◌≤◌, [], ℕ, List, length, IfOk, IsOk, OnOk, OnErr};
 ghost use Rattle.amqp_link_runs.specs.Order.{sorted_by};
 ghost use Rattle.amqp_link_runs.specs.Runs.{AreRuns};
 
@@ -27,6 +27,7 @@ pub struct Run {
 pub fn sort_by_id<T>(pairs: &mut Vec<(u32, T)>) -> Result<(), AllocError>
     ensures sorted { OnOk result (pairs.new.items ≡ sorted_by (λ pair. pair.0) pairs.old.items) }
     ensures left { OnErr result (pairs.new.items ≡ pairs.old.items) }
+    ensures few { length pairs.old.items ≤ 20 → IsOk result }
 {
     pairs.sort_by_key(|pair| pair.0)
 }

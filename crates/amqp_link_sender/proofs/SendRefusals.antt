@@ -54,7 +54,7 @@ module _ {T : Type 0} (s : Sender T) (d : Delivery) (payload : List ℕ) where
 
 -- a refused transfer refuses the delivery
 pub told : (r : Result Sending LinkStateError) (tests : List (Bool × LinkStateError)) (stops : List (Bool × Stop)) (e : LinkStateError) → IsErrAnd r (λ x. x ≡ e)
-    → refusal stops ≡ option_map refused (refusal tests) → (e ≡ error.OutOfMemory) ⊎ (refusal tests ≡ Some e) → AnswersSend r stops
+    → refusal stops ≡ option_map refused (refusal tests) → ((e ≡ error.OutOfMemory) × (refusal tests ≡ None)) ⊎ (refusal tests ≡ Some e) → AnswersSend r stops
 told (Ok a) tests stops e is same why = absurd is
-told (Err x) tests stops e is same (inl memory) = inl (is ∙ memory)
+told (Err x) tests stops e is same (inl memory) = inl (is ∙ memory.0)
 told (Err x) tests stops e is same (inr stop) = inr (same ∙ ap (option_map refused) (stop ∙ ap Some (sym is)))

@@ -1,6 +1,6 @@
 -- A sender's link endpoint as its callers see it, and what its calls do (OASIS AMQP 1.0 core, 2.6
 -- and 2.7.5).
-use Rattle.std.specs.Prelude.{◌≡◌, ◌⊎◌, ℕ, ◌==◌, ◌&&◌, not, Bool, true, false, List, [], ◌∷◌, length, map, Option, Some, None, is_some, is_none, IsSomeAnd, unwrap_or, if◌then◌else◌, Result, Ok, Err}
+use Rattle.std.specs.Prelude.{◌≡◌, ◌≢◌, ◌⊎◌, ℕ, ◌==◌, ◌&&◌, not, Bool, true, false, List, [], ◌∷◌, length, map, Option, Some, None, is_some, is_none, IsSomeAnd, unwrap_or, if◌then◌else◌, Result, Ok, Err}
 use Rattle.std.specs.Int.{w32, to_be_bytes}
 use Rattle.std.specs.Option.{option_map_or}
 use Rattle.amqp_link_types.specs.declared.types.errors.LinkStateError.{LinkStateError}
@@ -171,13 +171,6 @@ transfer_tests s t payload =
     ∷ []
 
 -- a transfer that is to be registered names its delivery, which is free where it is unsettled
-abbrev pub registering_tests : {T : Type 0} → Sender T → Transfer → List (Bool × LinkStateError)
-registering_tests s t =
-    (is_none t.delivery_tag, error.IllegalState)
-    ∷ (is_none s.input_handle, error.IllegalState)
-    ∷ (not (settled_on_send s t) && option_map_or (is_pending s) t.delivery_tag false, error.TagPending)
-    ∷ []
-
 abbrev pub tagged_transfer_tests : {T : Type 0} → Sender T → Transfer → List ℕ → List (Bool × LinkStateError)
 tagged_transfer_tests s t payload =
     (is_none t.delivery_tag, error.IllegalState)
@@ -201,12 +194,18 @@ payload_tests s d payload =
     ∷ (not (has_room t s.max_frame_size payload), refused error.NoRoom)
     ∷ []
 
--- A result by the first test that holds. Want of memory may come before each of them.
+-- A result by the first test that holds. Want of memory comes after all of them.
 abbrev pub Answers : {A : Type 0} → Result A LinkStateError → List (Bool × LinkStateError) → Type 0
 Answers (Ok a) tests = refusal tests ≡ None
-Answers (Err e) tests = (e ≡ error.OutOfMemory) ⊎ (refusal tests ≡ Some e)
+Answers (Err e) tests = ((e ≡ error.OutOfMemory) × (refusal tests ≡ None)) ⊎ (refusal tests ≡ Some e)
 
--- the same of a send of a payload
+-- the handles and the credit that a send of a payload asks for before it makes the delivery's tag
+abbrev pub CanSend : {T : Type 0} → Sender T → Type 0
+CanSend s =
+    (is_none s.output_handle ≡ false) × (is_none s.input_handle ≡ false) × (s.flow_state.link_credit ≢ 0)
+
+-- A send of a payload by the first test that holds. Its tag is made for the last two of them, so want of
+-- memory may come before these; before the others it does not where `CanSend` is shown beside.
 abbrev pub AnswersSend : Result Sending LinkStateError → List (Bool × Stop) → Type 0
 AnswersSend (Ok (sending.Sent told frames)) tests = refusal tests ≡ None
 AnswersSend (Ok sending.CreditMissing) tests = refusal tests ≡ Some missing_credit

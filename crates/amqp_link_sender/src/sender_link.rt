@@ -3,7 +3,7 @@
 //! `send_*` are commands that answer frames, in the order in which they are to go out. A new link is
 //! attached first, then the receiver grants credit, then payloads go out, one credit for each
 //! delivery.
-ghost use Rattle.std.specs.Prelude.{◌≡◌, ◌⊎◌, [], length, None, Some, IfOk, IfErr, IsSomeAnd, OnOk, OnErr, MatchOption};
+ghost use Rattle.std.specs.Prelude.{◌≡◌, ◌⊎◌, [], length, None, Some, IfOk, IfErr, IsSomeAnd, IsErrOf, OnOk, OnErr, MatchOption};
 ghost use Rattle.std.specs.Int.{w32, to_be_bytes};
 ghost use Rattle.amqp_link_sender.specs.Room.{payload_limit as limit_of_payload};
 ghost use Rattle.amqp_link_sender.specs.Split.{Least};
@@ -121,7 +121,7 @@ impl<T: LinkTarget> SenderLink<T> {
     ghost use Rattle.amqp_link_sender.specs.Senders.{delivery_of, next_tag, new_transfer, new_entry, settled_on_send, IsFewest};
     ghost use Rattle.amqp_link_types.specs.Entries.{with_entry};
     ghost use Rattle.amqp_link_sender.specs.Waits.{waiting_error, after_waiting};
-    ghost use Rattle.amqp_link_sender.specs.Senders.{transfer_tests, registering_tests, tagged_transfer_tests, payload_tests};
+    ghost use Rattle.amqp_link_sender.specs.Senders.{transfer_tests, tagged_transfer_tests, payload_tests, CanSend};
     ghost use Rattle.amqp_link_state.specs.declared.state.LinkState.TheVariants.{Unattached};
 
     /// A link that is not attached, without handles and unsettled deliveries. Takes no memory.
@@ -247,8 +247,8 @@ impl<T: LinkTarget> SenderLink<T> {
     /// `SessionStopped`.
     ///
     /// Then, in this order: `IllegalState` without output handle, then without input handle; the answer
-    /// `CreditMissing`; `TagPending` for an unsettled delivery; `NoRoom`; want of memory. Nothing has
-    /// changed then.
+    /// `CreditMissing`; `TagPending` for an unsettled delivery; `NoRoom`; want of memory, which may come
+    /// before `TagPending`, as the tag is made. Nothing has changed then.
     pub fn send_payload(
         &mut self,
         waiting: Waiting,
@@ -266,6 +266,8 @@ impl<T: LinkTarget> SenderLink<T> {
             (AnswersSend result (payload_tests self.old
             (delivery_of message_format settled state batchable) payload.now))
             (λ error. result ≡ Err error) }
+        ensures memory { IsErrOf result LinkStateError.OutOfMemory
+            → waiting_error self.old.local_state waiting ≡ None → CanSend self.old }
         ensures left { OnErr result (self.new ≡ after_waiting self.old waiting) }
     {
         match self.take_waiting(waiting) {
@@ -292,6 +294,7 @@ impl<T: LinkTarget> SenderLink<T> {
             (delivery_of message_format settled state batchable) payload.now sending) }
         ensures refused { AnswersSend result (payload_tests self.old
             (delivery_of message_format settled state batchable) payload.now) }
+        ensures memory { IsErrOf result LinkStateError.OutOfMemory → CanSend self.old }
         ensures left { OnErr result (self.new ≡ self.old) }
     {
         if self.output_handle.is_none() || self.input_handle.is_none() {
@@ -347,7 +350,7 @@ impl<T: LinkTarget> SenderLink<T> {
     pub fn send_payload_with_transfer(
         &mut self,
         message_format: MessageFormat,
-        transfer: Transfer,
+        mut transfer: Transfer,
         payload: &Payload,
     ) -> Result<(Settlement, Vec<LinkFrame>), LinkStateError>
         ensures sent { IfOk result (λ sent. IsSomeAnd transfer.delivery_tag (λ tag.
@@ -357,7 +360,7 @@ impl<T: LinkTarget> SenderLink<T> {
         ensures refused { Answers result (tagged_transfer_tests self.old transfer payload.now) }
         ensures left { OnErr result (self.new ≡ self.old) }
     {
-        let tag = match self.tag_to_register(&transfer) {
+        let tag = match self.tag_to_register(&mut transfer, payload) {
             Ok(tag) => tag,
             Err(refused) => {
                 drop(transfer);
@@ -414,11 +417,18 @@ impl<T: LinkTarget> SenderLink<T> {
         }
     }
 
-    // The tag under which a transfer's delivery is to be registered, where it is unsettled.
-    fn tag_to_register(&self, transfer: &Transfer) -> Result<DeliveryTag, LinkStateError>
-        ensures tag { IfOk result (λ tag. transfer.now.delivery_tag ≡ Some tag) }
-        ensures refused { Answers result (registering_tests self.now transfer.now) }
+    // The tag under which a transfer's delivery is to be registered, where it is unsettled; by all
+    // tests of a transfer with a payload. The transfer is as it was.
+    fn tag_to_register(
+        &self,
+        transfer: &mut Transfer,
+        payload: &Payload,
+    ) -> Result<DeliveryTag, LinkStateError>
+        ensures tag { IfOk result (λ tag. transfer.old.delivery_tag ≡ Some tag) }
+        ensures refused { Answers result (tagged_transfer_tests self.now transfer.old payload.now) }
+        ensures same { transfer.new ≡ transfer.old }
     {
+        let has_room = payload_limit(transfer, self.max_frame_size, payload).is_some();
         let Some(tag) = &transfer.delivery_tag else {
             return Err(LinkStateError::IllegalState);
         };
@@ -427,6 +437,9 @@ impl<T: LinkTarget> SenderLink<T> {
         }
         if !self.is_settled_on_send(transfer) && self.unsettled.contains(tag) {
             return Err(LinkStateError::TagPending);
+        }
+        if !has_room {
+            return Err(LinkStateError::NoRoom);
         }
         Ok(tag.clone()?)
     }

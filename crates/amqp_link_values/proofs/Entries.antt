@@ -1,6 +1,6 @@
 -- The entries of a map of values, beside the entries that a contract sees.
-use Rattle.std.proofs.Common.{◌≡◌, ◌∙◌, [], ◌∷◌, refl, ap, ℕ, Bool, true, false, cond, List, map}
-use Rattle.std.proofs.Common.{Option, Some, None, Result, Ok, Err, IfOk, option_map, option_copied}
+use Rattle.std.proofs.Common.{◌≡◌, ◌∙◌, [], ◌∷◌, refl, sym, ap, ℕ, Bool, true, false, cond, List, map}
+use Rattle.std.proofs.Common.{Option, Some, None, Result, Ok, Err, IfOk, OnErr, option_map, option_copied}
 use Rattle.std.proofs.Common.{Bor}
 use Rattle.std.specs.List.{AllZip}
 use Rattle.std.specs.Map.{lookup}
@@ -31,6 +31,12 @@ pub view-replaced : {E : Type 0} (r : Result (Option Value) E) →
     IfOk r (λ was. option_map view was ≡ lookup test (map view_entry es))
 view-replaced (Ok was) test es h = ap (option_map view) h ∙ view-lookup test es
 view-replaced (Err e) test es h = h
+
+-- and what is not found where it fails is not found among the seen ones
+pub view-absent : {A E : Type 0} (r : Result A E) (test : List ℕ → Bool) (es : List Entry) →
+    OnErr r (lookup test es ≡ None) → OnErr r (lookup test (map view_entry es) ≡ None)
+view-absent (Ok a) test es h = h
+view-absent (Err e) test es h = sym (view-lookup test es) ∙ ap (option_map view) h
 
 -- the value behind a reference, seen
 pub view_of_copied : (r : Option (Bor Value)) →

@@ -1,13 +1,14 @@
 //! Copies of parts that may be absent.
-ghost use Rattle.std.specs.Prelude.{◌≡◌, IfOk};
+ghost use Rattle.std.specs.Prelude.{◌≡◌, IfOk, OnErr, is_some, true};
 
 use std::alloc::AllocError;
 
-/// A copy of what may be absent, for a type whose copies are equal to what they copy. May take
-/// memory.
+/// A copy of what may be absent, for a type whose copies are equal to what they copy. Takes none
+/// where it is absent.
 pub fn copy_of<T: Clone>(value: &Option<T>) -> Result<Option<T>, AllocError>
     requires { (t c : T) → T.is_clone t c → c ≡ t }
-    ensures { IfOk result (λ copy. copy ≡ value.now) }
+    ensures copy { IfOk result (λ copy. copy ≡ value.now) }
+    ensures memory { OnErr result (is_some value.now ≡ true) }
 {
     match value {
         Some(value) => Ok(Some(value.clone()?)),

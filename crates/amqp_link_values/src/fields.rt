@@ -1,6 +1,6 @@
 //! Maps from symbols to values (2.8.13).
 ghost use Rattle.std.specs.Prelude.{◌≡◌, ◌↔◌, [], map, length, option_map};
-ghost use Rattle.std.specs.Prelude.{IsTrue, OnOk, OnErr, IfOk, IfErr};
+ghost use Rattle.std.specs.Prelude.{IsTrue, None, OnOk, OnErr, IfOk, IfErr};
 ghost use Rattle.std.specs.Cmp.{partial_equiv_from_equiv};
 ghost use Rattle.std.specs.Map.{lookup};
 ghost use Rattle.std.specs.Str.{bytes_eq};
@@ -75,6 +75,7 @@ impl Fields {
         ensures ok { OnOk result (self.new ≡ insert_entry bytes_eq self.old name (view value)) }
         ensures replaced { IfOk result (λ v. option_map view v ≡ lookup (bytes_eq name) self.old) }
         ensures err { OnErr result (self.new ≡ self.old) }
+        ensures absent { OnErr result (lookup (bytes_eq name) self.old ≡ None) }
         ensures back { IfErr result (λ failed. failed.value ≡ (name, value)) }
     {
         self.entries.insert(name, value)

@@ -1,5 +1,5 @@
 //! A delivery that was cut off, as it is taken up again (2.6.13).
-ghost use Rattle.std.specs.Prelude.{◌≡◌, ◌++◌, [], ◌∷◌, List, OnOk, OnErr, MatchOption};
+ghost use Rattle.std.specs.Prelude.{◌≡◌, ◌++◌, [], ◌∷◌, List, false, is_none, IsSome, IsErrOf, OnOk, OnErr, MatchOption};
 ghost use Rattle.std.specs.Option.{option_or};
 ghost use Rattle.amqp_link_payloads.specs.Position.{place};
 ghost use Rattle.amqp_link_core.specs.Merging.{Came, Merged, IsSilent, opening, resumed};
@@ -41,6 +41,9 @@ impl IncompleteTransfer {
             → self.new.performative ≡ resumed self.old.performative transfer) }
 
         ensures refused { Answers result (resume_tests self.old transfer payload) }
+        ensures memory { IsErrOf result ReceiverTransferError.OutOfMemory
+            → (is_none transfer.delivery_id ≡ false) × (is_none transfer.delivery_tag ≡ false)
+            × (is_of_another self.old.performative transfer ≡ false) }
         ensures err { OnErr result (self.new ≡ self.old) }
     {
         if transfer.delivery_id.is_none() {
@@ -71,7 +74,8 @@ impl IncompleteTransfer {
     /// position and the size of that front from now on. Where there is no such place nothing
     /// changes. Reads all bytes and copies none.
     ///
-    /// Takes memory for the piece in which the front ends. Where it is refused nothing changes.
+    /// Takes memory for the piece in which the front ends, and none where there is no such place.
+    /// Where it is refused nothing changes.
     pub fn keep_buffer_till_section_number_and_offset( // up to a position (3.4.1)
         &mut self,
         number: u32,
@@ -79,6 +83,7 @@ impl IncompleteTransfer {
     ) -> Result<(), AllocError>
         ensures kept { OnOk result (MatchOption (place (bytes_of self.old) number offset)
             (self.new ≡ self.old) (λ place. IsFront self.old self.new place)) }
+        ensures memory { OnErr result (IsSome (place (bytes_of self.old) number offset)) }
         ensures err { OnErr result (self.new ≡ self.old) }
     {
         let Some(place) = place_in(self.pieces.as_slice(), number, offset) else {

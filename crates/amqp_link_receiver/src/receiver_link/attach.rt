@@ -1,6 +1,6 @@
 //! A receiver's end is attached (2.6.3, 2.6.4).
 ghost use Rattle.std.specs.Prelude.{◌≡◌, ◌↔◌, ◌⊎◌, true, false, List, [], if◌then◌else◌};
-ghost use Rattle.std.specs.Prelude.{None, Some, Ok, Err, IfOk, IfErr, OnOk, OnErr, IsTrue, IsSome};
+ghost use Rattle.std.specs.Prelude.{None, Some, Ok, Err, IfOk, IfErr, IsErrOf, OnOk, OnErr, IsTrue, IsSome};
 ghost use Rattle.std.specs.Prelude.{◌∷◌, is_none, is_some, unwrap_or};
 ghost use Rattle.std.specs.Option.{option_or};
 ghost use Rattle.amqp_link_types.specs.declared.frame.LinkFrame.TheVariants as frame;
@@ -139,6 +139,8 @@ impl<T: LinkTarget> ReceiverLink<T> {
             ⊎ ((error ≡ ReceiverAttachError.AttachTooLarge) × IsTooLarge self.now.local_state
             self.now.output_handle (receiver_attach T.sent_as self.now)
             (if is_reattaching then [] else self.now.unsettled) self.now.max_frame_size)) }
+        ensures memory { IsErrOf result ReceiverAttachError.OutOfMemory → (is_none self.now.output_handle ≡ false)
+            × (is_none (next_state Call.SendAttach false self.now.local_state) ≡ false) }
     {
         let Some(handle) = self.output_handle else {
             return Err(ReceiverAttachError::IllegalState);
@@ -406,8 +408,8 @@ impl<T: LinkTarget> LinkAttach for ReceiverLink<T> {
     ///
     /// Refused in this order: illegal state, with nothing changed, where the state has no row for it.
     /// From here on the state has moved, the other's handle is known, and no delivery goes on: no
-    /// source; past it the source and the sender's mode are taken: no coordinator here, where the target
-    /// is not of the link's kind; no initial count.
+    /// source; past it the source and the sender's mode are taken: no initial count; no coordinator here,
+    /// where the target is not of the link's kind.
     fn on_incoming_attach(
         &mut self,
         attach: Attach,

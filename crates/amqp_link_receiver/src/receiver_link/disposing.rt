@@ -1,7 +1,7 @@
 //! Dispositions that go out from a receiver's end and such as come to it (2.6.12, 2.7.6), and what a
 //! detach is answered (2.6.5, 2.6.6).
-ghost use Rattle.std.specs.Prelude.{◌≡◌, ◌↔◌, true, false, None, IsSome};
-ghost use Rattle.std.specs.Prelude.{IfOk, IsErrOf, OnOk, OnErr, if◌then◌else◌};
+ghost use Rattle.std.specs.Prelude.{◌≡◌, ◌↔◌, ◌⊎◌, true, false, None, IsSome, is_some};
+ghost use Rattle.std.specs.Prelude.{IfOk, IfErr, IsErrOf, OnOk, OnErr, if◌then◌else◌};
 ghost use Rattle.std.specs.Option.{option_map};
 ghost use Rattle.amqp_link_types.specs.Entries.{entry_at};
 ghost use Rattle.amqp_link_dispositions.specs.Ending.{reply_of};
@@ -110,7 +110,7 @@ impl<T: LinkTarget> ReceiverLink<T> {
     /// link is as it was: `apply_remote_detach_outcome`, or `on_detach_reply`, moves its state.
     ///
     /// Refused: `UnattachedHandle` without output handle, then `OutOfMemory`; neither where the detach
-    /// answers an own one.
+    /// answers an own one. Only an error takes memory.
     pub fn on_incoming_detach(
         &self,
         detach: &Detach,
@@ -120,7 +120,9 @@ impl<T: LinkTarget> ReceiverLink<T> {
             then option_map (λ handle. reply_of handle detach.now) self.now.output_handle else None)) }
         ensures unattached { IsErrOf result LinkRelayError.UnattachedHandle
             ↔ ((remote_initiated ≡ true) × (self.now.output_handle ≡ None)) }
-        ensures memory { OnErr result (remote_initiated ≡ true) }
+        ensures memory { IfErr result (λ error. (error ≡ LinkRelayError.UnattachedHandle)
+            ⊎ ((error ≡ LinkRelayError.OutOfMemory) × (remote_initiated ≡ true)
+            × (is_some detach.now.error ≡ true))) }
     {
         if !remote_initiated {
             return Ok(None);

@@ -1,6 +1,6 @@
 //! Flows that go out from a receiver's end, and those that come to it (2.6.7).
 ghost use Rattle.std.specs.Prelude.{◌≡◌, ◌↔◌, true, None, Ok, Err};
-ghost use Rattle.std.specs.Prelude.{IfOk, IsErrOf, IsSomeAnd, OnOk, OnErr, MatchOption};
+ghost use Rattle.std.specs.Prelude.{IfOk, IsErrOf, IsSomeAnd, OnOk, OnErr, MatchOption, is_some};
 ghost use Rattle.amqp_link_state.specs.Counts.{receiver_after, receiver_reply};
 ghost use Rattle.amqp_link_state.specs.Counts.{with_stated, stated_flow};
 
@@ -28,7 +28,8 @@ impl<T: LinkTarget> ReceiverLink<T> {
         ensures flow { IfOk result (λ sent. IsSomeAnd self.old.output_handle (λ handle.
             sent ≡ LinkFrame.Flow (stated_flow self.new.flow_state handle echo include_properties))) }
         ensures illegal { IsErrOf result FlowError.IllegalState ↔ (self.old.output_handle ≡ None) }
-        ensures memory { IsErrOf result FlowError.OutOfMemory → include_properties ≡ true }
+        ensures memory { IsErrOf result FlowError.OutOfMemory
+            → (include_properties ≡ true) × (is_some self.old.flow_state.properties ≡ true) }
         ensures left { OnErr result (self.new ≡ self.old) }
     {
         let Some(handle) = self.output_handle else {

@@ -1,6 +1,6 @@
 //! A sender's end is attached (2.6.3, 2.6.4).
 ghost use Rattle.std.specs.Prelude.{◌≡◌, ◌≤◌, ◌++◌, ◌↔◌, ◌⊎◌, ◌+◌, true, false, List, [], if◌then◌else◌};
-ghost use Rattle.std.specs.Prelude.{None, Some, Ok, IfOk, IfErr, IsTrue, length, vec_len, vec_capacity, unwrap_or};
+ghost use Rattle.std.specs.Prelude.{None, Some, Ok, IfOk, IfErr, IsErrOf, IsTrue, is_none, length, vec_len, vec_capacity, unwrap_or};
 ghost use Rattle.amqp_link_types.specs.declared.frame.LinkFrame.TheVariants as frame;
 ghost use Rattle.amqp_link_types.specs.Unsettled.{states_of};
 ghost use Rattle.amqp_link_core.specs.AttachSent.{SendsAttach, IsTooLarge};
@@ -193,6 +193,8 @@ impl<T: LinkTarget> SenderLink<T> {
             ⊎ ((error ≡ SenderAttachError.AttachTooLarge) × IsTooLarge self.now.local_state
             self.now.output_handle (sender_attach T.sent_as self.now)
             (if is_reattaching then [] else states_of self.now.unsettled) self.now.max_frame_size)) }
+        ensures memory { IsErrOf result SenderAttachError.OutOfMemory → (is_none self.now.output_handle ≡ false)
+            × (is_none (next_state Call.SendAttach false self.now.local_state) ≡ false) }
     {
         let Some(handle) = self.output_handle else {
             return Err(SenderAttachError::IllegalState);

@@ -1,7 +1,7 @@
 //! Dispositions that go out from a sender's end and such as come to it (2.6.12, 2.7.6), and what
 //! becomes of its deliveries as the link is closed (2.6.6).
-ghost use Rattle.std.specs.Prelude.{◌≡◌, ◌∷◌, ◌&&◌, ◌↔◌, [], map, true, false, None};
-ghost use Rattle.std.specs.Prelude.{IfOk, IfSome, IsSome, IsErrOf, OnOk, OnErr, if◌then◌else◌};
+ghost use Rattle.std.specs.Prelude.{◌≡◌, ◌∷◌, ◌&&◌, ◌||◌, ◌↔◌, ◌⊎◌, [], map, true, false, None, is_some};
+ghost use Rattle.std.specs.Prelude.{IfOk, IfErr, IfSome, IsSome, IsErrOf, OnOk, OnErr, if◌then◌else◌};
 ghost use Rattle.std.specs.Option.{option_map};
 ghost use Rattle.amqp_link_dispositions.specs.Ending.{all_closed as all_closed_for, ended_by, reply_of, told};
 ghost use Rattle.amqp_link_dispositions.specs.Listed.{tags_in_order};
@@ -155,7 +155,8 @@ impl<T: LinkTarget> SenderLink<T> {
     /// The state stays as it is: `apply_remote_detach_outcome`, or `on_detach_reply`, moves it.
     ///
     /// Refused with nothing changed: `UnattachedHandle` without output handle, then `OutOfMemory`;
-    /// neither where the detach answers an own one.
+    /// neither where the detach answers an own one. Only one that closes the link, or has an error,
+    /// takes memory.
     pub fn on_incoming_detach(
         &mut self,
         detach: &Detach,
@@ -170,7 +171,9 @@ impl<T: LinkTarget> SenderLink<T> {
             then record self.old { unsettled = [] } else self.old)) }
         ensures unattached { IsErrOf result LinkRelayError.UnattachedHandle
             ↔ ((remote_initiated ≡ true) × (self.old.output_handle ≡ None)) }
-        ensures memory { OnErr result (remote_initiated ≡ true) }
+        ensures memory { IfErr result (λ error. (error ≡ LinkRelayError.UnattachedHandle)
+            ⊎ ((error ≡ LinkRelayError.OutOfMemory) × (remote_initiated ≡ true)
+            × ((detach.now.closed || is_some detach.now.error) ≡ true))) }
         ensures left { OnErr result (self.new ≡ self.old) }
     {
         if !remote_initiated {

@@ -2,7 +2,7 @@
 //!
 //! Only the properties of a flow that goes out take memory.
 ghost use Rattle.std.specs.Prelude.{◌≡◌, ◌↔◌, ◌+◌, ◌%◌, ◌^◌, ◌<◌, ◌≤◌, true, if◌then◌else◌, None};
-ghost use Rattle.std.specs.Prelude.{IfOk, IfErr, IsErr, OnErr, OnOk};
+ghost use Rattle.std.specs.Prelude.{IfOk, IfErr, IsErr, OnErr, OnOk, is_some};
 ghost use Rattle.std.specs.Int.{w32, to_be_bytes};
 ghost use Rattle.amqp_link_state.specs.Counts.{sdiff, granted as granted_by, limit_of, after_consuming};
 ghost use Rattle.amqp_link_state.specs.Counts.{flow_of, credit_after, sender_after, sender_reply};
@@ -40,7 +40,8 @@ impl LinkFlowStateInner {
         ensures flow { IfOk result (λ flow. flow ≡ record (flow_of self.now output_handle echo) {
           properties = if include_properties then self.now.properties else None;
         }) }
-        ensures memory { OnErr result (include_properties ≡ true) }
+        ensures memory { OnErr result
+            ((include_properties ≡ true) × (is_some self.now.properties ≡ true)) }
     {
         let properties = if include_properties {
             copy_of(&self.properties)?
@@ -170,7 +171,8 @@ impl LinkFlowState<ReceiverMarker> {
         ensures after { OnOk result (self.new ≡ with_stated link_credit drain self.old) }
         ensures flow { IfOk result (λ flow.
             flow ≡ stated_flow self.new output_handle echo include_properties) }
-        ensures memory { OnErr result (include_properties ≡ true) }
+        ensures memory { OnErr result
+            ((include_properties ≡ true) × (is_some self.old.properties ≡ true)) }
         ensures kept { OnErr result (self.new ≡ self.old) }
     {
         let state = &mut self.inner;
