@@ -331,7 +331,8 @@ send_tests w payload =
 abbrev pub arrive_tests : World → List (Bool × PairError)
 arrive_tests w = (not (is_together w.phase), error.NotAttached) ∷ (is_empty w.wire, error.WireEmpty) ∷ []
 
--- A result by the first test that holds. Want of memory may come before each of them.
+-- A result by the first test that holds. Want of memory may come before each of them; a clause `memory` of the
+-- call says before which it does not.
 abbrev pub Answers : {A : Type 0} → Result A PairError → List (Bool × PairError) → Type 0
 Answers (Ok a) tests = refusal tests ≡ None
 Answers (Err error.OutOfMemory) tests = Unit {0}

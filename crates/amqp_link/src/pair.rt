@@ -3,10 +3,11 @@
 //! A pair shows both ends at work: payloads go in at the sender, transfers come off the wire one by
 //! one, and the receiver holds of each delivery exactly the bytes that came. All deliveries are
 //! unsettled and of format 0.
-ghost use Rattle.std.specs.Prelude.{◌≡◌, ◌<◌, [], None, Some, IfOk, OnErr, option_copied};
+ghost use Rattle.std.specs.Prelude.{◌≡◌, ◌≢◌, ◌<◌, ◌≤◌, ◌^◌, [], true, false, length, None, Some, IfOk, IsErrOf, OnErr, option_copied};
+ghost use Rattle.amqp_link_types.specs.Refusals.{refusal};
 ghost use Rattle.amqp_link.specs.Worlds.{Good, held_at};
 ghost use Rattle.amqp_link.specs.Steps.{Attaches, LeftByAttach, Grants, Sends, Arrives, Answers, AnswersExactly};
-ghost use Rattle.amqp_link.specs.Steps.{new_world, attach_tests, grant_tests, send_tests, arrive_tests};
+ghost use Rattle.amqp_link.specs.Steps.{is_together, is_halfway_at_other, new_world, attach_tests, grant_tests, send_tests, arrive_tests};
 
 mod deliveries;
 mod ends;
@@ -106,12 +107,13 @@ impl Pair {
     ///
     /// Refused in this order, with nothing changed: `AlreadyAttached`; `LimitChanged`, where an earlier
     /// call has begun at another limit; `LimitTooSmall` (under 29, or the attach of an end does not
-    /// fit). Want of memory may come before each of these. Where it comes past the
-    /// sender's attach the ends stay where they have come to, and the call is made again with the same
-    /// limit.
+    /// fit, for which want of memory may come first). Where it comes past the sender's attach the ends
+    /// stay where they have come to, and the call is made again with the same limit.
     pub fn attach(&mut self, limit: u32) -> Result<usize, PairError>
         ensures done { IfOk result (λ count. Attaches self.old limit count self.new) }
         ensures refused { Answers result (attach_tests self.old limit) }
+        ensures memory { IsErrOf result PairError.OutOfMemory → (is_together self.old.phase ≡ false)
+            × (is_halfway_at_other limit self.old.phase ≡ false) × (29 ≤ limit) }
         ensures left { LeftByAttach result self.old limit self.new }
         ensures good { Good self.new }
     {
@@ -122,7 +124,9 @@ impl Pair {
 
     // Whether nothing stands against attaching at a limit.
     fn may_attach(&self, limit: u32) -> Result<(), PairError>
-        ensures { Answers result (attach_tests self.now limit) }
+        ensures refused { Answers result (attach_tests self.now limit) }
+        ensures memory { IsErrOf result PairError.OutOfMemory → (is_together self.now.phase ≡ false)
+            × (is_halfway_at_other limit self.now.phase ≡ false) × (29 ≤ limit) }
     {
         match self.ends.stage {
             Stage::Together => return Err(PairError::AlreadyAttached),
@@ -157,10 +161,13 @@ impl Pair {
     /// its transfers.
     ///
     /// Refused in this order, with nothing changed: `NotAttached`, `PayloadTooLong` (2^32 bytes or
-    /// more), `CreditMissing`, `TagPending`, want of memory.
+    /// more), `CreditMissing`, `TagPending`, want of memory, which may come before `TagPending`, as the
+    /// tag is made.
     pub fn send(&mut self, payload: &Payload) -> Result<Sent, PairError>
         ensures done { IfOk result (λ sent. Sends self.old payload.now sent.tag sent.frames self.new) }
         ensures refused { Answers result (send_tests self.old payload.now) }
+        ensures memory { IsErrOf result PairError.OutOfMemory → (is_together self.old.phase ≡ true)
+            × (length payload.now < 2 ^ 32) × (self.old.sender.flow_state.link_credit ≢ 0) }
         ensures left { OnErr result (self.new ≡ self.old) }
         ensures good { Good self.new }
     {
@@ -201,6 +208,7 @@ impl Pair {
         ensures done { IfOk result (λ came. Arrives self.old id came.tag
             (came.section_number, came.section_offset) came.whole self.new) }
         ensures refused { Answers result (arrive_tests self.old) }
+        ensures memory { IsErrOf result PairError.OutOfMemory → refusal (arrive_tests self.old) ≡ None }
         ensures left { OnErr result (self.new ≡ self.old) }
         ensures good { Good self.new }
     {
