@@ -4,14 +4,11 @@ use amqp_link_types::types::{Fields, Symbol, Value};
 use std::process::Abort;
 
 // These numbers under these names.
-fn named<const N: usize>(
-    rt: &(impl Abort + AllocGlobal),
-    pairs: [(&str, u8); N],
-) -> Option<Fields> {
+fn named(rt: &(impl Abort + AllocGlobal), pairs: &[(&str, u8)]) -> Option<Fields> {
     let mut fields = Fields::new(rt.alloc());
-    for (name, number) in pairs {
-        let name = String::from_str(rt.alloc(), name).expect(rt, "memory");
-        let put = fields.insert(Symbol::from(name), Value::Ubyte(number));
+    for pair in pairs {
+        let name = String::from_str(rt.alloc(), pair.0).expect(rt, "memory");
+        let put = fields.insert(Symbol::from(name), Value::Ubyte(pair.1));
         drop(put.expect(rt, "memory"));
     }
     Some(fields)
@@ -33,11 +30,11 @@ fn is_joined(
 
 #[test]
 fn properties_that_come_are_put_one_by_one(rt: HostRuntime) {
-    let own = named(&rt, [("a", 1), ("b", 2)]);
-    let theirs = named(&rt, [("b", 3), ("c", 4)]);
-    let wanted = named(&rt, [("a", 1), ("b", 3), ("c", 4)]);
+    let own = named(&rt, &[("a", 1), ("b", 2)]);
+    let theirs = named(&rt, &[("b", 3), ("c", 4)]);
+    let wanted = named(&rt, &[("a", 1), ("b", 3), ("c", 4)]);
     let joined = is_joined(&rt, own, theirs, wanted);
-    let taken = is_joined(&rt, None, named(&rt, [("b", 3)]), named(&rt, [("b", 3)]));
-    let kept = is_joined(&rt, named(&rt, [("a", 1)]), None, named(&rt, [("a", 1)]));
+    let taken = is_joined(&rt, None, named(&rt, &[("b", 3)]), named(&rt, &[("b", 3)]));
+    let kept = is_joined(&rt, named(&rt, &[("a", 1)]), None, named(&rt, &[("a", 1)]));
     assert_eq!(rt; (joined, taken, kept), (true, true, true));
 }

@@ -4,10 +4,10 @@ use amqp_link_values::{DeliveryTag, Fields, Text, Value};
 use std::process::Abort;
 
 // These numbers under these names.
-fn named<const N: usize>(rt: &(impl Abort + AllocGlobal), pairs: [(&str, u8); N]) -> Fields {
+fn named(rt: &(impl Abort + AllocGlobal), pairs: &[(&str, u8)]) -> Fields {
     let mut fields = Fields::new(rt.alloc());
-    for (name, number) in pairs {
-        let put = fields.insert(symbol(rt, name), Value::Ubyte(number));
+    for pair in pairs {
+        let put = fields.insert(symbol(rt, pair.0), Value::Ubyte(pair.1));
         drop(put.expect(rt, "memory"));
     }
     fields
@@ -15,10 +15,10 @@ fn named<const N: usize>(rt: &(impl Abort + AllocGlobal), pairs: [(&str, u8); N]
 
 #[test]
 fn fields_are_put_one_by_one(rt: HostRuntime) {
-    let own = named(&rt, [("a", 1), ("b", 2)]);
-    let theirs = named(&rt, [("b", 3), ("c", 4)]);
+    let own = named(&rt, &[("a", 1), ("b", 2)]);
+    let theirs = named(&rt, &[("b", 3), ("c", 4)]);
     let both = own.merged(&theirs).expect(&rt, "memory");
-    let wanted = named(&rt, [("a", 1), ("b", 3), ("c", 4)]);
+    let wanted = named(&rt, &[("a", 1), ("b", 3), ("c", 4)]);
     let is_wanted = both == wanted;
     drop((both, wanted));
     drop((own, theirs));
@@ -27,11 +27,11 @@ fn fields_are_put_one_by_one(rt: HostRuntime) {
 
 #[test]
 fn copied_fields_are_equal(rt: HostRuntime) {
-    let original = named(&rt, [("a", 1), ("b", 2)]);
-    let other = named(&rt, [("a", 1), ("b", 3)]);
+    let original = named(&rt, &[("a", 1), ("b", 2)]);
+    let other = named(&rt, &[("a", 1), ("b", 3)]);
     copied(&rt, original, other, "a value");
-    let original = named(&rt, [("a", 1)]);
-    copied(&rt, original, named(&rt, [("b", 1)]), "a name");
+    let original = named(&rt, &[("a", 1)]);
+    copied(&rt, original, named(&rt, &[("b", 1)]), "a name");
 }
 
 fn text(rt: &(impl Abort + AllocGlobal), words: &str) -> Text {
