@@ -223,23 +223,44 @@ halfway w ends limit stop = record w {
 }
 
 IsStopped : World → Stage → ℕ → ℕ → ℕ → Ends → Type 0
-IsStopped w at n m limit new = (stop : Stop) × (with_ends w new ≡ halfway w (ends_at at n m) limit stop)
+IsStopped w at n m limit new =
+    (stop : Stop) × (with_ends w new ≡ halfway w (ends_at at n m) limit stop)
+    × ((ends_at at n m).receiver.local_state ≡ state.Attached → stop ≡ Answered)
+
+-- before its attach has gone out a receiver is not attached
+not_yet : (at : Stage) (n m : ℕ) (stop : Stop) → (at ≡ stage.Apart) ⊎ (at ≡ stage.Asked) ⊎ (at ≡ stage.Taken)
+    → (ends_at at n m).receiver.local_state ≡ state.Attached → stop ≡ Answered
+not_yet stage.Apart n m stop early h = absurd (cc)
+not_yet stage.Asked n m stop early h = absurd (cc)
+not_yet stage.Taken n m stop early h = absurd (cc)
+not_yet stage.Answered n m stop early h =
+    elim early as (λ _. stop ≡ Answered) [
+      | inl e ↦ absurd (cc)
+      | inr (inl e) ↦ absurd (cc)
+      | inr (inr e) ↦ absurd (cc)
+    ]
+not_yet stage.Together n m stop early h =
+    elim early as (λ _. stop ≡ Answered) [
+      | inl e ↦ absurd (cc)
+      | inr (inl e) ↦ absurd (cc)
+      | inr (inr e) ↦ absurd (cc)
+    ]
 
 at_asked : (w : World) (at : Stage) (n m limit : ℕ) (new : Ends) → (at ≡ stage.Apart) ⊎ (at ≡ stage.Asked) → new ≡ ends_at stage.Asked n limit → IsStopped w at n m limit new
 unfolding IsStopped
 at_asked w at n m limit new early e =
     elim early as (λ _. IsStopped w at n m limit new) [
-      | inl h ↦ (Asked, ap (with_ends w) e ∙ ap (λ s. halfway w (ends_at s n m) limit Asked) (sym h))
-      | inr h ↦ (Asked, ap (with_ends w) e ∙ ap (λ s. halfway w (ends_at s n m) limit Asked) (sym h))
+      | inl h ↦ (Asked, ap (with_ends w) e ∙ ap (λ s. halfway w (ends_at s n m) limit Asked) (sym h), not_yet at n m Asked (inl h))
+      | inr h ↦ (Asked, ap (with_ends w) e ∙ ap (λ s. halfway w (ends_at s n m) limit Asked) (sym h), not_yet at n m Asked (inr (inl h)))
     ]
 
 at_taken : (w : World) (at : Stage) (n m limit : ℕ) (new : Ends) → (at ≡ stage.Apart) ⊎ (at ≡ stage.Asked) ⊎ (at ≡ stage.Taken) → new ≡ ends_at stage.Taken n limit → IsStopped w at n m limit new
 unfolding IsStopped
 at_taken w at n m limit new early e =
     elim early as (λ _. IsStopped w at n m limit new) [
-      | inl h ↦ (Taken, ap (with_ends w) e ∙ ap (λ s. halfway w (ends_at s n m) limit Taken) (sym h))
-      | inr (inl h) ↦ (Taken, ap (with_ends w) e ∙ ap (λ s. halfway w (ends_at s n m) limit Taken) (sym h))
-      | inr (inr h) ↦ (Taken, ap (with_ends w) e ∙ ap (λ s. halfway w (ends_at s n m) limit Taken) (sym h))
+      | inl h ↦ (Taken, ap (with_ends w) e ∙ ap (λ s. halfway w (ends_at s n m) limit Taken) (sym h), not_yet at n m Taken early)
+      | inr (inl h) ↦ (Taken, ap (with_ends w) e ∙ ap (λ s. halfway w (ends_at s n m) limit Taken) (sym h), not_yet at n m Taken early)
+      | inr (inr h) ↦ (Taken, ap (with_ends w) e ∙ ap (λ s. halfway w (ends_at s n m) limit Taken) (sym h), not_yet at n m Taken early)
     ]
 
 answered_from : (w : World) (at : Stage) (n m limit : ℕ) → (at ≡ stage.Together → ⊥) → with_ends w (ends_at stage.Answered n limit) ≡ halfway w (ends_at at n m) limit Answered
@@ -256,28 +277,28 @@ stopped_from w stage.Apart n m limit new apart s =
     elim s as (λ _. IsStopped w stage.Apart n m limit new) [
       | inl e ↦ at_asked w stage.Apart n m limit new (inl refl) e
       | inr (inl e) ↦ at_taken w stage.Apart n m limit new (inl refl) e
-      | inr (inr e) ↦ (Answered, ap (with_ends w) e ∙ answered_from w stage.Apart n m limit apart)
+      | inr (inr e) ↦ (Answered, ap (with_ends w) e ∙ answered_from w stage.Apart n m limit apart, λ _. refl)
     ]
 stopped_from w stage.Asked n m limit new apart s =
     elim s as (λ _. IsStopped w stage.Asked n m limit new) [
       | inl e ↦ at_asked w stage.Asked n m limit new (inr refl) e
       | inr (inl e) ↦ at_taken w stage.Asked n m limit new (inr (inl refl)) e
-      | inr (inr e) ↦ (Answered, ap (with_ends w) e ∙ answered_from w stage.Asked n m limit apart)
+      | inr (inr e) ↦ (Answered, ap (with_ends w) e ∙ answered_from w stage.Asked n m limit apart, λ _. refl)
     ]
 stopped_from w stage.Taken n m limit new apart s =
     elim s as (λ _. IsStopped w stage.Taken n m limit new) [
       | inl e ↦ at_taken w stage.Taken n m limit new (inr (inr refl)) e
-      | inr e ↦ (Answered, ap (with_ends w) e ∙ answered_from w stage.Taken n m limit apart)
+      | inr e ↦ (Answered, ap (with_ends w) e ∙ answered_from w stage.Taken n m limit apart, λ _. refl)
     ]
-stopped_from w stage.Answered n m limit new apart s = (Answered, ap (with_ends w) s ∙ answered_from w stage.Answered n m limit apart)
+stopped_from w stage.Answered n m limit new apart s = (Answered, ap (with_ends w) s ∙ answered_from w stage.Answered n m limit apart, λ _. refl)
 stopped_from w stage.Together n m limit new apart s = absurd (apart refl)
 
 pub stopped_world : (w : World) (ends : Ends) (n limit : ℕ) (new : Ends) → (ends.stage ≡ stage.Together → ⊥) → ends ≡ ends_at ends.stage n ends.limit
-    → MayStop ends.stage n limit new → (stop : Stop) × (with_ends w new ≡ halfway w ends limit stop)
+    → MayStop ends.stage n limit new → (stop : Stop) × (with_ends w new ≡ halfway w ends limit stop) × (ends.receiver.local_state ≡ state.Attached → stop ≡ Answered)
 unfolding IsStopped
 stopped_world w ends n limit new apart e s =
     let there : IsStopped w ends.stage n ends.limit limit new = stopped_from w ends.stage n ends.limit limit new apart s in
-    (there.0, there.1 ∙ ap (λ x. halfway w x limit there.0) (sym e))
+    (there.0, there.1 ∙ ap (λ x. halfway w x limit there.0) (sym e), λ h. there.2 (sym (ap (λ (x : Ends). x.receiver.local_state) e) ∙ h))
 
 -- ---- attached ends
 

@@ -150,7 +150,7 @@ module _ (v : World) (ends : Ends) (limit : ℕ) (none : refusal (attach_tests (
           | inl e ↦ inl (ap (with_ends v) e)
           | inr h ↦
               let there = stopped_world v ends known.0 limit new apart known.1 h in
-              inr (there.0, record { may = none; world = there.1 })
+              inr (there.0, record { may = none; onward = there.2; world = there.1 })
         ]
 
     pub ends_stopping : (new : Ends) → (new ≡ ends) ⊎ MayStop ends.stage known.0 limit new → IsEnds new

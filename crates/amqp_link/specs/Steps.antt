@@ -241,9 +241,11 @@ receiver_at Asked limit count r = record r { max_frame_size = limit }
 receiver_at Taken limit count r = receiver_taken limit count r
 receiver_at Answered limit count r = receiver_together limit count r
 
--- Memory was wanting once the sender's attach had gone out. No test of the call holds.
+-- Memory was wanting once the sender's attach had gone out. No test of the call holds, and a receiver
+-- whose attach has gone out does not send it again.
 pub record StopsAt (stop : Stop) (old : World) (limit : ℕ) (new : World) : Type 0 where
   pub may : refusal (attach_tests old limit) ≡ None
+  pub onward : old.receiver.local_state ≡ Attached → stop ≡ Answered
   pub world : new ≡ record old {
     phase = Halfway limit;
     sender = sender_asking limit old.sender;

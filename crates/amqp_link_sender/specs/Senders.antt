@@ -200,12 +200,12 @@ Answers (Ok a) tests = refusal tests ≡ None
 Answers (Err e) tests = ((e ≡ error.OutOfMemory) × (refusal tests ≡ None)) ⊎ (refusal tests ≡ Some e)
 
 -- the handles and the credit that a send of a payload asks for before it makes the delivery's tag
-abbrev pub CanSend : {T : Type 0} → Sender T → Type 0
-CanSend s =
+abbrev pub HasHandlesAndCredit : {T : Type 0} → Sender T → Type 0
+HasHandlesAndCredit s =
     (is_none s.output_handle ≡ false) × (is_none s.input_handle ≡ false) × (s.flow_state.link_credit ≢ 0)
 
 -- A send of a payload by the first test that holds. Its tag is made for the last two of them, so want of
--- memory may come before these; before the others it does not where `CanSend` is shown beside.
+-- memory may come before these; before the others it does not where `HasHandlesAndCredit` is shown beside.
 abbrev pub AnswersSend : Result Sending LinkStateError → List (Bool × Stop) → Type 0
 AnswersSend (Ok (sending.Sent told frames)) tests = refusal tests ≡ None
 AnswersSend (Ok sending.CreditMissing) tests = refusal tests ≡ Some missing_credit

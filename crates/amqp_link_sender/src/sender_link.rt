@@ -121,7 +121,7 @@ impl<T: LinkTarget> SenderLink<T> {
     ghost use Rattle.amqp_link_sender.specs.Senders.{delivery_of, next_tag, new_transfer, new_entry, settled_on_send, IsFewest};
     ghost use Rattle.amqp_link_types.specs.Entries.{with_entry};
     ghost use Rattle.amqp_link_sender.specs.Waits.{waiting_error, after_waiting};
-    ghost use Rattle.amqp_link_sender.specs.Senders.{transfer_tests, tagged_transfer_tests, payload_tests, CanSend};
+    ghost use Rattle.amqp_link_sender.specs.Senders.{transfer_tests, tagged_transfer_tests, payload_tests, HasHandlesAndCredit};
     ghost use Rattle.amqp_link_state.specs.declared.state.LinkState.TheVariants.{Unattached};
 
     /// A link that is not attached, without handles and unsettled deliveries. Takes no memory.
@@ -267,7 +267,7 @@ impl<T: LinkTarget> SenderLink<T> {
             (delivery_of message_format settled state batchable) payload.now))
             (λ error. result ≡ Err error) }
         ensures memory { IsErrOf result LinkStateError.OutOfMemory
-            → waiting_error self.old.local_state waiting ≡ None → CanSend self.old }
+            → waiting_error self.old.local_state waiting ≡ None → HasHandlesAndCredit self.old }
         ensures left { OnErr result (self.new ≡ after_waiting self.old waiting) }
     {
         match self.take_waiting(waiting) {
@@ -294,7 +294,7 @@ impl<T: LinkTarget> SenderLink<T> {
             (delivery_of message_format settled state batchable) payload.now sending) }
         ensures refused { AnswersSend result (payload_tests self.old
             (delivery_of message_format settled state batchable) payload.now) }
-        ensures memory { IsErrOf result LinkStateError.OutOfMemory → CanSend self.old }
+        ensures memory { IsErrOf result LinkStateError.OutOfMemory → HasHandlesAndCredit self.old }
         ensures left { OnErr result (self.new ≡ self.old) }
     {
         if self.output_handle.is_none() || self.input_handle.is_none() {
