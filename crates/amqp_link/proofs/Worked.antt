@@ -1,12 +1,13 @@
 -- Values of the definitions that were worked out by hand: docs/DEFINITIONS.md lists them.
 use Rattle.std.proofs.Common.{◌≡◌, List, true, false, [], ◌∷◌, ◌++◌, refl, Some, None}
+use Rattle.amqp_link_types.proofs.MapLemmas.{false_is_not_true}
 use Rattle.amqp_link_types.specs.Refusals.{refusal}
 use Rattle.amqp_link_types.specs.Size as size
 use Rattle.amqp_link_types.specs.declared.frame.LinkFrame.{LinkFrame}
 use Rattle.amqp_link_types.specs.declared.frame.LinkFrame.TheVariants.{FirstTransfer, TransferContinuation}
-use Rattle.amqp_link.specs.Steps.{new_world, delivery_transfer, begun, received, attach_tests, grant_tests, send_tests, arrive_tests}
+use Rattle.amqp_link.specs.Steps.{new_world, delivery_transfer, begun, received, is_together, is_halfway_at_other, attach_tests, grant_tests, send_tests, arrive_tests}
 use Rattle.amqp_link.specs.Wires.{OnWire, under}
-use Rattle.amqp_link.specs.Worlds.{World, Halfway, Together, bytes_in, frames_of, joined}
+use Rattle.amqp_link.specs.Worlds.{World, Halfway, Together, IsGood, Good, bytes_in, frames_of, joined}
 use Rattle.amqp_link.specs.declared.pair.error.PairError.TheVariants.{AlreadyAttached, LimitChanged, LimitTooSmall, NotAttached, CreditMissing, WireEmpty}
 
 -- a first frame of the delivery 07, and a second one
@@ -40,10 +41,44 @@ not_whole_after_one = refl
 whole_after_two : (received (received begun 5 first_frame) 6 second_frame).whole ≡ true
 whole_after_two = refl
 
+-- the first has come, the second is under way
+good_after_one : IsGood (1 ∷ 2 ∷ 3 ∷ []) (received begun 5 first_frame) (second_frame ∷ [])
+good_after_one = record {
+  front = (3 ∷ [], refl);
+  all = refl;
+  ends = refl;
+  complete = λ whole. absurd (false_is_not_true whole);
+}
+
+-- both have come, and none is under way
+good_after_two : IsGood (1 ∷ 2 ∷ 3 ∷ []) (received (received begun 5 first_frame) 6 second_frame) []
+good_after_two = record {
+  front = ([], refl);
+  all = refl;
+  ends = refl;
+  complete = λ whole. refl;
+}
+
+-- no delivery is registered
+good_at_first : Good (new_world 0)
+good_at_first tag = tt
+
 -- ---- refusals
 
 abbrev attached : World
 attached = let w = new_world 0 in record w { phase = Together 30 }
+
+is_apart_at_first : is_together (new_world 0).phase ≡ false
+is_apart_at_first = refl
+
+is_together_then : is_together attached.phase ≡ true
+is_together_then = refl
+
+is_begun_at_30 : is_halfway_at_other 30 (Halfway 30) ≡ false
+is_begun_at_30 = refl
+
+is_not_begun_at_31 : is_halfway_at_other 31 (Halfway 30) ≡ true
+is_not_begun_at_31 = refl
 
 limit_of_28 : refusal (attach_tests (new_world 0) 28) ≡ Some LimitTooSmall
 limit_of_28 = refl

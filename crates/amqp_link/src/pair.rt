@@ -237,8 +237,11 @@ impl Pair {
     }
 
     /// What the receiver holds of a delivery, once its first transfer came.
+    ///
+    /// Takes no memory, and is answered at any time.
     pub fn held(&self, tag: &DeliveryTag) -> Option<&IncompleteTransfer>
-        ensures { option_copied result ≡ held_at self.now tag.now }
+        ensures held { option_copied result ≡ held_at self.now tag.now }
+        ensures good { Good self.now }
     {
         self.deliveries.get(tag)?.held.as_ref()
     }

@@ -8,7 +8,7 @@ use Rattle.amqp_link_types.specs.declared.types.delivery_state.DeliveryState.The
 use Rattle.amqp_link_types.specs.declared.types.errors.ReceiverTransferError.TheVariants.{DeliveryIdIsNone, DeliveryTagIsNone, InconsistentFieldInMultiFrameDelivery}
 use Rattle.amqp_link_types.specs.declared.types.transfer.Transfer.{Transfer}
 use Rattle.amqp_link_core.specs.Held.{Held, bytes_of}
-use Rattle.amqp_link_core.specs.IncompleteRefusals.{differs, is_too_long, start_tests, resume_tests}
+use Rattle.amqp_link_core.specs.IncompleteRefusals.{differs, is_too_long, is_inconsistent, is_of_another, start_tests, resume_tests}
 use Rattle.amqp_link_core.specs.Merging.{present, settled_by, state_by}
 use Rattle.amqp_link_core.specs.Resuming.{is_beyond, rest_from, resolution}
 use Rattle.amqp_link_core.specs.declared.resumption.Resolution.TheVariants.{Resuming, Outcome}
@@ -74,6 +74,13 @@ unfolding starts header_len
 then_the_tag = refl
 
 -- ---- deliveries that are taken up again
+
+-- another id alone
+another_id : is_inconsistent (record bare { delivery_id = Some 7 }) (record bare { delivery_id = Some 8 }) ≡ true
+another_id = refl
+
+another_id_of_the_same : is_of_another (record bare { delivery_id = Some 7 }) (record bare { delivery_id = Some 8 }) ≡ false
+another_id_of_the_same = refl
 
 of_another_format : refusal (resume_tests (record three_bytes { performative = record bare { message_format = Some 0 } })
     (record bare { delivery_id = Some 8; delivery_tag = Some (1 ∷ []); message_format = Some 1 }) []) ≡ Some InconsistentFieldInMultiFrameDelivery

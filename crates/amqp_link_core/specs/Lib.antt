@@ -1,4 +1,5 @@
 pub use Rattle.amqp_link_values.specs.Data
+pub use Rattle.amqp_link_types.specs.Deliveries
 pub use Rattle.amqp_link_types.specs.DeliveryStates
 pub use Rattle.amqp_link_types.specs.Entries
 pub use Rattle.amqp_link_payloads.specs.Header

@@ -191,6 +191,7 @@ pub trait LinkAttach: LinkDetach {
         ensures refused { MatchResult result
             (λ _. refusal_of self.old attach ≡ None)
             (λ error. (error ≡ out_of_memory) ⊎ (refusal_of self.old attach ≡ Some error)) }
+        ensures memory { IsErrOf result out_of_memory → refusal_of self.old attach ≡ None }
         ensures left { IfErr result (λ error. self.new ≡ left error self.old attach) }
         ensures step { MatchOption (next_state Call.IncomingAttach attach.incomplete_unsettled (Self.state self.old))
             (IsErrAnd result (λ error. error ≡ illegal_attach))

@@ -1,6 +1,11 @@
-//! The properties of a link once an attach has come, while there is memory (2.7.3).
-use amqp_link_core::endpoint::attached::with_properties;
-use amqp_link_types::types::{Fields, Symbol, Value};
+//! What an end says in its attach, and the properties of a link once one has come, while there is
+//! memory (2.7.3).
+use amqp_link_core::endpoint::attached::{
+    archetype_of, capabilities_of, name_and_properties_of, termini_of, with_properties,
+};
+use amqp_link_types::types::{
+    Fields, Source, Symbol, Symbols, Target, TargetArchetype, Text, Value,
+};
 use std::process::Abort;
 
 // These numbers under these names.
@@ -37,4 +42,73 @@ fn properties_that_come_are_put_one_by_one(rt: HostRuntime) {
     let taken = is_joined(&rt, None, named(&rt, &[("b", 3)]), named(&rt, &[("b", 3)]));
     let kept = is_joined(&rt, named(&rt, &[("a", 1)]), None, named(&rt, &[("a", 1)]));
     assert_eq!(rt; (joined, taken, kept), (true, true, true));
+}
+
+fn string(rt: &(impl Abort + AllocGlobal), words: &str) -> String {
+    String::from_str(rt.alloc(), words).expect(rt, "memory")
+}
+
+// A target with an address.
+fn target(rt: &(impl Abort + AllocGlobal)) -> Target {
+    Target {
+        address: Some(Text::from(string(rt, "q1"))),
+        ..Target::default()
+    }
+}
+
+fn archetype(rt: &(impl Abort + AllocGlobal)) -> Option<TargetArchetype> {
+    Some(TargetArchetype::from(target(rt)))
+}
+
+#[test]
+fn a_target_is_said_as_it_is(rt: HostRuntime) {
+    let own = Some(target(&rt));
+    let said = archetype_of(&own).expect(&rt, "memory");
+    let absent = archetype_of(&None::<Target>).expect(&rt, "memory");
+    let wanted = archetype(&rt);
+    let is_wanted = said == wanted && absent.is_none();
+    drop((own, said, wanted));
+    drop(absent);
+    assert!(rt; is_wanted, "a target, and none");
+}
+
+#[test]
+fn termini_are_said_as_they_are(rt: HostRuntime) {
+    let source = Some(Source {
+        address: Some(Text::from(string(&rt, "q2"))),
+        ..Source::default()
+    });
+    let own = Some(target(&rt));
+    let said = termini_of(&source, &own).expect(&rt, "memory");
+    let wanted = archetype(&rt);
+    let is_wanted = said.0 == source && said.1 == wanted;
+    drop((source, own, wanted));
+    drop(said);
+    assert!(rt; is_wanted, "a source and a target");
+}
+
+fn symbols(rt: &(impl Abort + AllocGlobal), name: &str) -> Option<Symbols> {
+    let names = vec![in rt.alloc(); Symbol::from(string(rt, name))];
+    Some(Symbols::from(names.expect(rt, "memory")))
+}
+
+#[test]
+fn capabilities_are_said_as_they_are(rt: HostRuntime) {
+    let (offered, desired) = (symbols(&rt, "a"), symbols(&rt, "b"));
+    let said = capabilities_of(&offered, &desired).expect(&rt, "memory");
+    let is_wanted = said.0 == offered && said.1 == desired;
+    drop((offered, desired));
+    drop(said);
+    assert!(rt; is_wanted, "what is offered, and what is desired");
+}
+
+#[test]
+fn name_and_properties_are_said_as_they_are(rt: HostRuntime) {
+    let name = Text::from(string(&rt, "l"));
+    let own = named(&rt, &[("a", 1)]);
+    let said = name_and_properties_of(&name, &own).expect(&rt, "memory");
+    let is_wanted = said.0 == name && said.1 == own;
+    drop((name, own));
+    drop(said);
+    assert!(rt; is_wanted, "the name and a property");
 }

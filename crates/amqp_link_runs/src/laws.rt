@@ -6,12 +6,13 @@ ghost use Rattle.std.specs.List.Sorted.{IsSortedByKey, IsStableByKey, IsPermutat
 ghost use Rattle.std.specs.Ordering.{nat_cmp};
 ghost use Rattle.amqp_link_runs.specs.Order.{sorted_by};
 
-/// The list by rising ids is, in the library's words, sorted, a permutation of the list, and stable:
-/// pairs of one id stand in it as they were listed. It is the only such list.
+/// The list by rising numbers, whatever each element's number is, is in the library's words sorted, a
+/// permutation of the list, and stable: elements of one number stand in it as they were listed. It is
+/// the only such list.
 pub fn sorted_is_sorted_stably<T>()
-    ensures sorted { (xs : List (ℕ × T)) → IsSortedByKey (λ pair. pair.0) nat_cmp (sorted_by (λ pair. pair.0) xs) }
-    ensures permutation { (xs : List (ℕ × T)) → IsPermutation xs (sorted_by (λ pair. pair.0) xs) }
-    ensures stable { (xs : List (ℕ × T)) → IsStableByKey (λ pair. pair.0) nat_cmp xs (sorted_by (λ pair. pair.0) xs) }
-    ensures only { (xs ys : List (ℕ × T)) → IsSortedByKey (λ pair. pair.0) nat_cmp ys
-        → IsStableByKey (λ pair. pair.0) nat_cmp xs ys → ys ≡ sorted_by (λ pair. pair.0) xs }
+    ensures sorted { (id_of : T → ℕ) (xs : List T) → IsSortedByKey id_of nat_cmp (sorted_by id_of xs) }
+    ensures permutation { (id_of : T → ℕ) (xs : List T) → IsPermutation xs (sorted_by id_of xs) }
+    ensures stable { (id_of : T → ℕ) (xs : List T) → IsStableByKey id_of nat_cmp xs (sorted_by id_of xs) }
+    ensures only { (id_of : T → ℕ) (xs ys : List T) → IsSortedByKey id_of nat_cmp ys
+        → IsStableByKey id_of nat_cmp xs ys → ys ≡ sorted_by id_of xs }
 {}

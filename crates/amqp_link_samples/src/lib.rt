@@ -3,4 +3,5 @@
 #![tactic(auto)]
 
 pub mod links;
+pub mod nowhere;
 pub mod table;

@@ -254,6 +254,17 @@ fn dispositions_that_come_are_never_answered(rt: HostRuntime) {
     assert_eq!(rt; told_back(&rt, false, None), (false, Told::NoState));
 }
 
+#[test]
+fn disposition_of_an_unknown_tag_enters_nothing(rt: HostRuntime) {
+    let mut link = link(&rt, 1);
+    let tag = count_tag(&rt, 9);
+    let echo = link.on_incoming_disposition(false, Some(DeliveryState::Accepted), &tag);
+    let kept = link.unsettled().len();
+    drop(tag);
+    drop(link);
+    assert_eq!(rt; (echo, kept), (false, 1));
+}
+
 // What a detach answers: the handle, whether it closes and whether there is an error.
 fn detached(
     link: &ReceiverLink<Target>,

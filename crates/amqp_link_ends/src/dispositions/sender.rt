@@ -250,6 +250,19 @@ fn dispositions_that_come_end_or_are_kept(rt: HostRuntime) {
     assert_eq!(rt; told, (true, Told::Absent, Told::NoState));
 }
 
+// One of a tag that is not pending ends nothing, enters nothing, and is answered all the same.
+#[test]
+fn disposition_of_an_unknown_tag_ends_nothing(rt: HostRuntime) {
+    let mut link = link(&rt, SenderSettleMode::Mixed, ReceiverSettleMode::Second, 1);
+    let tag = count_tag(&rt, 9);
+    let (echo, ended) = link.on_incoming_disposition(false, Some(DeliveryState::Accepted), &tag);
+    let told = told_by(ended.as_ref());
+    let pending = link.unsettled().len();
+    drop((tag, ended));
+    drop(link);
+    assert_eq!(rt; (echo, told, pending), (true, Told::Absent, 1));
+}
+
 // How many deliveries ended, and the tag's last byte and the outcome of the first three.
 pub(super) type Ends = (usize, [(Option<u8>, Told); 3]);
 

@@ -1,7 +1,8 @@
 //! Worked values of a receiver's attaches and detaches.
 use crate::receiver_link::{ReceiverAttachExchange, ReceiverLink, get_max_message_size};
-use crate::samples::{attach_of, coming, count_tag, parts};
+use crate::samples::{attach_of, coming, count_tag, fields, parts};
 use amqp_link_core::endpoint::{LinkAttach, LinkDetach, LinkExt};
+use amqp_link_samples::nowhere::parts_to_nowhere;
 use amqp_link_samples::table::{
     Call, STATES, answered, attached, detach, is_illegal, is_illegal_outcome, left, let_go, taken,
     wanted,
@@ -247,6 +248,54 @@ fn incoming_attach_is_taken_as_far_as_it_goes(rt: HostRuntime) {
     ] {
         assert_eq!(rt; left_by_sender(&rt, state, count, has_source), left);
     }
+}
+
+// A property that comes becomes the link's.
+#[test]
+fn properties_that_come_are_taken(rt: HostRuntime) {
+    let mut link = link_in(&rt, LinkState::Unattached, 512);
+    let mut attach = attach_of(&rt, Role::Sender, SenderSettleMode::Mixed);
+    attach.properties = Some(fields(&rt, "k"));
+    let answer = link.on_incoming_attach(attach);
+    let wanted = Some(fields(&rt, "k"));
+    let is_taken = *link.properties() == wanted;
+    drop(wanted);
+    drop(link);
+    assert_eq!(rt; answer, Ok(ReceiverAttachExchange::Complete));
+    assert!(rt; is_taken, "the property is the link's");
+}
+
+// Without its delivery, but with an empty map and the mark, an attach has 26 bytes: it fits a frame of
+// 30 and none of 29, and a link that is refused stays as it was.
+#[test]
+fn attach_that_fits_no_frame_is_refused(rt: HostRuntime) {
+    for (limit, fits) in [(29u32, false), (30, true)] {
+        let told = attached_in(&rt, LinkState::Detached, limit);
+        let state = if fits {
+            LinkState::IncompleteAttachSent
+        } else {
+            LinkState::Detached
+        };
+        assert_eq!(rt; told, (fits, state), "at {limit}");
+    }
+}
+
+// A target of another kind is refused once the source, the count and the sender's mode are taken.
+#[test]
+fn target_of_another_kind_is_refused(rt: HostRuntime) {
+    let parts = parts_to_nowhere(rt.alloc(), SenderSettleMode::Mixed).expect(&rt, "memory");
+    let mut link = ReceiverLink::new(rt.alloc(), parts);
+    let attach = attach_of(&rt, Role::Sender, SenderSettleMode::Settled);
+    let told = link.on_incoming_attach(attach);
+    let left = (
+        *link.local_state(),
+        link.input_handle.is_some(),
+        link.snd_settle_mode,
+    );
+    drop(link);
+    assert_eq!(rt; told, Err(ReceiverAttachError::CoordinatorIsNotImplemented));
+    let wanted = (LinkState::AttachReceived, true, SenderSettleMode::Settled);
+    assert_eq!(rt; left, wanted, "what it leaves");
 }
 
 // What follows where the sender names a delivery, in full or not.

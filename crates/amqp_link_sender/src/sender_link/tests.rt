@@ -427,6 +427,36 @@ fn transfers_name_their_delivery(rt: HostRuntime) {
     assert_eq!(rt; sent_thrice(&rt), (told, true, 1));
 }
 
+// What the frames of a transfer of two bytes show.
+fn shown_with(rt: &(impl Abort + AllocGlobal), transfer: Transfer) -> Option<[Option<Shown>; 3]> {
+    let mut link = link(rt, SenderSettleMode::Mixed, 64, 0);
+    let payload = payload_of(rt, &[7, 8]);
+    let sent = link.send_payload_with_transfer(3, transfer, &payload);
+    let shown = sent
+        .as_ref()
+        .ok()
+        .map(|(_, frames)| shown_in(frames.as_slice()));
+    drop((sent, payload));
+    drop(link);
+    shown
+}
+
+// The one frame of a transfer says what the transfer does.
+#[test]
+fn frames_go_with_their_transfer(rt: HostRuntime) {
+    let only = Shown {
+        first: true,
+        payload: 2,
+        more: false,
+        tagged: true,
+        message_format: None,
+        settled: Some(false),
+        delivery_id: None,
+    };
+    let shown = shown_with(&rt, transfer(&rt, 1, false));
+    assert_eq!(rt; shown, Some([Some(only), None, None]));
+}
+
 // Without a tag there is nothing to register.
 #[test]
 fn unnamed_transfer_is_refused(rt: HostRuntime) {

@@ -1,6 +1,8 @@
 //! The answers of a map of unsettled deliveries, while there is memory.
-use super::samples::tag;
-use amqp_link_types::types::UnsettledMap;
+use super::samples::{tag, unsettled};
+use amqp_link_types::delivery::UnsettledMessage;
+use amqp_link_types::types::{DeliveryState, UnsettledMap};
+use bytes::Bytes;
 use std::process::Abort;
 
 fn put(
@@ -111,4 +113,25 @@ fn the_first_entries_are_kept(rt: HostRuntime) {
     map.truncate(0);
     holds(&rt, &map, &[], "without any");
     drop(map);
+}
+
+// Two deliveries, of which the second is known to be accepted.
+fn two_deliveries(rt: &(impl Abort + AllocGlobal)) -> UnsettledMap<UnsettledMessage> {
+    let mut map = UnsettledMap::new(rt.alloc());
+    let unknown = UnsettledMessage::new(Bytes::new(), None, 0);
+    drop(map.put(tag(rt, 1), unknown).expect(rt, "memory"));
+    let accepted = UnsettledMessage::new(Bytes::new(), Some(DeliveryState::Accepted), 0);
+    drop(map.put(tag(rt, 2), accepted).expect(rt, "memory"));
+    map
+}
+
+#[test]
+fn states_are_told_by_tag(rt: HostRuntime) {
+    let map = two_deliveries(&rt);
+    let states = map.states(rt.alloc()).expect(&rt, "memory");
+    drop(map);
+    let wanted = unsettled(&rt, DeliveryState::Accepted);
+    let is_wanted = states == wanted;
+    drop((states, wanted));
+    assert!(rt; is_wanted, "none of the first, accepted of the second");
 }

@@ -1,6 +1,7 @@
 //! Fields, and copies of names, while there is memory.
 use super::symbols::{copied, symbol};
-use amqp_link_values::{DeliveryTag, Fields, Text, Value};
+use amqp_link_values::copy::{copies_of, copy_of};
+use amqp_link_values::{DeliveryTag, Descriptor, Fields, Symbol, Text, Value};
 use std::process::Abort;
 
 // These numbers under these names.
@@ -47,4 +48,29 @@ fn copied_names_are_equal(rt: HostRuntime) {
     copied(&rt, symbol(&rt, "a"), symbol(&rt, "b"), "a symbol");
     copied(&rt, text(&rt, "a"), text(&rt, "b"), "a text");
     copied(&rt, tag(&rt, 1), tag(&rt, 2), "a tag");
+    let original = Descriptor::Name(symbol(&rt, "a"));
+    copied(
+        &rt,
+        original,
+        Descriptor::Name(symbol(&rt, "b")),
+        "a descriptor",
+    );
+}
+
+#[test]
+fn what_is_there_is_copied(rt: HostRuntime) {
+    let name = Some(symbol(&rt, "a"));
+    let copy = copy_of(&name).expect(&rt, "memory");
+    assert!(rt; copy == name, "a symbol");
+    drop((copy, name));
+}
+
+#[test]
+fn what_is_absent_stays_absent(rt: HostRuntime) {
+    let (name, absent) = (Some(tag(&rt, 1)), None::<Symbol>);
+    let copies = copies_of(&name, &absent).expect(&rt, "memory");
+    let is_copied = copies.0 == name && copies.1.is_none();
+    drop((copies, name));
+    drop(absent);
+    assert!(rt; is_copied, "a tag, and no symbol");
 }

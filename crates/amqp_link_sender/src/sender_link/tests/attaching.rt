@@ -1,16 +1,16 @@
 //! Worked values of a sender's attaches.
-use crate::samples::{attach_of, count_tag, parts, payload_of};
-use crate::sender_link::SenderLink;
+use crate::samples::{attach_of, count_tag, fields, parts, payload_of};
 use crate::sender_link::tests::{Told, link, new_link, send_flagged, told_by, told_by_error};
+use crate::sender_link::{SenderAttachExchange, SenderLink};
 use amqp_link_core::endpoint::target::LinkTarget;
 use amqp_link_core::endpoint::{LinkAttach, LinkDetach, LinkExt};
-use amqp_link_core::link_parts::LinkParts;
+use amqp_link_samples::nowhere::parts_to_nowhere;
 use amqp_link_state::state::LinkState;
 use amqp_link_types::delivery::{Outcomes, UnsettledMessage};
 use amqp_link_types::frame::LinkFrame;
 use amqp_link_types::types::{
     Attach, Detach, Handle, OutputHandle, ReceiverSettleMode, Role, SenderAttachError,
-    SenderSettleMode, Target, TargetArchetype,
+    SenderSettleMode, Target,
 };
 use amqp_link_values::length::EncodedLen;
 use std::alloc::AllocError;
@@ -278,62 +278,35 @@ fn incoming_attach_is_taken_as_far_as_it_goes(rt: HostRuntime) {
     );
 }
 
-// A target that takes none that comes.
-#[derive(Debug, Drop)]
-struct Nowhere {
-    target: Target,
-}
-
-impl Clone for Nowhere {
-    ghost use Rattle.std.specs.Prelude.{◌≡◌};
-
-    ghost is_clone = { λ nowhere copy. copy ≡ nowhere };
-
-    fn clone(&self) -> Result<Nowhere, AllocError> {
-        Ok(Nowhere {
-            target: self.target.clone()?,
-        })
+// Whether an attach went with nothing to resume, and with nothing that ended.
+fn is_complete(answer: &Result<(SenderAttachExchange, Outcomes), SenderAttachError>) -> bool {
+    match answer {
+        Ok((SenderAttachExchange::Complete, outcomes)) => outcomes.len() == 0,
+        Err(_) => false,
     }
 }
 
-impl LinkTarget for Nowhere {
-    ghost use Rattle.std.specs.Prelude.{None};
-    ghost use Rattle.amqp_link_types.specs.declared.types.terminus.TargetArchetype.TheVariants as archetype;
-
-    ghost sent_as = { λ nowhere. archetype.Target nowhere.target };
-
-    ghost admitted = { λ archetype. None };
-
-    fn into_archetype(self) -> TargetArchetype {
-        TargetArchetype::from(self.target)
-    }
-
-    fn from_archetype(_archetype: TargetArchetype) -> Option<Nowhere> {
-        None
-    }
+// A property that comes becomes the link's.
+#[test]
+fn properties_that_come_are_taken(rt: HostRuntime) {
+    let mut link = settling(&rt, SenderSettleMode::Mixed);
+    let mut attach = coming(&rt, SenderSettleMode::Mixed);
+    attach.properties = Some(fields(&rt, "k"));
+    let answer = link.on_incoming_attach(attach);
+    let is_complete = is_complete(&answer);
+    let wanted = Some(fields(&rt, "k"));
+    let is_taken = *link.properties() == wanted;
+    drop((answer, wanted));
+    drop(link);
+    assert!(rt; is_complete, "nothing is resumed, and nothing ended");
+    assert!(rt; is_taken, "the property is the link's");
 }
 
 // A target of another kind is refused once the state and the handle have moved.
 #[test]
 fn target_of_another_kind_is_refused(rt: HostRuntime) {
-    let parts = parts(&rt, SenderSettleMode::Mixed, 512);
-    let link: SenderLink<Nowhere> = SenderLink::new(
-        rt.alloc(),
-        LinkParts {
-            name: parts.name,
-            snd_settle_mode: parts.snd_settle_mode,
-            rcv_settle_mode: parts.rcv_settle_mode,
-            source: parts.source,
-            target: None,
-            max_message_size: 7,
-            offered_capabilities: None,
-            desired_capabilities: None,
-            flow_state: parts.flow_state,
-            max_frame_size: 512,
-            verify_incoming_source: false,
-            verify_incoming_target: false,
-        },
-    );
+    let parts = parts_to_nowhere(rt.alloc(), SenderSettleMode::Mixed).expect(&rt, "memory");
+    let link = SenderLink::new(rt.alloc(), parts);
     let wanted = Left {
         refused: Some(SenderAttachError::CoordinatorIsNotImplemented),
         state: LinkState::AttachReceived,
