@@ -3,7 +3,7 @@
 //! The fields of all its transfers are merged as they come; its bytes are kept in the pieces in
 //! which they came. The first transfer names the delivery; a continuation may leave its tag, id and
 //! format out, and is refused where it names another.
-ghost use Rattle.std.specs.Prelude.{◌≡◌, ◌++◌, [], ◌∷◌};
+ghost use Rattle.std.specs.Prelude.{◌≡◌, ◌<◌, ◌^◌, ◌++◌, [], ◌∷◌};
 ghost use Rattle.std.specs.Prelude.{List, Some, false, not, nat_eq, length, is_none, IfOk, IsErrOf, OnOk, OnErr};
 ghost use Rattle.std.specs.Str.{bytes_eq};
 ghost use Rattle.std.specs.Option.{option_or};
@@ -95,7 +95,7 @@ impl IncompleteTransfer {
     /// Adds a continuation. The transfer may leave out its tag, id and format.
     ///
     /// Refused in this order, with nothing changed: `InconsistentFieldInMultiFrameDelivery`,
-    /// `PayloadTooLong`. Takes memory, which may be refused before the last of them.
+    /// `PayloadTooLong`. Takes memory, which may be refused before the sections are counted.
     pub fn try_append(
         &mut self,
         transfer: Transfer,
@@ -119,7 +119,8 @@ impl IncompleteTransfer {
 
         ensures refused { Answers result (append_tests self.old transfer payload) }
         ensures memory { IsErrOf result ReceiverTransferError.OutOfMemory
-            → is_inconsistent self.old.performative transfer ≡ false }
+            → (is_inconsistent self.old.performative transfer ≡ false)
+            × (length (bytes_of self.old ++ payload) < 2 ^ 64) }
         ensures err { OnErr result (self.new ≡ self.old) }
     {
         if self.is_inconsistent_with(&transfer) {
@@ -142,6 +143,8 @@ impl IncompleteTransfer {
             self.new.performative) }
         ensures pieces { OnOk result (self.new.pieces ≡ self.old.pieces ++ payload ∷ []) }
         ensures refused { Answers result (long_test (bytes_of self.old ++ payload)) }
+        ensures memory { IsErrOf result ReceiverTransferError.OutOfMemory
+            → length (bytes_of self.old ++ payload) < 2 ^ 64 }
         ensures err { OnErr result (self.new ≡ self.old) }
     {
         match push_piece(&mut self.pieces, self.size, payload) {

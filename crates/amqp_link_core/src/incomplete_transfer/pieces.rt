@@ -1,6 +1,6 @@
 //! The pieces of a payload, and whether they can be counted.
-ghost use Rattle.std.specs.Prelude.{◌≡◌, ◌+◌, ◌<◌, ◌≤◌, ◌++◌, ◌∷◌, []};
-ghost use Rattle.std.specs.Prelude.{length, take, slice_get, OnOk, OnErr, IfOk, IsSomeAnd};
+ghost use Rattle.std.specs.Prelude.{◌≡◌, ◌+◌, ◌^◌, ◌<◌, ◌≤◌, ◌++◌, ◌∷◌, []};
+ghost use Rattle.std.specs.Prelude.{length, take, slice_get, OnOk, OnErr, IfOk, IsErrOf, IsSomeAnd};
 ghost use Rattle.std.specs.List.{concat};
 ghost use Rattle.amqp_link_core.specs.Held.{IsCountable};
 ghost use Rattle.amqp_link_core.specs.IncompleteRefusals.{Answers, long_test};
@@ -20,6 +20,8 @@ pub(crate) fn push_piece(
     ensures pushed { OnOk result (pieces.new.items ≡ pieces.old.items ++ piece ∷ []) }
     ensures countable { IfOk result (λ size. IsCountable (concat pieces.new.items) size) }
     ensures refused { Answers result (long_test (concat pieces.old.items ++ piece)) }
+    ensures memory { IsErrOf result ReceiverTransferError.OutOfMemory
+        → length (concat pieces.old.items ++ piece) < 2 ^ 64 }
     ensures err { OnErr result (pieces.new.items ≡ pieces.old.items) }
 {
     let Some(size) = size.checked_add(piece.len() as u64) else {

@@ -1,5 +1,5 @@
 //! A delivery that was cut off, as it is taken up again (2.6.13).
-ghost use Rattle.std.specs.Prelude.{◌≡◌, ◌++◌, [], ◌∷◌, List, false, is_none, IsSome, IsErrOf, OnOk, OnErr, MatchOption};
+ghost use Rattle.std.specs.Prelude.{◌≡◌, ◌<◌, ◌^◌, ◌++◌, [], ◌∷◌, List, false, length, is_none, IsSome, IsErrOf, OnOk, OnErr, MatchOption};
 ghost use Rattle.std.specs.Option.{option_or};
 ghost use Rattle.amqp_link_payloads.specs.Position.{place};
 ghost use Rattle.amqp_link_core.specs.Merging.{Came, Merged, IsSilent, opening, resumed};
@@ -43,7 +43,8 @@ impl IncompleteTransfer {
         ensures refused { Answers result (resume_tests self.old transfer payload) }
         ensures memory { IsErrOf result ReceiverTransferError.OutOfMemory
             → (is_none transfer.delivery_id ≡ false) × (is_none transfer.delivery_tag ≡ false)
-            × (is_of_another self.old.performative transfer ≡ false) }
+            × (is_of_another self.old.performative transfer ≡ false)
+            × (length (bytes_of self.old ++ payload) < 2 ^ 64) }
         ensures err { OnErr result (self.new ≡ self.old) }
     {
         if transfer.delivery_id.is_none() {

@@ -399,7 +399,7 @@ impl<T: LinkTarget> LinkAttach for ReceiverLink<T> {
         // All tests are behind, and all growths: from here on nothing can fail.
         self.local_state = next;
         if is_reattaching {
-            drop(self.unsettled.take_all(self.alloc));
+            drop(self.unsettled.take_all());
         }
         Ok((LinkFrame::Attach(attach), Vec::new(self.alloc)))
     }

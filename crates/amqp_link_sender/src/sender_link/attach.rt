@@ -69,7 +69,7 @@ fn entries_to_send(
     if is_reattaching {
         Ok(UnsettledMap::new(alloc))
     } else {
-        unsettled.states(alloc)
+        unsettled.states()
     }
 }
 
@@ -157,7 +157,7 @@ impl<T: LinkTarget> SenderLink<T> {
             (counted_attach T.sent_as self.now count (unwrap_or self.now.output_handle (record { 0 = 0 })))
             (states_of self.now.unsettled) 0) max_frame_size) }
     {
-        let entries = self.unsettled.states(self.alloc)?;
+        let entries = self.unsettled.states()?;
         let attach = self.whole_attach(handle_or_zero(self.output_handle), count)?;
         Ok(fits_whole(attach, entries, max_frame_size))
     }
@@ -378,7 +378,7 @@ impl<T: LinkTarget> LinkAttach for SenderLink<T> {
         // All tests are behind, and all growths: from here on nothing can fail.
         self.attach_as(next);
         if is_reattaching {
-            end_all(self.unsettled.take_all(self.alloc), &mut outcomes);
+            end_all(self.unsettled.take_all(), &mut outcomes);
         }
         Ok((LinkFrame::Attach(attach), outcomes))
     }

@@ -144,7 +144,7 @@ impl<T: LinkTarget> SenderLink<T> {
     {
         let outcomes = all_closed(self.alloc, &self.unsettled, &detach.error)?;
         // All memory is taken: from here on nothing can fail.
-        drop(self.unsettled.take_all(self.alloc));
+        drop(self.unsettled.take_all());
         Ok(outcomes)
     }
 

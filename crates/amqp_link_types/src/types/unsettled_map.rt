@@ -95,12 +95,13 @@ impl<V> UnsettledMap<V> {
     }
 
     /// Takes all deliveries out. Takes no memory.
-    pub fn take_all(&mut self, alloc: Global) -> Self
+    pub fn take_all(&mut self) -> Self
         ensures taken { result ≡ self.old }
         ensures empty { self.new ≡ [] }
     {
+        let none = Vec::new(*self.pairs.allocator());
         UnsettledMap {
-            pairs: mem::replace(&mut self.pairs, Vec::new(alloc)),
+            pairs: mem::replace(&mut self.pairs, none),
         }
     }
 
@@ -220,11 +221,13 @@ impl<V: KeepsState> UnsettledMap<V> {
 
 impl UnsettledMap<UnsettledMessage> {
     /// Of each delivery its tag and the state that is known of it, as an attach says it (2.7.3).
-    pub fn states(&self, alloc: Global) -> Result<UnsettledMap<Option<DeliveryState>>, AllocError>
+    ///
+    /// Refused where memory is wanting.
+    pub fn states(&self) -> Result<UnsettledMap<Option<DeliveryState>>, AllocError>
         ensures { IfOk result (λ states. states ≡ states_of self.now) }
     {
         Ok(UnsettledMap {
-            pairs: states_in(alloc, self.pairs.as_slice())?,
+            pairs: states_in(*self.pairs.allocator(), self.pairs.as_slice())?,
         })
     }
 }

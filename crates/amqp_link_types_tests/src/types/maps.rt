@@ -128,7 +128,7 @@ fn two_deliveries(rt: &(impl Abort + AllocGlobal)) -> UnsettledMap<UnsettledMess
 #[test]
 fn states_are_told_by_tag(rt: HostRuntime) {
     let map = two_deliveries(&rt);
-    let states = map.states(rt.alloc()).expect(&rt, "memory");
+    let states = map.states().expect(&rt, "memory");
     drop(map);
     let wanted = unsettled(&rt, DeliveryState::Accepted);
     let is_wanted = states == wanted;
