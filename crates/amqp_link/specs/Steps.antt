@@ -189,7 +189,7 @@ attaches_fit s r limit =
     let answered = said_by_receiver archetype.Target r count (unwrap_or r.output_handle (record { 0 = 0 })) in
     fits (with_entries sent (states_of s.unsettled) 0) limit && fits (with_entries answered r.unsettled 0) limit
 
--- a frame limit of less than 29 leaves no room for a transfer
+-- a frame limit of less than 29 leaves no room for a byte beside a transfer that resumes
 abbrev pub attach_tests : World → ℕ → List (Bool × PairError)
 attach_tests w limit =
     (is_together w.phase, error.AlreadyAttached)

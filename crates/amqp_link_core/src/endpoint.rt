@@ -181,7 +181,9 @@ pub trait LinkAttach: LinkDetach {
     // What stays of it in the end after each refusal.
     ghost left: { Self.AttachError → Self → TheAttach → Self };
 
-    /// An attach came. What of it stays after a refusal is said at each end.
+    /// An attach came. Illegal state, with nothing changed, where the state has no row for it; else the
+    /// state moves, also where the attach is refused: what more of it stays then is said at each end.
+    /// Want of memory comes after all refusals, with nothing changed.
     fn on_incoming_attach(
         &mut self,
         attach: Attach,

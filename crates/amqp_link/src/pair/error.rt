@@ -13,7 +13,7 @@ pub enum PairError {
     /// The ends have begun to attach at another limit. Go on with that one.
     #[error("the ends are attaching at another frame limit")]
     LimitChanged,
-    /// The frame limit leaves no room for a transfer, or for an attach. Try a greater one.
+    /// The frame limit leaves no room for a transfer that resumes, or for an attach. Try a greater one.
     #[error("the frame limit is too small")]
     LimitTooSmall,
     /// The ends are not attached. Attach them first.

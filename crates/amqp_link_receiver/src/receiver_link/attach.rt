@@ -404,7 +404,7 @@ impl<T: LinkTarget> LinkAttach for ReceiverLink<T> {
         Ok((LinkFrame::Attach(attach), Vec::new(self.alloc)))
     }
 
-    /// Takes the sender's attach. Want of memory may come after any test, and leaves all as it was.
+    /// Takes the sender's attach. Want of memory comes after all tests, and leaves all as it was.
     ///
     /// Refused in this order: illegal state, with nothing changed, where the state has no row for it.
     /// From here on the state has moved, the other's handle is known, and no delivery goes on: no

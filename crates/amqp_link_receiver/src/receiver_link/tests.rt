@@ -280,7 +280,7 @@ fn attach_that_fits_no_frame_is_refused(rt: HostRuntime) {
     }
 }
 
-// A target of another kind is refused once the source, the count and the sender's mode are taken.
+// A target of another kind is refused once the source and the sender's mode are taken.
 #[test]
 fn target_of_another_kind_is_refused(rt: HostRuntime) {
     let parts = parts_to_nowhere(rt.alloc(), SenderSettleMode::Mixed).expect(&rt, "memory");

@@ -383,12 +383,12 @@ impl<T: LinkTarget> LinkAttach for SenderLink<T> {
         Ok((LinkFrame::Attach(attach), outcomes))
     }
 
-    /// Takes the receiver's attach. Want of memory may come after any test, and leaves all as it was.
+    /// Takes the receiver's attach. Want of memory comes after all tests, and leaves all as it was.
     ///
     /// Refused in this order: illegal state, with nothing changed, where the state has no row for it.
     /// From here on the state has moved, and the other's handle is known: no coordinator here, where
     /// the target is not of the link's kind; no target. Past these the target and the receiver's mode
-    /// are taken: a mode in which the sender does not settle.
+    /// are taken: the settle mode, where one end settles what the other leaves unsettled.
     fn on_incoming_attach(
         &mut self,
         attach: Attach,
