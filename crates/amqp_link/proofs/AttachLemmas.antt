@@ -10,16 +10,17 @@ use Rattle.amqp_link_types.specs.declared.types.terminus.TargetArchetype.TheVari
 use Rattle.amqp_link_types.specs.declared.types.attach.Attach.{Attach}
 use Rattle.amqp_link_types.specs.declared.types.definitions.OutputHandle.{OutputHandle}
 use Rattle.amqp_link_core.specs.AttachSent.{IsTooLarge, SendsAttach}
-use Rattle.amqp_link_core.specs.Attaching.{Fits, Divided, IsDivided, States, with_entries}
+use Rattle.amqp_link_core.specs.Shown.{Shown, attach_stated}
+use Rattle.amqp_link_core.specs.Attaching.{FitsFrame, Divided, IsDivided, States, with_entries}
 use Rattle.amqp_link_core.specs.LinkStates.{Call, next_state}
 use Rattle.amqp_link_types.specs.declared.types.terminus.Target.{Target}
-use Rattle.amqp_link_receiver.specs.ReceiverAttaches.{receiver_attach, receiver_taken as receiver_takes}
+use Rattle.amqp_link_receiver.specs.ReceiverAttaches.{receiver_shown, receiver_taken as receiver_takes}
 use Rattle.amqp_link_receiver.specs.Receivers.{Receiver}
-use Rattle.amqp_link_sender.specs.SenderAttaches.{sender_attach, sender_attached}
+use Rattle.amqp_link_sender.specs.SenderAttaches.{sender_shown, sender_attached}
 use Rattle.amqp_link_sender.specs.Senders.{Sender}
 use Rattle.amqp_link.specs.Exchange.{CanAttach, MayStop, AreAt, IsEnds, ends_at, asked, answered, sender_in, receiver_in, zero_output, zero_input}
 use Rattle.amqp_link.specs.Phases.{phase_of}
-use Rattle.amqp_link.specs.Steps.{Stop, Asked, Taken, Answered, sender_asking, sender_together, receiver_at, receiver_together, is_together, fits}
+use Rattle.amqp_link.specs.Steps.{AttachStop, Asked, Taken, Answered, sender_asking, sender_together, receiver_at, receiver_together, is_together, fits}
 use Rattle.amqp_link.specs.Worlds.{World, Halfway, Together}
 use Rattle.amqp_link.specs.declared.pair.ends.Ends.{Ends}
 use Rattle.amqp_link.specs.declared.pair.ends.Stage.{Stage}
@@ -28,13 +29,13 @@ use Rattle.amqp_link.specs.declared.pair.ends.Stage.TheVariants as stage
 -- ---- the whole attach of an end
 
 undivided : (whole : Attach) (entries : States) (frame : ℕ) (now : Attach) (j : ℕ) → Divided whole entries j frame
-    → now ≡ with_entries whole entries j → Fits (with_entries whole entries 0) frame → now ≡ with_entries whole entries 0
+    → now ≡ with_entries whole entries j → FitsFrame (with_entries whole entries 0) frame → now ≡ with_entries whole entries 0
 undivided whole entries frame now zero d e h = e
 undivided whole entries frame now (suc j) d e h = absurd (d.least 0 (omega arith) h)
 
 -- where all fits, all is sent
 pub whole_sent : (whole : Attach) (entries : States) (frame : ℕ) (now : Attach) → IsDivided whole entries frame now
-    → Fits (with_entries whole entries 0) frame → now ≡ with_entries whole entries 0
+    → FitsFrame (with_entries whole entries 0) frame → now ≡ with_entries whole entries 0
 whole_sent whole entries frame now d h = undivided whole entries frame now d.halvings d.fewest d.sent h
 
 attach_is : {a b : Attach} → frames.Attach a ≡ frames.Attach b → a ≡ b
@@ -47,44 +48,41 @@ some_is_none : {A : Type 0} {x : A} → Some x ≡ None → ⊥
 some_is_none h = cc
 
 -- nothing stands against it
-pub may_attach : (from : LinkState) (handle : Option OutputHandle) (whole : OutputHandle → Attach) (entries : States) (frame : ℕ)
-    → CanAttach from handle whole entries frame → (handle ≡ None) ⊎ (next_state Call.SendAttach false from ≡ None) → ⊥
-may_attach from handle whole entries frame c stands =
+pub may_attach : {D : Type 0} (s : Shown D) → CanAttach s → (s.output_handle ≡ None) ⊎ (next_state Call.SendAttach false s.local_state ≡ None) → ⊥
+may_attach s c stands =
     elim stands as (λ _. ⊥) [
       | inl none ↦ some_is_none (sym c.handle_is ∙ none)
       | inr none ↦ some_is_none (sym c.step ∙ none)
     ]
 
-pub not_too_large : (from : LinkState) (handle : Option OutputHandle) (whole : OutputHandle → Attach) (entries : States) (frame : ℕ)
-    → CanAttach from handle whole entries frame → IsTooLarge from handle whole entries frame → ⊥
-not_too_large from handle whole entries frame c large =
+pub not_too_large : {D : Type 0} (s : Shown D) → CanAttach s → IsTooLarge s s.entries → ⊥
+not_too_large s c large =
     let same : c.number ≡ large.number = some_is (sym c.handle_is ∙ large.handle_is) in
-    large.never.none 0 (subst (λ n. Fits (with_entries (whole n) entries 0) frame) same c.fits)
+    large.never.none 0 (subst (λ n. FitsFrame (with_entries (attach_stated s n) s.entries 0) s.max_frame_size) same c.fits)
 
 false_is_true : false ≡ true → ⊥
 false_is_true h = cc
 
 -- what is sent is the whole attach
-module _ (from : LinkState) (handle : Option OutputHandle) (whole : OutputHandle → Attach) (entries : States) (frame : ℕ) (can : CanAttach from handle whole entries frame)
-    (sent : LinkFrame) (to : LinkState) (attach : Attach) (s : SendsAttach from handle whole entries frame sent to) (is : sent ≡ frames.Attach attach) where
+module _ {D : Type 0} (from : Shown D) (can : CanAttach from) (sent : LinkFrame) (to : LinkState) (attach : Attach) (s : SendsAttach from from.entries sent to) (is : sent ≡ frames.Attach attach) where
   said : attach ≡ s.attach
   said = attach_is (sym is ∙ s.sent_is)
 
-  fitting : Fits (with_entries (whole s.number) entries 0) frame
+  fitting : FitsFrame (with_entries (attach_stated from s.number) from.entries 0) from.max_frame_size
   fitting =
       let same : can.number ≡ s.number = some_is (sym can.handle_is ∙ s.handle_is) in
-      subst (λ n. Fits (with_entries (whole n) entries 0) frame) same can.fits
+      subst (λ n. FitsFrame (with_entries (attach_stated from n) from.entries 0) from.max_frame_size) same can.fits
 
-  whole_said : s.attach ≡ with_entries (whole s.number) entries 0
-  whole_said = whole_sent (whole s.number) entries frame s.attach s.divided fitting
+  whole_said : s.attach ≡ with_entries (attach_stated from s.number) from.entries 0
+  whole_said = whole_sent (attach_stated from s.number) from.entries from.max_frame_size s.attach s.divided fitting
 
-  pub sends_whole : (number : OutputHandle) → handle ≡ Some number → attach ≡ with_entries (whole number) entries 0
+  pub sends_whole : (number : OutputHandle) → from.output_handle ≡ Some number → attach ≡ with_entries (attach_stated from number) from.entries 0
   sends_whole number h =
       let same : number ≡ s.number = some_is (sym h ∙ s.handle_is) in
-      said ∙ whole_said ∙ ap (λ n. with_entries (whole n) entries 0) (sym same)
+      said ∙ whole_said ∙ ap (λ n. with_entries (attach_stated from n) from.entries 0) (sym same)
 
-  pub steps_to : (next : LinkState) → next_state Call.SendAttach false from ≡ Some next → to ≡ next
-  steps_to next h = some_is (sym s.step ∙ ap (λ (a : Attach). next_state Call.SendAttach a.incomplete_unsettled from) whole_said ∙ h)
+  pub steps_to : (next : LinkState) → next_state Call.SendAttach false from.local_state ≡ Some next → to ≡ next
+  steps_to next h = some_is (sym s.step ∙ ap (λ (a : Attach). next_state Call.SendAttach a.incomplete_unsettled from.local_state) whole_said ∙ h)
 
 -- ---- the steps of an exchange
 
@@ -95,22 +93,22 @@ ends_are : (at : Stage) (limit : ℕ) (a b : Option Attach) (s t : Sender Target
 ends_are at limit a b s t r q e f g = ap (λ a. mk at limit a s r) e ∙ ap (λ s. mk at limit b s r) f ∙ ap (λ r. mk at limit b t r) g
 
 -- the sender may send its attach
-pub can_ask : (s : Sender Target) (limit count : ℕ) → s ≡ sender_in state.Unattached None limit count → Fits (asked count) limit
-    → CanAttach s.local_state s.output_handle (sender_attach archetype.Target s) (states_of s.unsettled) s.max_frame_size
+pub can_ask : (s : Sender Target) (limit count : ℕ) → s ≡ sender_in state.Unattached None limit count → FitsFrame (asked count) limit
+    → CanAttach (sender_shown archetype.Target s)
 can_ask s limit count e h =
-    subst (λ (s : Sender Target). CanAttach s.local_state s.output_handle (sender_attach archetype.Target s) (states_of s.unsettled) s.max_frame_size) (sym e)
+    subst (λ (s : Sender Target). CanAttach (sender_shown archetype.Target s)) (sym e)
     (record { number = zero_output; handle_is = refl; next = state.AttachSent; step = refl; fits = h })
 
 -- and has sent it
 pub asking : (now : Ends) (limit count : ℕ) (set s : Sender Target) (r : Receiver Target) (attach : Attach) (place : Option Attach)
     → now ≡ ends_at stage.Apart count now.limit → set ≡ record now.sender { max_frame_size = limit } → r ≡ record now.receiver { max_frame_size = limit } → place ≡ Some attach
-    → ((number : OutputHandle) → set.output_handle ≡ Some number → attach ≡ with_entries (sender_attach archetype.Target set number) (states_of set.unsettled) 0)
+    → ((number : OutputHandle) → set.output_handle ≡ Some number → attach ≡ with_entries (attach_stated (sender_shown archetype.Target set) number) (states_of set.unsettled) 0)
     → ((next : LinkState) → next_state Call.SendAttach false set.local_state ≡ Some next → s ≡ sender_attached set next)
     → mk stage.Asked limit place s r ≡ ends_at stage.Asked count limit
 asking now limit count set s r attach place h set_is r_is place_is said moved =
     let e : set ≡ sender_in state.Unattached None limit count = set_is ∙ ap (λ (x : Ends). record x.sender { max_frame_size = limit }) h in
     let a : attach ≡ asked count =
-    said zero_output (ap (λ (x : Sender Target). x.output_handle) e) ∙ ap (λ (x : Sender Target). with_entries (sender_attach archetype.Target x zero_output) (states_of x.unsettled) 0) e in
+    said zero_output (ap (λ (x : Sender Target). x.output_handle) e) ∙ ap (λ (x : Sender Target). with_entries (attach_stated (sender_shown archetype.Target x) zero_output) (states_of x.unsettled) 0) e in
     let b : s ≡ sender_in state.AttachSent None limit count =
     moved state.AttachSent (ap (λ (x : Sender Target). next_state Call.SendAttach false x.local_state) e) ∙ ap (λ x. sender_attached x state.AttachSent) e in
     ends_are stage.Asked limit place (Some (asked count)) s (sender_in state.AttachSent None limit count) r (receiver_in state.Unattached None limit count)
@@ -127,23 +125,23 @@ taking now count attach place r h attach_is place_is r_is =
     (r_is ∙ ap (λ a. receiver_takes now.receiver a) a ∙ ap (λ (x : Ends). receiver_takes x.receiver (asked count)) h)
 
 -- the receiver may send its attach
-pub can_answer : (now : Ends) (count : ℕ) → now ≡ ends_at stage.Taken count now.limit → Fits (answered count) now.limit
-    → CanAttach now.receiver.local_state now.receiver.output_handle (receiver_attach archetype.Target now.receiver) now.receiver.unsettled now.receiver.max_frame_size
+pub can_answer : (now : Ends) (count : ℕ) → now ≡ ends_at stage.Taken count now.limit → FitsFrame (answered count) now.limit
+    → CanAttach (receiver_shown archetype.Target now.receiver)
 can_answer now count h fits =
     let e : now.receiver ≡ receiver_in state.AttachReceived zero_input now.limit count = ap (λ (x : Ends). x.receiver) h in
-    subst (λ (r : Receiver Target). CanAttach r.local_state r.output_handle (receiver_attach archetype.Target r) r.unsettled r.max_frame_size) (sym e)
+    subst (λ (r : Receiver Target). CanAttach (receiver_shown archetype.Target r)) (sym e)
     (record { number = zero_output; handle_is = refl; next = state.Attached; step = refl; fits = fits })
 
 -- and has sent it
 pub answering : (now : Ends) (count : ℕ) (attach : Attach) (place : Option Attach) (r : Receiver Target)
     → now ≡ ends_at stage.Taken count now.limit → place ≡ Some attach
-    → ((number : OutputHandle) → now.receiver.output_handle ≡ Some number → attach ≡ with_entries (receiver_attach archetype.Target now.receiver number) now.receiver.unsettled 0)
+    → ((number : OutputHandle) → now.receiver.output_handle ≡ Some number → attach ≡ with_entries (attach_stated (receiver_shown archetype.Target now.receiver) number) now.receiver.unsettled 0)
     → ((next : LinkState) → next_state Call.SendAttach false now.receiver.local_state ≡ Some next → r ≡ record now.receiver { local_state = next })
     → mk stage.Answered now.limit place now.sender r ≡ ends_at stage.Answered count now.limit
 answering now count attach place r h place_is said moved =
     let e : now.receiver ≡ receiver_in state.AttachReceived zero_input now.limit count = ap (λ (x : Ends). x.receiver) h in
     let a : attach ≡ answered count =
-    said zero_output (ap (λ (x : Receiver Target). x.output_handle) e) ∙ ap (λ (x : Receiver Target). with_entries (receiver_attach archetype.Target x zero_output) x.unsettled 0) e in
+    said zero_output (ap (λ (x : Receiver Target). x.output_handle) e) ∙ ap (λ (x : Receiver Target). with_entries (attach_stated (receiver_shown archetype.Target x) zero_output) x.unsettled 0) e in
     let b : r ≡ receiver_in state.Attached zero_input now.limit count =
     moved state.Attached (ap (λ (x : Receiver Target). next_state Call.SendAttach false x.local_state) e) ∙ ap (λ (x : Receiver Target). record x { local_state = state.Attached }) e in
     ends_are stage.Answered now.limit place (Some (answered count)) now.sender (sender_in state.AttachSent None now.limit count) r (receiver_in state.Attached zero_input now.limit count)
@@ -215,7 +213,7 @@ attached_world w ends n limit e =
     }) (sym e)
 
 -- the world where an exchange stops
-abbrev pub halfway : World → Ends → ℕ → Stop → World
+abbrev pub halfway : World → Ends → ℕ → AttachStop → World
 halfway w ends limit stop = record w {
   phase = Halfway limit;
   sender = sender_asking limit ends.sender;
@@ -224,11 +222,11 @@ halfway w ends limit stop = record w {
 
 IsStopped : World → Stage → ℕ → ℕ → ℕ → Ends → Type 0
 IsStopped w at n m limit new =
-    (stop : Stop) × (with_ends w new ≡ halfway w (ends_at at n m) limit stop)
+    (stop : AttachStop) × (with_ends w new ≡ halfway w (ends_at at n m) limit stop)
     × ((ends_at at n m).receiver.local_state ≡ state.Attached → stop ≡ Answered)
 
 -- before its attach has gone out a receiver is not attached
-not_yet : (at : Stage) (n m : ℕ) (stop : Stop) → (at ≡ stage.Apart) ⊎ (at ≡ stage.Asked) ⊎ (at ≡ stage.Taken)
+not_yet : (at : Stage) (n m : ℕ) (stop : AttachStop) → (at ≡ stage.Apart) ⊎ (at ≡ stage.Asked) ⊎ (at ≡ stage.Taken)
     → (ends_at at n m).receiver.local_state ≡ state.Attached → stop ≡ Answered
 not_yet stage.Apart n m stop early h = absurd (cc)
 not_yet stage.Asked n m stop early h = absurd (cc)
@@ -294,7 +292,7 @@ stopped_from w stage.Answered n m limit new apart s = (Answered, ap (with_ends w
 stopped_from w stage.Together n m limit new apart s = absurd (apart refl)
 
 pub stopped_world : (w : World) (ends : Ends) (n limit : ℕ) (new : Ends) → (ends.stage ≡ stage.Together → ⊥) → ends ≡ ends_at ends.stage n ends.limit
-    → MayStop ends.stage n limit new → (stop : Stop) × (with_ends w new ≡ halfway w ends limit stop) × (ends.receiver.local_state ≡ state.Attached → stop ≡ Answered)
+    → MayStop ends.stage n limit new → (stop : AttachStop) × (with_ends w new ≡ halfway w ends limit stop) × (ends.receiver.local_state ≡ state.Attached → stop ≡ Answered)
 unfolding IsStopped
 stopped_world w ends n limit new apart e s =
     let there : IsStopped w ends.stage n ends.limit limit new = stopped_from w ends.stage n ends.limit limit new apart s in

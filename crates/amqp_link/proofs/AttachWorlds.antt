@@ -2,11 +2,11 @@
 use Rattle.std.proofs.Common.{◌≡◌, ◌∙◌, sym, ap, subst, ℕ, ◌+◌, ◌≤◌, Bool, true, false, ◌&&◌, ◌||◌, not, nat_lt, nat_le, ◌==◌, [], ◌∷◌, refl, None, inl, inr, ◌⊎◌, arith, Result, Err}
 use Rattle.std.proofs.lemmas.Bool.Decides.{nat_tests}
 use Rattle.amqp_link_types.specs.Refusals.{refusal}
-use Rattle.amqp_link_core.specs.Attaching.{Fits}
+use Rattle.amqp_link_core.specs.Attaching.{FitsFrame}
 use Rattle.amqp_link.specs.Exchange.{MayStop, AreAt, IsEnds, ends_at, asked, answered}
 use Rattle.amqp_link.specs.Invariants.{IsWorld}
 use Rattle.amqp_link.specs.Phases.{phase_of}
-use Rattle.amqp_link.specs.Steps.{Attaches, LeftByAttach, Stop, StopsAt, attach_tests, attaches_fit, fits, is_together, is_halfway_at_other}
+use Rattle.amqp_link.specs.Steps.{Attaches, LeftByAttach, AttachStop, StopsAt, attach_tests, attaches_fit, fits, is_together, is_halfway_at_other}
 use Rattle.amqp_link.specs.Worlds.{World}
 use Rattle.amqp_link.specs.declared.pair.ends.Ends.{Ends}
 use Rattle.amqp_link.specs.declared.pair.ends.Stage.{Stage}
@@ -133,7 +133,7 @@ module _ (v : World) (ends : Ends) (limit : ℕ) (none : refusal (attach_tests (
     each_fits : (fits (asked known.0) limit ≡ true) × (fits (answered known.0) limit ≡ true)
     each_fits = and_true _ _ (sym (ap (λ (x : Ends). attaches_fit x.sender x.receiver limit) known.1 ∙ fit_at ends.stage known.0 ends.limit limit) ∙ both_fit)
 
-    pub can_go_on : (count : ℕ) × (ends ≡ ends_at ends.stage count ends.limit) × Fits (asked count) limit × Fits (answered count) limit
+    pub can_go_on : (count : ℕ) × (ends ≡ ends_at ends.stage count ends.limit) × FitsFrame (asked count) limit × FitsFrame (answered count) limit
     can_go_on = (known.0, known.1, record { within = within_of _ limit each_fits.0 }, record { within = within_of _ limit each_fits.1 })
 
     -- both are attached
@@ -144,9 +144,9 @@ module _ (v : World) (ends : Ends) (limit : ℕ) (none : refusal (attach_tests (
     kept_attaching new w e = IsWorld-attaches (with_ends v ends) (with_ends v new) limit 0 w enough (attaches new e)
 
     -- or they stop
-    pub stops : (new : Ends) → (new ≡ ends) ⊎ MayStop ends.stage known.0 limit new → (with_ends v new ≡ with_ends v ends) ⊎ ((stop : Stop) × StopsAt stop (with_ends v ends) limit (with_ends v new))
+    pub stops : (new : Ends) → (new ≡ ends) ⊎ MayStop ends.stage known.0 limit new → (with_ends v new ≡ with_ends v ends) ⊎ ((stop : AttachStop) × StopsAt stop (with_ends v ends) limit (with_ends v new))
     stops new s =
-        elim s as (λ _. (with_ends v new ≡ with_ends v ends) ⊎ ((stop : Stop) × StopsAt stop (with_ends v ends) limit (with_ends v new))) [
+        elim s as (λ _. (with_ends v new ≡ with_ends v ends) ⊎ ((stop : AttachStop) × StopsAt stop (with_ends v ends) limit (with_ends v new))) [
           | inl e ↦ inl (ap (with_ends v) e)
           | inr h ↦
               let there = stopped_world v ends known.0 limit new apart known.1 h in
@@ -170,5 +170,5 @@ module _ (v : World) (ends : Ends) (limit : ℕ) (none : refusal (attach_tests (
 -- ---- by the answer
 
 pub left_by : (r : Result ℕ PairError) (old : World) (limit : ℕ) (new : World) → r ≡ Err error.OutOfMemory
-    → (new ≡ old) ⊎ ((stop : Stop) × StopsAt stop old limit new) → LeftByAttach r old limit new
+    → (new ≡ old) ⊎ ((stop : AttachStop) × StopsAt stop old limit new) → LeftByAttach r old limit new
 left_by r old limit new e s = subst (λ r. LeftByAttach r old limit new) (sym e) s

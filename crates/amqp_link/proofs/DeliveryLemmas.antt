@@ -9,7 +9,7 @@ use Rattle.std.proofs.lemmas.List.Sums.{length-filter, count_by-le-length}
 use Rattle.std.proofs.lemmas.List.FromFn.{length-range_with_len}
 use Rattle.std.proofs.lemmas.Bool.Decides.{nat_tests}
 use Rattle.amqp_link_types.specs.Frames.{payload_of, performative_of, AreFramesOf, frame_of, cleared}
-use Rattle.amqp_link_core.specs.Held.{Held, bytes_of}
+use Rattle.amqp_link_core.specs.Held.{Held, held_bytes}
 use Rattle.amqp_link_core.specs.IncompleteRefusals.{is_too_long}
 use Rattle.amqp_link.specs.Invariants.{IsUnderWay, IsKept, OpensOnce, AreContinuations, IsContinuation, IsOpening}
 use Rattle.amqp_link_payloads.specs.Position.{position, starts, is_header_at}
@@ -17,7 +17,7 @@ use Rattle.amqp_link.specs.Receiving.{CanReceive}
 use Rattle.amqp_link_sender.specs.Senders.{Sender, IsSent}
 use Rattle.amqp_link_types.specs.declared.types.terminus.Target.{Target}
 use Rattle.amqp_link.specs.Steps.{received, held_after, begun, delivery_transfer}
-use Rattle.amqp_link.specs.Worlds.{bytes_in, joined, EndsInTime, IsGood}
+use Rattle.amqp_link.specs.Worlds.{bytes_in, payload_of_all, EndsInTime, IsGood}
 use Rattle.amqp_link_types.specs.declared.delivery.UnsettledMessage.{UnsettledMessage}
 use Rattle.amqp_link_types.specs.declared.frame.LinkFrame.{LinkFrame}
 use Rattle.amqp_link_types.specs.declared.frame.LinkFrame.TheVariants.{Attach, Flow, RemoteTransfer, FirstTransfer, TransferContinuation, Disposition, Detach}
@@ -61,7 +61,7 @@ first_nothing [] ys h = refl
 first_nothing (x ∷ xs) ys h = cc
 
 -- its payload is added to what is held
-pub bytes_received : (h : Option Held) (id : ℕ) (f : LinkFrame) → bytes_of (held_after h id f) ≡ bytes_in h ++ payload_of f
+pub bytes_received : (h : Option Held) (id : ℕ) (f : LinkFrame) → held_bytes (held_after h id f) ≡ bytes_in h ++ payload_of f
 bytes_received None id f = append-nil (payload_of f)
 bytes_received (Some h) id f = concat-append h.pieces (payload_of f ∷ []) ∙ ap (λ l. concat h.pieces ++ l) (append-nil (payload_of f))
 
@@ -71,20 +71,20 @@ opens-rest (Some h) f frames o = o.1
 
 good_received : (payload : List ℕ) (p : Progress) (id : ℕ) (f : LinkFrame) (frames : List LinkFrame) → IsGood payload p (f ∷ frames) → IsGood payload (received p id f) frames
 good_received payload p id f frames g =
-    let now : bytes_of (held_after p.held id f) ≡ bytes_in p.held ++ payload_of f = bytes_received p.held id f in
-    let all : bytes_of (held_after p.held id f) ++ joined frames ≡ payload =
-    ap (λ bytes. bytes ++ joined frames) now ∙ append_assoc (bytes_in p.held) (payload_of f) (joined frames) ∙ g.all in
+    let now : held_bytes (held_after p.held id f) ≡ bytes_in p.held ++ payload_of f = bytes_received p.held id f in
+    let all : held_bytes (held_after p.held id f) ++ payload_of_all frames ≡ payload =
+    ap (λ bytes. bytes ++ payload_of_all frames) now ∙ append_assoc (bytes_in p.held) (payload_of f) (payload_of_all frames) ∙ g.all in
     record {
-      front = (joined frames, all);
+      front = (payload_of_all frames, all);
       all = all;
       ends = ends-rest p.whole f frames g.ends;
       complete = λ w. elim (either p.whole (not (performative_of f).more) w) [
         | inl before_it ↦
-            let none : payload_of f ≡ [] = first_nothing (payload_of f) (joined frames) (nothing_added (bytes_in p.held) (payload_of f ++ joined frames) (g.all ∙ sym (g.complete before_it))) in
+            let none : payload_of f ≡ [] = first_nothing (payload_of f) (payload_of_all frames) (nothing_added (bytes_in p.held) (payload_of f ++ payload_of_all frames) (g.all ∙ sym (g.complete before_it))) in
             now ∙ ap (λ bytes. bytes_in p.held ++ bytes) none ∙ append-nil (bytes_in p.held) ∙ g.complete before_it
         | inr by_it ↦
             let alone : frames ≡ [] = last-alone p.whole f frames g.ends (not-false (performative_of f).more by_it) in
-            sym (append-nil (bytes_of (held_after p.held id f))) ∙ ap (λ fs. bytes_of (held_after p.held id f) ++ joined fs) (sym alone) ∙ all
+            sym (append-nil (held_bytes (held_after p.held id f))) ∙ ap (λ fs. held_bytes (held_after p.held id f) ++ payload_of_all fs) (sym alone) ∙ all
       ];
     }
 
@@ -118,8 +118,8 @@ front_counts : (held payload more whole : List ℕ) → held ++ (payload ++ more
 front_counts held payload more whole e h =
     small_counts (held ++ payload) (omega (arith, length-append held (payload ++ more), length-append payload more, length-append held payload, ap length e))
 
-receives : (payload : List ℕ) (held : Option Held) (f : LinkFrame) (frames : List LinkFrame) → OpensOnce held (f ∷ frames) → bytes_in held ++ (payload_of f ++ joined frames) ≡ payload → length payload < 2 ^ 32 → CanReceive held f
-receives payload None (FirstTransfer x) frames o e h = (o.0, front_counts [] x.payload (joined frames) payload e h)
+receives : (payload : List ℕ) (held : Option Held) (f : LinkFrame) (frames : List LinkFrame) → OpensOnce held (f ∷ frames) → bytes_in held ++ (payload_of f ++ payload_of_all frames) ≡ payload → length payload < 2 ^ 32 → CanReceive held f
+receives payload None (FirstTransfer x) frames o e h = (o.0, front_counts [] x.payload (payload_of_all frames) payload e h)
 receives payload None (TransferContinuation x) frames o e h = absurd o.0
 receives payload None (RemoteTransfer x) frames o e h = absurd o.0
 receives payload None (Attach x) frames o e h = absurd o.0
@@ -132,7 +132,7 @@ receives payload (Some held) (Attach x) frames o e h = absurd o.0
 receives payload (Some held) (Flow x) frames o e h = absurd o.0
 receives payload (Some held) (Disposition x) frames o e h = absurd o.0
 receives payload (Some held) (Detach x) frames o e h = absurd o.0
-receives payload (Some held) (TransferContinuation x) frames o e h = (o.0, front_counts (bytes_of held) x.payload (joined frames) payload e h)
+receives payload (Some held) (TransferContinuation x) frames o e h = (o.0, front_counts (held_bytes held) x.payload (payload_of_all frames) payload e h)
 
 pub kept_receives : (o : Option UnsettledMessage) (q : Option Progress) (f : LinkFrame) (frames : List LinkFrame) → IsKept o q (f ∷ frames) → IsSomeAnd q (λ p. CanReceive p.held f)
 kept_receives None q f frames k = absurd (no_items k.1)
@@ -194,17 +194,17 @@ go_on_from : (h : InputHandle) (tag : List ℕ) (n k : ℕ) (frames : List LinkF
 go_on_from h tag n k [] a = tt
 go_on_from h tag n k (f ∷ frames) a = (subst IsContinuation (sym a.0) (goes_on h tag k n (payload_of f)), go_on_from h tag n (suc k) frames a.1)
 
-joined-concat : (frames : List LinkFrame) → joined frames ≡ concat (map payload_of frames)
+joined-concat : (frames : List LinkFrame) → payload_of_all frames ≡ concat (map payload_of frames)
 joined-concat [] = refl
 joined-concat (f ∷ frames) = ap (λ bytes. payload_of f ++ bytes) (joined-concat frames)
 
 under_way : (payload tag : List ℕ) (h : InputHandle) (n : ℕ) (frames : List LinkFrame) → length payload < 2 ^ 32 → concat (map payload_of frames) ≡ payload → 1 ≤ length frames → AreFrames h tag n 0 frames → IsUnderWay payload begun frames
 under_way payload tag h n [] short e some a = absurd (omega arith)
 under_way payload tag h n (f ∷ frames) short e some a =
-    let all : joined (f ∷ frames) ≡ payload = joined-concat (f ∷ frames) ∙ e in
+    let all : payload_of_all (f ∷ frames) ≡ payload = joined-concat (f ∷ frames) ∙ e in
     record {
       good = record {
-        front = (joined (f ∷ frames), all);
+        front = (payload_of_all (f ∷ frames), all);
         all = all;
         ends = ends_from false h tag n 0 f frames a;
         complete = λ w. absurd (false_is_not_true w);

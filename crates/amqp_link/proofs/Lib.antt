@@ -2,7 +2,6 @@ mod AttachLemmas
 mod AttachWorlds
 pub mod DeliveryLemmas
 pub mod ProgressLemmas
-pub mod RunLemmas
 pub mod SendLemmas
 pub mod WireLemmas
 pub mod WorldLemmas

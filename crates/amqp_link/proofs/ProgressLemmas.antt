@@ -14,6 +14,12 @@ use Rattle.amqp_link_types.proofs.MapLemmas.{entry_at-put, put-twice, put-same}
 pub IsSome-put : (old new : Entries Progress) (tag : Tag) (p : Progress) → new ≡ with_entry old tag p → IsSome (entry_at new tag)
 IsSome-put old new tag p e = rw (e, entry_at-put old tag p) refl
 
+-- put in the place of what was there, and that put back
+pub put_back_same : (old mid new : Entries Progress) (tag : Tag) (before blank : Progress) → entry_at old tag ≡ Some before → mid ≡ with_entry old tag blank
+    → new ≡ with_entry mid tag before → new ≡ old
+put_back_same old mid new tag before blank known put back =
+    back ∙ ap (λ m. with_entry m tag before) put ∙ put-twice old tag blank before ∙ put-same old tag before known
+
 -- taken out and put back
 module _ {E : Type 0} (r : Result (ℕ × ℕ × Bool) E) (old mid new : Entries Progress) (tag : Tag) (before blank after : Progress)
     (known : entry_at old tag ≡ Some before) (out : mid ≡ with_entry old tag blank) (back : new ≡ with_entry mid tag after) where

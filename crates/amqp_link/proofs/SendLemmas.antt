@@ -8,10 +8,10 @@ use Rattle.amqp_link_values.specs.Length.{text_len}
 use Rattle.amqp_link_types.specs.Refusals.{refusal}
 use Rattle.amqp_link_sender.specs.Room.{worst, has_room, payload_limit}
 use Rattle.amqp_link.specs.Sendable.{CanSend}
-use Rattle.amqp_link_sender.specs.Senders.{Sender, Delivery, Sends, SendsPayload, IsFewest, IsSent, AnswersSend, Stop, missing_credit, payload_tests, next_tag, new_transfer, new_entry, settled_by_mode, settlement_of}
+use Rattle.amqp_link_sender.specs.Senders.{Sender, Delivery, SendsOrLacksCredit, SendsPayload, SendsFewest, IsSent, SendAnswersThenOutOfMemory, SendStop, missing_credit, payload_tests, next_tag, new_transfer, new_entry, settled_by_mode, settlement_of}
 use Rattle.amqp_link_types.specs.declared.types.terminus.Target.{Target}
 use Rattle.amqp_link_types.specs.Size.{transfer_len, before, list_of, content}
-use Rattle.amqp_link_sender.specs.Split.{Least}
+use Rattle.amqp_link_sender.specs.Split.{IsFewestPieces}
 use Rattle.amqp_link.specs.Steps.{delivery_transfer, after_sending}
 use Rattle.amqp_link_types.specs.declared.delivery.Settlement.{Settlement}
 use Rattle.amqp_link_types.specs.declared.delivery.Settlement.TheVariants as settlement
@@ -78,17 +78,17 @@ no_refusal s payload k =
 some_is_none : {A : Type 0} {x : A} → Some x ≡ None → ⊥
 some_is_none h = cc
 
-pub only_memory : (r : Result Sending LinkStateError) (e : LinkStateError) (tests : List (Bool × Stop)) → r ≡ Err e → AnswersSend r tests → refusal tests ≡ None → e ≡ error.OutOfMemory
+pub only_memory : (r : Result Sending LinkStateError) (e : LinkStateError) (tests : List (Bool × SendStop)) → r ≡ Err e → SendAnswersThenOutOfMemory r tests → refusal tests ≡ None → e ≡ error.OutOfMemory
 only_memory r e tests is a none =
-    let P : Result Sending LinkStateError → Type 0 = λ r. AnswersSend r tests in
+    let P : Result Sending LinkStateError → Type 0 = λ r. SendAnswersThenOutOfMemory r tests in
     elim (subst P is a) as (λ _. e ≡ error.OutOfMemory) [
-      | inl memory ↦ memory
+      | inl memory ↦ memory.0
       | inr stop ↦ absurd (some_is_none (sym stop ∙ none))
     ]
 
-pub credit_is_there : (r : Result Sending LinkStateError) (tests : List (Bool × Stop)) → r ≡ Ok sending.CreditMissing → AnswersSend r tests → refusal tests ≡ None → ⊥
+pub credit_is_there : (r : Result Sending LinkStateError) (tests : List (Bool × SendStop)) → r ≡ Ok sending.CreditMissing → SendAnswersThenOutOfMemory r tests → refusal tests ≡ None → ⊥
 credit_is_there r tests is a none =
-    let P : Result Sending LinkStateError → Type 0 = λ r. AnswersSend r tests in
+    let P : Result Sending LinkStateError → Type 0 = λ r. SendAnswersThenOutOfMemory r tests in
     let missing : refusal tests ≡ Some missing_credit = subst P is a in
     some_is_none (sym missing ∙ none)
 
@@ -98,23 +98,23 @@ credit_is_there r tests is a none =
 pub record IsDone (old : Sender Target) (payload : List ℕ) (told : Settlement) (frames : List LinkFrame) (new : Sender Target) : Type 0 where
   pub answered : told ≡ settlement.Unsettled (next_tag old)
   pub framed : IsSent old (delivery_transfer (next_tag old)) payload frames
-  pub fewest : Least payload (payload_limit (delivery_transfer (next_tag old)) old.max_frame_size) (length frames)
+  pub fewest : IsFewestPieces payload (payload_limit (delivery_transfer (next_tag old)) old.max_frame_size) (length frames)
   pub world : new ≡ after_sending old payload
 
 at_output : (P : OutputHandle → Type 0) (o : Option OutputHandle) → o ≡ Some zero_handle → IsSomeAnd o P → P zero_handle
 at_output P o is a = let Q : Option OutputHandle → Type 0 = λ o. IsSomeAnd o P in subst Q is a
 
 pub done : (s : Sender Target) (payload : List ℕ) (told : Settlement) (frames : Vec LinkFrame Global) (new : Sender Target) → CanSend s
-    → Sends s unsettled_delivery payload (sending.Sent told frames) new → IsFewest s unsettled_delivery payload (sending.Sent told frames)
+    → SendsOrLacksCredit s unsettled_delivery payload (sending.Sent told frames) new → SendsFewest s unsettled_delivery payload (sending.Sent told frames)
     → IsDone s payload told frames.items new
 done s payload told frames new k sends fewest =
     let t = transfer_is s (next_tag s) k.mode in
     let d : SendsPayload s zero_handle unsettled_delivery payload told frames.items new = at_output (λ handle. SendsPayload s handle unsettled_delivery payload told frames.items new) s.output_handle k.output sends in
-    let l : Least payload (payload_limit (new_transfer s zero_handle (next_tag s) unsettled_delivery) s.max_frame_size) (length frames.items) = at_output (λ handle. Least payload (payload_limit (new_transfer s handle (next_tag s) unsettled_delivery) s.max_frame_size) (length frames.items)) s.output_handle k.output fewest in
+    let l : IsFewestPieces payload (payload_limit (new_transfer s zero_handle (next_tag s) unsettled_delivery) s.max_frame_size) (length frames.items) = at_output (λ handle. IsFewestPieces payload (payload_limit (new_transfer s handle (next_tag s) unsettled_delivery) s.max_frame_size) (length frames.items)) s.output_handle k.output fewest in
     record {
       answered = d.answered ∙ ap (λ m. settlement_of (settled_by_mode m (Some false)) (next_tag s)) k.mode;
       framed = subst (λ t. IsSent s t payload frames.items) t d.sent;
-      fewest = subst (λ t. Least payload (payload_limit t s.max_frame_size) (length frames.items)) t l;
+      fewest = subst (λ t. IsFewestPieces payload (payload_limit t s.max_frame_size) (length frames.items)) t l;
       world = d.world ∙ ap (λ m. record s {
         unsettled = cond (settled_by_mode m (Some false)) s.unsettled (with_entry s.unsettled (next_tag s) (new_entry 0 payload));
         flow_state = after_consuming 1 s.flow_state;

@@ -7,7 +7,7 @@ use Rattle.amqp_link_types.specs.declared.frame.LinkFrame.{LinkFrame}
 use Rattle.amqp_link_types.specs.declared.frame.LinkFrame.TheVariants.{FirstTransfer, TransferContinuation}
 use Rattle.amqp_link.specs.Steps.{new_world, delivery_transfer, begun, received, is_together, is_halfway_at_other, attach_tests, grant_tests, send_tests, arrive_tests}
 use Rattle.amqp_link.specs.Wires.{OnWire, under}
-use Rattle.amqp_link.specs.Worlds.{World, Halfway, Together, IsGood, Good, bytes_in, frames_of, joined}
+use Rattle.amqp_link.specs.Worlds.{World, Halfway, Together, IsGood, Good, bytes_in, frames_of, payload_of_all}
 use Rattle.amqp_link.specs.declared.pair.error.PairError.TheVariants.{AlreadyAttached, LimitChanged, LimitTooSmall, NotAttached, CreditMissing, WireEmpty}
 
 -- a first frame of the delivery 07, and a second one
@@ -26,7 +26,7 @@ wire = under (7 ∷ []) (first_frame ∷ []) ++ under (8 ∷ []) (second_frame �
 own_frames : frames_of (7 ∷ []) wire ≡ first_frame ∷ second_frame ∷ []
 own_frames = refl
 
-own_bytes : joined (frames_of (7 ∷ []) wire) ≡ 1 ∷ 2 ∷ 3 ∷ []
+own_bytes : payload_of_all (frames_of (7 ∷ []) wire) ≡ 1 ∷ 2 ∷ 3 ∷ []
 own_bytes = refl
 
 held_after_one : bytes_in (received begun 5 first_frame).held ≡ 1 ∷ 2 ∷ []

@@ -1,6 +1,6 @@
 -- Each call keeps what a pair keeps.
 use Rattle.std.proofs.Common.{◌≡◌, ◌≢◌, ◌∙◌, sym, ap, subst, Bool, true, false, cond, List, [], ◌∷◌, ◌++◌, refl, ℕ, ◌<◌, ◌≤◌, ◌^◌, map, length, drop, not}
-use Rattle.std.specs.Prelude.{Option, Some, None, filter, bytes_eq, Decides, IsSomeAnd}
+use Rattle.std.specs.Prelude.{Option, Some, None, is_none, is_some, filter, bytes_eq, Decides, IsSomeAnd}
 use Rattle.std.proofs.lemmas.Slice.Eq.{bytes_eq-Decides}
 use Rattle.std.proofs.lemmas.List.{append-nil, map-append}
 use Rattle.std.proofs.lemmas.List.Elements.{filter-append}
@@ -10,7 +10,7 @@ use Rattle.amqp_link.specs.Receiving.{IsReceived, CanReceive}
 use Rattle.amqp_link_receiver.specs.Receivers.{Receiver}
 use Rattle.amqp_link_sender.specs.Senders.{Sender, next_tag, new_entry}
 use Rattle.amqp_link_types.specs.declared.types.terminus.Target.{Target}
-use Rattle.amqp_link.specs.Steps.{Attaches, StopsAt, Stop, Asked, Taken, Answered, receiver_at, Grants, with_credit, Sends, Arrives, received, begun, after_sending}
+use Rattle.amqp_link.specs.Steps.{Attaches, StopsAt, AttachStop, Asked, Taken, Answered, receiver_at, Grants, with_credit, Sends, Arrives, received, begun, after_sending}
 use Rattle.amqp_link.specs.Wires.{OnWire, under, first_of}
 use Rattle.amqp_link.specs.Worlds.{World, Phase, Apart, Halfway, Together, Good, frames_of}
 use Rattle.amqp_link_types.specs.declared.delivery.UnsettledMessage.{UnsettledMessage}
@@ -45,6 +45,25 @@ by_tag P tag here there other =
       | true ↦ λ d. subst P (sym (d.0 refl)) here
       | false ↦ λ d. there other (λ p. false_is_not_true (d.1 p))
     ] (bytes_eq-Decides other tag)
+
+-- ---- a tag
+
+absent_at : (o : Option UnsettledMessage) (p : Option Progress) (frames : List LinkFrame) → IsKept o p frames → is_none p ≡ is_none o
+absent_at None p frames k = ap is_none k.0
+absent_at (Some entry) None frames k = absurd k
+absent_at (Some entry) (Some p) frames k = refl
+
+-- a delivery is there exactly where the sender has one pending
+pub absent-same : (w : World) (tag : List ℕ) → IsWorld w → is_none (entry_at w.deliveries tag) ≡ is_none (entry_at w.sender.unsettled tag)
+absent-same w tag k = absent_at (entry_at w.sender.unsettled tag) (entry_at w.deliveries tag) (frames_of tag w.wire) (k.each tag)
+
+pub none-absent : {A : Type 0} (o : Option A) → is_none o ≡ true → o ≡ None
+none-absent None h = refl
+none-absent (Some a) h = cc
+
+pub some-present : {A : Type 0} (o : Option A) → is_none o ≡ false → is_some o ≡ true
+some-present None h = cc
+some-present (Some a) h = refl
 
 -- ---- an arrival
 
@@ -168,7 +187,7 @@ module _ (old new : World) (payload tag : List ℕ) (count : ℕ) (k : IsWorld o
 
 -- ---- an attach
 
-receiver_stays : (stop : Stop) (limit count : ℕ) (r : Receiver Target)
+receiver_stays : (stop : AttachStop) (limit count : ℕ) (r : Receiver Target)
     → ((receiver_at stop limit count r).output_handle ≡ r.output_handle) × ((receiver_at stop limit count r).flow_state.drain ≡ r.flow_state.drain)
 receiver_stays Asked limit count r = (refl, refl)
 receiver_stays Taken limit count r = (refl, refl)
@@ -183,7 +202,7 @@ IsWorld-attaches old new limit count k enough a =
       each = k.each;
     })
 
-pub IsWorld-stops : (stop : Stop) (old new : World) (limit : ℕ) → IsWorld old → StopsAt stop old limit new → IsWorld new
+pub IsWorld-stops : (stop : AttachStop) (old new : World) (limit : ℕ) → IsWorld old → StopsAt stop old limit new → IsWorld new
 IsWorld-stops stop old new limit k s =
     subst IsWorld (sym s.world) (record { ready = tt; flows = flows_of k.flows refl (receiver_stays stop limit _ old.receiver).0 refl (receiver_stays stop limit _ old.receiver).1; mode = k.mode; each = k.each })
 

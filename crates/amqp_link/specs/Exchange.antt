@@ -10,12 +10,13 @@ use Rattle.amqp_link_types.specs.declared.types.definitions.InputHandle.{InputHa
 use Rattle.amqp_link_types.specs.declared.types.definitions.OutputHandle.{OutputHandle}
 use Rattle.amqp_link_types.specs.declared.types.terminus.Target.{Target}
 use Rattle.amqp_link_types.specs.declared.types.terminus.TargetArchetype.TheVariants as archetype
-use Rattle.amqp_link_core.specs.Attaching.{Fits, States, with_entries}
+use Rattle.amqp_link_core.specs.Attaching.{FitsFrame, with_entries}
 use Rattle.amqp_link_core.specs.LinkStates.{Call, next_state}
 use Rattle.amqp_link_core.specs.declared.link_parts.LinkParts.{LinkParts}
-use Rattle.amqp_link_receiver.specs.ReceiverAttaches.{counted_attach as said_by_receiver}
+use Rattle.amqp_link_core.specs.Shown.{Shown, counted_attach, attach_stated}
+use Rattle.amqp_link_receiver.specs.ReceiverAttaches.{receiver_shown}
 use Rattle.amqp_link_receiver.specs.Receivers.{Receiver}
-use Rattle.amqp_link_sender.specs.SenderAttaches.{counted_attach as said_by_sender}
+use Rattle.amqp_link_sender.specs.SenderAttaches.{sender_shown}
 use Rattle.amqp_link_sender.specs.Senders.{Sender}
 use Rattle.amqp_link.specs.Steps.{new_sender, new_receiver}
 use Rattle.amqp_link.specs.declared.pair.ends.Ends.{Ends}
@@ -43,14 +44,13 @@ plain_parts count =
 
 -- ---- one end
 
--- an end has a handle and a row for an attach, and the attach with all its deliveries fits
-pub record CanAttach (from : LinkState) (handle : Option OutputHandle) (whole : OutputHandle → Attach)
-    (entries : States) (frame : ℕ) : Type 0 where
+-- an endpoint has a handle and a transition for an attach, and the attach with all its deliveries fits
+pub record CanAttach {D : Type 0} (s : Shown D) : Type 0 where
   pub number : OutputHandle
-  pub handle_is : handle ≡ Some number
+  pub handle_is : s.output_handle ≡ Some number
   pub next : LinkState
-  pub step : next_state Call.SendAttach false from ≡ Some next
-  pub fits : Fits (with_entries (whole number) entries 0) frame
+  pub step : next_state Call.SendAttach false s.local_state ≡ Some next
+  pub fits : FitsFrame (with_entries (attach_stated s number) s.entries 0) s.max_frame_size
 
 -- a frame that is a flow
 abbrev pub IsFlow : LinkFrame → Type 0
@@ -72,10 +72,10 @@ receiver_in state input limit count =
 
 -- what the sender says, and what the receiver answers
 abbrev pub asked : ℕ → Attach
-asked count = with_entries (said_by_sender archetype.Target (new_sender count) count zero_output) [] 0
+asked count = with_entries (counted_attach (sender_shown archetype.Target (new_sender count)) count zero_output) [] 0
 
 abbrev pub answered : ℕ → Attach
-answered count = with_entries (said_by_receiver archetype.Target (new_receiver count) count zero_output) [] 0
+answered count = with_entries (counted_attach (receiver_shown archetype.Target (new_receiver count)) count zero_output) [] 0
 
 abbrev pub zero_input : Option InputHandle
 zero_input = Some (record { 0 = 0 })

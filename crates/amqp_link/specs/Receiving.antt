@@ -2,7 +2,7 @@
 use Rattle.std.specs.Prelude.{◌≡◌, ℕ, Bool, ◌++◌, Option, Some, None, IsSome, false}
 use Rattle.amqp_link_types.specs.Entries.{Tag, Entries, entry_at, with_entry}
 use Rattle.amqp_link_types.specs.Frames.{payload_of}
-use Rattle.amqp_link_core.specs.Held.{Held, bytes_of}
+use Rattle.amqp_link_core.specs.Held.{Held, held_bytes}
 use Rattle.amqp_link_core.specs.IncompleteRefusals.{is_too_long}
 use Rattle.amqp_link_core.specs.Merging.{IsSilent}
 use Rattle.amqp_link_payloads.specs.Position.{position}
@@ -22,7 +22,7 @@ pub record IsContinuing (t : Transfer) : Type 0 where
 -- the first transfer of a delivery comes first, and what is held can be counted
 abbrev pub CanReceive : Option Held → LinkFrame → Type 0
 CanReceive None (FirstTransfer x) = IsSome x.performative.delivery_tag × (is_too_long x.payload ≡ false)
-CanReceive (Some held) (TransferContinuation x) = IsContinuing x.performative × (is_too_long (bytes_of held ++ x.payload) ≡ false)
+CanReceive (Some held) (TransferContinuation x) = IsContinuing x.performative × (is_too_long (held_bytes held ++ x.payload) ≡ false)
 CanReceive _ _ = ⊥
 
 -- The next transfer of a tag has come.

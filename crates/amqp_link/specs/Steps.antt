@@ -2,7 +2,7 @@
 use Rattle.std.specs.Prelude.{◌≡◌, ◌⊎◌, ℕ, ◌+◌, ◌^◌, ◌&&◌, Bool, true, false, not, ◌||◌, nat_lt, nat_le, ◌==◌, List, [], ◌∷◌, ◌++◌, length, Option, Some, None, is_some, unwrap_or, codes, Result, Ok, Err}
 use Rattle.amqp_link_state.specs.Counts.{granted, after_consuming}
 use Rattle.amqp_link_types.specs.Entries.{Tag, entry_at, with_entry}
-use Rattle.amqp_link_types.specs.Frames.{payload_of, performative_of}
+use Rattle.amqp_link_types.specs.Frames.{payload_of, performative_of, silent}
 use Rattle.amqp_link_core.specs.Held.{Held}
 use Rattle.amqp_link_payloads.specs.Position.{position}
 use Rattle.amqp_link_types.specs.Refusals.{refusal}
@@ -12,15 +12,16 @@ use Rattle.amqp_link_state.specs.declared.state.LinkFlowStateInner.{LinkFlowStat
 use Rattle.amqp_link_types.specs.declared.types.attach.Attach.{Attach}
 use Rattle.amqp_link_types.specs.declared.types.terminus.TargetArchetype.TheVariants as archetype
 use Rattle.amqp_link_core.specs.Attaching.{with_entries}
-use Rattle.amqp_link_receiver.specs.ReceiverAttaches.{counted_attach as said_by_receiver}
+use Rattle.amqp_link_core.specs.Shown.{counted_attach}
+use Rattle.amqp_link_receiver.specs.ReceiverAttaches.{receiver_shown}
 use Rattle.amqp_link_receiver.specs.Receivers.{Receiver}
-use Rattle.amqp_link_sender.specs.SenderAttaches.{counted_attach as said_by_sender}
+use Rattle.amqp_link_sender.specs.SenderAttaches.{sender_shown}
 use Rattle.amqp_link_sender.specs.Senders.{Sender, IsSent, next_tag, new_entry}
 use Rattle.amqp_link_types.specs.declared.types.terminus.Target.{Target}
 use Rattle.amqp_link_types.specs.declared.types.terminus.Source.{Source}
 use Rattle.amqp_link_types.specs.declared.types.terminus.TerminusDurability.TheVariants as durable
 use Rattle.amqp_link_types.specs.declared.types.terminus.TerminusExpiryPolicy.TheVariants.{SessionEnd}
-use Rattle.amqp_link_sender.specs.Split.{Least}
+use Rattle.amqp_link_sender.specs.Split.{IsFewestPieces}
 use Rattle.amqp_link_sender.specs.Room.{payload_limit}
 use Rattle.amqp_link.specs.Wires.{OnWire, under}
 use Rattle.amqp_link.specs.Worlds.{World, Phase, Apart, Halfway, Together, bytes_in, frames_of}
@@ -37,19 +38,8 @@ use Rattle.amqp_link_types.specs.declared.types.transfer.Transfer.{Transfer}
 
 -- the transfer of a pair's delivery: unsettled, of format 0, at handle 0
 abbrev pub delivery_transfer : Tag → Transfer
-delivery_transfer tag = record {
-  handle = record { 0 = 0 };
-  delivery_id = None;
-  delivery_tag = Some tag;
-  message_format = Some 0;
-  settled = Some false;
-  more = false;
-  rcv_settle_mode = None;
-  state = None;
-  resume = false;
-  aborted = false;
-  batchable = false;
-}
+delivery_transfer tag =
+    record silent { delivery_tag = Some tag; message_format = Some 0; settled = Some false }
 
 -- of a delivery that was just sent nothing has come
 abbrev pub begun : Progress
@@ -185,8 +175,8 @@ fits attach frame = nat_le (4 + attach_len attach) frame
 abbrev pub attaches_fit : Sender Target → Receiver Target → ℕ → Bool
 attaches_fit s r limit =
     let count = s.flow_state.delivery_count in
-    let sent = said_by_sender archetype.Target s count (unwrap_or s.output_handle (record { 0 = 0 })) in
-    let answered = said_by_receiver archetype.Target r count (unwrap_or r.output_handle (record { 0 = 0 })) in
+    let sent = counted_attach (sender_shown archetype.Target s) count (unwrap_or s.output_handle (record { 0 = 0 })) in
+    let answered = counted_attach (receiver_shown archetype.Target r) count (unwrap_or r.output_handle (record { 0 = 0 })) in
     fits (with_entries sent (states_of s.unsettled) 0) limit && fits (with_entries answered r.unsettled 0) limit
 
 -- a frame limit of less than 29 leaves no room for a byte beside a transfer that resumes
@@ -206,8 +196,8 @@ sender_together limit s =
     record s { local_state = Attached; input_handle = Some (record { 0 = 0 }); max_frame_size = limit }
 
 -- the receiver once the sender's attach has come: it counts from the sender's count
-abbrev pub receiver_taken : ℕ → ℕ → Receiver Target → Receiver Target
-receiver_taken limit count r = record r {
+abbrev pub receiver_half_attached : ℕ → ℕ → Receiver Target → Receiver Target
+receiver_half_attached limit count r = record r {
   local_state = AttachReceived;
   input_handle = Some (record { 0 = 0 });
   flow_state = record r.flow_state { initial_delivery_count = count; delivery_count = count };
@@ -217,7 +207,7 @@ receiver_taken limit count r = record r {
 
 -- and once its own has gone out
 abbrev pub receiver_together : ℕ → ℕ → Receiver Target → Receiver Target
-receiver_together limit count r = record (receiver_taken limit count r) { local_state = Attached }
+receiver_together limit count r = record (receiver_half_attached limit count r) { local_state = Attached }
 
 -- Both ends are attached at the frame limit, and the receiver counts from the sender's count. Nothing
 -- is to be resumed.
@@ -231,19 +221,19 @@ pub record Attaches (old : World) (limit count : ℕ) (new : World) : Type 0 whe
 
 -- where an attach may stop: the sender's is on its way, the receiver has taken it, or the receiver's
 -- is on its way
-pub data Stop : Type 0 where
-  Asked : Stop
-  Taken : Stop
-  Answered : Stop
+pub data AttachStop : Type 0 where
+  Asked : AttachStop
+  Taken : AttachStop
+  Answered : AttachStop
 
-abbrev pub receiver_at : Stop → ℕ → ℕ → Receiver Target → Receiver Target
+abbrev pub receiver_at : AttachStop → ℕ → ℕ → Receiver Target → Receiver Target
 receiver_at Asked limit count r = record r { max_frame_size = limit }
-receiver_at Taken limit count r = receiver_taken limit count r
+receiver_at Taken limit count r = receiver_half_attached limit count r
 receiver_at Answered limit count r = receiver_together limit count r
 
 -- Memory was wanting once the sender's attach had gone out. No test of the call holds, and a receiver
 -- whose attach has gone out does not send it again.
-pub record StopsAt (stop : Stop) (old : World) (limit : ℕ) (new : World) : Type 0 where
+pub record StopsAt (stop : AttachStop) (old : World) (limit : ℕ) (new : World) : Type 0 where
   pub may : refusal (attach_tests old limit) ≡ None
   pub onward : old.receiver.local_state ≡ Attached → stop ≡ Answered
   pub world : new ≡ record old {
@@ -255,7 +245,7 @@ pub record StopsAt (stop : Stop) (old : World) (limit : ℕ) (new : World) : Typ
 -- what a refused attach leaves: all as it was, unless memory was wanting on the way
 abbrev pub LeftByAttach : {A : Type 0} → Result A PairError → World → ℕ → World → Type 0
 LeftByAttach (Ok a) old limit new = Unit {0}
-LeftByAttach (Err error.OutOfMemory) old limit new = (new ≡ old) ⊎ ((stop : Stop) × StopsAt stop old limit new)
+LeftByAttach (Err error.OutOfMemory) old limit new = (new ≡ old) ⊎ ((stop : AttachStop) × StopsAt stop old limit new)
 LeftByAttach (Err e) old limit new = new ≡ old
 
 -- an end with this credit
@@ -288,7 +278,7 @@ pub record Sends (old : World) (payload : List ℕ) (tag : Tag) (count : ℕ) (n
   pub fresh : entry_at old.deliveries tag ≡ None
   pub quiet : frames_of tag old.wire ≡ []
   pub framed : IsSent old.sender (delivery_transfer tag) payload frames
-  pub fewest : Least payload (payload_limit (delivery_transfer tag) old.sender.max_frame_size) count
+  pub fewest : IsFewestPieces payload (payload_limit (delivery_transfer tag) old.sender.max_frame_size) count
   pub counted : count ≡ length frames
   pub world : new ≡ record old {
     sender = after_sending old.sender payload;
@@ -332,16 +322,3 @@ send_tests w payload =
 
 abbrev pub arrive_tests : World → List (Bool × PairError)
 arrive_tests w = (not (is_together w.phase), error.NotAttached) ∷ (is_empty w.wire, error.WireEmpty) ∷ []
-
--- A result by the first test that holds. Want of memory may come before each of them; a clause `memory` of the
--- call says before which it does not.
-abbrev pub Answers : {A : Type 0} → Result A PairError → List (Bool × PairError) → Type 0
-Answers (Ok a) tests = refusal tests ≡ None
-Answers (Err error.OutOfMemory) tests = Unit {0}
-Answers (Err e) tests = refusal tests ≡ Some e
-
--- the same of a call that takes no memory
-abbrev pub AnswersExactly : {A : Type 0} → Result A PairError → List (Bool × PairError) → Type 0
-AnswersExactly (Ok a) tests = refusal tests ≡ None
-AnswersExactly (Err error.OutOfMemory) tests = ⊥
-AnswersExactly (Err e) tests = refusal tests ≡ Some e

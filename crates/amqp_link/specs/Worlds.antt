@@ -4,7 +4,7 @@ use Rattle.std.specs.Prelude.{◌≡◌, ℕ, Bool, true, false, List, [], ◌�
 use Rattle.std.specs.Str.{bytes_eq}
 use Rattle.amqp_link_types.specs.Entries.{Tag, Entries, entry_at}
 use Rattle.amqp_link_types.specs.Frames.{payload_of, performative_of}
-use Rattle.amqp_link_core.specs.Held.{Held, bytes_of}
+use Rattle.amqp_link_core.specs.Held.{Held, held_bytes}
 use Rattle.amqp_link_sender.specs.Senders.{Sender}
 use Rattle.amqp_link_receiver.specs.Receivers.{Receiver}
 use Rattle.amqp_link_types.specs.declared.types.terminus.Target.{Target}
@@ -35,15 +35,15 @@ held_at w tag = option_and_then (λ progress. progress.held) (entry_at w.deliver
 -- the bytes that are held: none where nothing has come
 abbrev pub bytes_in : Option Held → List ℕ
 bytes_in None = []
-bytes_in (Some held) = bytes_of held
+bytes_in (Some held) = held_bytes held
 
 -- its transfers under way, in order
 abbrev pub frames_of : Tag → List OnWire → List LinkFrame
 frames_of tag wire = map (λ next. next.frame) (filter (λ next. bytes_eq tag next.tag) wire)
 
 -- their payloads joined
-abbrev pub joined : List LinkFrame → List ℕ
-joined frames = flat_map payload_of frames
+abbrev pub payload_of_all : List LinkFrame → List ℕ
+payload_of_all frames = flat_map payload_of frames
 
 -- some bytes more make the whole
 abbrev pub IsFront : List ℕ → List ℕ → Type 0
@@ -60,7 +60,7 @@ EndsInTime whole (f ∷ g ∷ frames) = ((performative_of f).more ≡ true) × E
 -- transfer ends it, and where that has come the whole payload is held.
 pub record IsGood (payload : List ℕ) (p : Progress) (frames : List LinkFrame) : Type 0 where
   pub front : IsFront (bytes_in p.held) payload
-  pub all : bytes_in p.held ++ joined frames ≡ payload
+  pub all : bytes_in p.held ++ payload_of_all frames ≡ payload
   pub ends : EndsInTime p.whole frames
   pub complete : p.whole ≡ true → bytes_in p.held ≡ payload
 

@@ -12,12 +12,13 @@ pub mod pair;
 pub use amqp_link_core::endpoint::target::LinkTarget;
 pub use amqp_link_core::endpoint::{Link, LinkAttach, LinkDetach, LinkExt};
 pub use amqp_link_core::incomplete_transfer::IncompleteTransfer;
+pub use amqp_link_core::link_parts::LinkParts;
 pub use amqp_link_core::resumption::{Resolution, ResumingDelivery, resume_delivery};
-pub use amqp_link_ends::{
-    LinkParts, ReceiverAttachExchange, ReceiverLink, SenderAttachExchange, SenderLink, Sending,
-    Waiting, get_max_message_size,
-};
 pub use amqp_link_payloads::position::{place_of, position_of};
+pub use amqp_link_receiver::receiver_link::{
+    ReceiverAttachExchange, ReceiverLink, get_max_message_size,
+};
+pub use amqp_link_sender::sender_link::{SenderAttachExchange, SenderLink, Sending, Waiting};
 pub use amqp_link_state::role::{IntoRole, ReceiverMarker, SenderMarker};
 pub use amqp_link_state::state::{
     DEFAULT_CREDIT, InsufficientCredit, LinkFlowState, LinkFlowStateInner, LinkState,

@@ -4,20 +4,16 @@
 //! one, and the receiver holds of each delivery exactly the bytes that came. All deliveries are
 //! unsettled and of format 0.
 ghost use Rattle.std.specs.Prelude.{◌≡◌, ◌≢◌, ◌<◌, ◌≤◌, ◌^◌, [], true, false, length, None, Some, IfOk, IsErrOf, OnErr, option_copied};
-ghost use Rattle.amqp_link_types.specs.Refusals.{refusal};
+ghost use Rattle.amqp_link_types.specs.Refusals.{AnswersExactly, AnswersOrOutOfMemory, AnswersThenOutOfMemory};
 ghost use Rattle.amqp_link.specs.Worlds.{Good, held_at};
-ghost use Rattle.amqp_link.specs.Steps.{Attaches, LeftByAttach, Grants, Sends, Arrives, Answers, AnswersExactly};
+ghost use Rattle.amqp_link.specs.Steps.{Attaches, LeftByAttach, Grants, Sends, Arrives};
 ghost use Rattle.amqp_link.specs.Steps.{is_together, is_halfway_at_other, new_world, attach_tests, grant_tests, send_tests, arrive_tests};
 
 mod deliveries;
 mod ends;
 mod error;
 mod progress;
-#[cfg(test)]
-mod runs;
 mod sending;
-#[cfg(test)]
-mod tests;
 mod wire;
 
 use crate::pair::deliveries::Deliveries;
@@ -90,7 +86,7 @@ impl Pair {
     /// Refused where memory is wanting.
     pub fn new(alloc: Global, initial_delivery_count: SequenceNo) -> Result<Pair, PairError>
         ensures done { IfOk result (λ pair. pair ≡ new_world initial_delivery_count) }
-        ensures refused { Answers result [] }
+        ensures refused { AnswersOrOutOfMemory PairError.OutOfMemory result [] }
         ensures good { IfOk result (λ pair. Good pair) }
     {
         Ok(Pair {
@@ -111,7 +107,7 @@ impl Pair {
     /// stay where they have come to, and the call is made again with the same limit.
     pub fn attach(&mut self, limit: u32) -> Result<usize, PairError>
         ensures done { IfOk result (λ count. Attaches self.old limit count self.new) }
-        ensures refused { Answers result (attach_tests self.old limit) }
+        ensures refused { AnswersOrOutOfMemory PairError.OutOfMemory result (attach_tests self.old limit) }
         ensures memory { IsErrOf result PairError.OutOfMemory → (is_together self.old.phase ≡ false)
             × (is_halfway_at_other limit self.old.phase ≡ false) × (29 ≤ limit) }
         ensures left { LeftByAttach result self.old limit self.new }
@@ -124,7 +120,7 @@ impl Pair {
 
     // Whether nothing stands against attaching at a limit.
     fn may_attach(&self, limit: u32) -> Result<(), PairError>
-        ensures refused { Answers result (attach_tests self.now limit) }
+        ensures refused { AnswersOrOutOfMemory PairError.OutOfMemory result (attach_tests self.now limit) }
         ensures memory { IsErrOf result PairError.OutOfMemory → (is_together self.now.phase ≡ false)
             × (is_halfway_at_other limit self.now.phase ≡ false) × (29 ≤ limit) }
     {
@@ -161,11 +157,12 @@ impl Pair {
     /// its transfers.
     ///
     /// Refused in this order, with nothing changed: `NotAttached`, `PayloadTooLong` (2^32 bytes or
-    /// more), `CreditMissing`, `TagPending`, want of memory, which may come before `TagPending`, as the
-    /// tag is made.
+    /// more), `CreditMissing`, `TagPending`, `OutOfMemory`, which may come before `TagPending`, as the
+    /// tag is made and the delivery's entry is asked for.
     pub fn send(&mut self, payload: &Payload) -> Result<Sent, PairError>
         ensures done { IfOk result (λ sent. Sends self.old payload.now sent.tag sent.frames self.new) }
-        ensures refused { Answers result (send_tests self.old payload.now) }
+        ensures refused { AnswersOrOutOfMemory PairError.OutOfMemory
+            result (send_tests self.old payload.now) }
         ensures memory { IsErrOf result PairError.OutOfMemory → (is_together self.old.phase ≡ true)
             × (length payload.now < 2 ^ 32) × (self.old.sender.flow_state.link_credit ≢ 0) }
         ensures left { OnErr result (self.new ≡ self.old) }
@@ -181,12 +178,12 @@ impl Pair {
             return Err(PairError::CreditMissing);
         }
         let tag = next_tag(self.alloc, &self.ends.sender)?;
-        if self.ends.sender.unsettled().contains(&tag) {
-            return Err(PairError::TagPending);
-        }
         // Room for all but the sender's entry, which is the last growth.
         self.wire.reserve()?;
-        open(&mut self.deliveries, &tag)?;
+        // A delivery of the tag is there exactly while the sender has one pending.
+        if !open(&mut self.deliveries, &tag)? {
+            return Err(PairError::TagPending);
+        }
         let Ok((sent, frames)) = send_unsettled(&mut self.ends.sender, payload) else {
             close(&mut self.deliveries, &tag);
             return Err(PairError::OutOfMemory);
@@ -203,12 +200,11 @@ impl Pair {
     /// is added to what is held.
     ///
     /// Refused in this order, with nothing changed, so that it stays on the wire: `NotAttached`,
-    /// `WireEmpty`, want of memory.
+    /// `WireEmpty`, `OutOfMemory`.
     pub fn arrive(&mut self, id: DeliveryNumber) -> Result<Arrived, PairError>
         ensures done { IfOk result (λ came. Arrives self.old id came.tag
             (came.section_number, came.section_offset) came.whole self.new) }
-        ensures refused { Answers result (arrive_tests self.old) }
-        ensures memory { IsErrOf result PairError.OutOfMemory → refusal (arrive_tests self.old) ≡ None }
+        ensures refused { AnswersThenOutOfMemory PairError.OutOfMemory result (arrive_tests self.old) }
         ensures left { OnErr result (self.new ≡ self.old) }
         ensures good { Good self.new }
     {

@@ -6,14 +6,14 @@ use Rattle.std.proofs.lemmas.List.{take-take}
 use borrow.Author.Count.{below_more}
 use Rattle.amqp_link_types.specs.declared.types.attach.Attach.{Attach}
 use Rattle.amqp_link_types.proofs.SizeLemmas.{attach_len-marked}
-use Rattle.amqp_link_core.specs.Attaching.{States, with_entries, Fits, NeverFits}
+use Rattle.amqp_link_core.specs.Attaching.{States, with_entries, FitsFrame, NeverFitsFrame}
 
 -- as far as the halving has come: `count` entries are left
 pub record Halved (attach : Attach) (entries : States) (frame count : ℕ) (now : Attach) : Type 0 where
   pub halvings : ℕ
   pub left : count ≡ length entries / 2 ^ halvings
   pub sent : now ≡ with_entries attach entries halvings
-  pub least : (i : ℕ) → i < halvings → ¬ Fits (with_entries attach entries i) frame
+  pub least : (i : ℕ) → i < halvings → ¬ FitsFrame (with_entries attach entries i) frame
 
 -- the first `count` of them, marked
 abbrev pub kept : ℕ → Attach → Attach
@@ -43,7 +43,7 @@ below_suc P j below here i h = below_more P j below here i (omega arith)
 
 -- where that is too large, half of it is the next step
 pub Halved-next : {attach : Attach} {entries : States} {frame count : ℕ} {sent : Attach}
-    → Halved attach entries frame count sent → ¬ Fits sent frame
+    → Halved attach entries frame count sent → ¬ FitsFrame sent frame
     → Halved attach entries frame (count / 2) (kept (count / 2) sent)
 Halved-next {attach} {entries} {frame} {count} {sent} h large =
     let e : count / 2 ≡ length entries / 2 ^ suc h.halvings = ap (λ k. k / 2) h.left ∙ sym (half_again (length entries) h.halvings) in
@@ -51,7 +51,7 @@ Halved-next {attach} {entries} {frame} {count} {sent} h large =
       halvings = suc h.halvings;
       left = e;
       sent = rw (e, h.sent) (kept-with_entries attach entries h.halvings);
-      least = below_suc (λ i. ¬ Fits (with_entries attach entries i) frame) h.halvings h.least (rw h.sent at large);
+      least = below_suc (λ i. ¬ FitsFrame (with_entries attach entries i) frame) h.halvings h.least (rw h.sent at large);
     }
 
 -- ---- where none is left
@@ -71,7 +71,7 @@ none_on n i j none from =
 
 -- no more fit by more halvings, where none is left
 never_from : (attach : Attach) (entries : States) (frame : ℕ) (i j : ℕ) → 0 ≡ length entries / 2 ^ j → j ≤ i
-    → ¬ Fits (with_entries attach entries j) frame → ¬ Fits (with_entries attach entries i) frame
+    → ¬ FitsFrame (with_entries attach entries j) frame → ¬ FitsFrame (with_entries attach entries i) frame
 never_from attach entries frame zero zero none from large = large
 never_from attach [] frame (suc i) zero none from large =
     λ f. large (record { within = omega (arith, attach_len-marked (record attach { unsettled = None }), f.within) })
@@ -79,18 +79,18 @@ never_from attach (e ∷ es) frame (suc i) zero none from large = absurd (omega 
 never_from attach entries frame zero (suc j) none from large = absurd (omega arith)
 never_from attach entries frame (suc i) (suc j) none from large =
     let same : length entries / 2 ^ suc i ≡ length entries / 2 ^ suc j = none_on (length entries) (suc i) (suc j) none from ∙ none in
-    λ f. large (subst (λ n. Fits (record attach { unsettled = if length entries == 0 then None else Some (take n entries); incomplete_unsettled = true }) frame) same f)
+    λ f. large (subst (λ n. FitsFrame (record attach { unsettled = if length entries == 0 then None else Some (take n entries); incomplete_unsettled = true }) frame) same f)
 
 -- so none fits: neither fewer halvings nor more
 never : (attach : Attach) (entries : States) (frame : ℕ) (j : ℕ) → 0 ≡ length entries / 2 ^ j
-    → ((i : ℕ) → i < j → ¬ Fits (with_entries attach entries i) frame)
-    → ¬ Fits (with_entries attach entries j) frame
-    → (i : ℕ) → ¬ Fits (with_entries attach entries i) frame
+    → ((i : ℕ) → i < j → ¬ FitsFrame (with_entries attach entries i) frame)
+    → ¬ FitsFrame (with_entries attach entries j) frame
+    → (i : ℕ) → ¬ FitsFrame (with_entries attach entries i) frame
 never attach entries frame j none least large i =
     elim (below_or_from i j) [ inl h ↦ least i h | inr h ↦ never_from attach entries frame i j none h large ]
 
 pub Halved-never : {attach : Attach} {entries : States} {frame : ℕ} {sent : Attach}
-    → Halved attach entries frame 0 sent → ¬ Fits sent frame → NeverFits attach entries frame
+    → Halved attach entries frame 0 sent → ¬ FitsFrame sent frame → NeverFitsFrame attach entries frame
 Halved-never {attach} {entries} {frame} {sent} h large = record {
   none = never attach entries frame h.halvings h.left h.least (rw h.sent at large);
 }

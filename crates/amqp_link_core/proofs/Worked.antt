@@ -7,7 +7,7 @@ use Rattle.amqp_link_types.specs.declared.delivery.UnsettledMessage.{UnsettledMe
 use Rattle.amqp_link_types.specs.declared.types.delivery_state.DeliveryState.TheVariants.{Accepted, Received}
 use Rattle.amqp_link_types.specs.declared.types.errors.ReceiverTransferError.TheVariants.{DeliveryIdIsNone, DeliveryTagIsNone, InconsistentFieldInMultiFrameDelivery}
 use Rattle.amqp_link_types.specs.declared.types.transfer.Transfer.{Transfer}
-use Rattle.amqp_link_core.specs.Held.{Held, bytes_of}
+use Rattle.amqp_link_core.specs.Held.{Held, held_bytes}
 use Rattle.amqp_link_core.specs.IncompleteRefusals.{differs, is_too_long, is_inconsistent, is_of_another, start_tests, resume_tests}
 use Rattle.amqp_link_core.specs.Merging.{present, settled_by, state_by}
 use Rattle.amqp_link_core.specs.Resuming.{is_beyond, rest_from, resolution}
@@ -18,7 +18,7 @@ use Rattle.amqp_link_values.specs.Data.{uint}
 use Rattle.amqp_link_types.specs.declared.frame.LinkFrame.TheVariants.{Detach}
 use Rattle.amqp_link_types.specs.declared.types.errors.DetachError.TheVariants.{RemoteClosedWithError}
 use Rattle.amqp_link_types.specs.declared.types.definitions.Error.{Error}
-use Rattle.amqp_link_core.specs.AttachSent.{joined}
+use Rattle.amqp_link_core.specs.AttachFields.{merged_properties}
 use Rattle.amqp_link_core.specs.Detaching.{detach_frame, recorded, reply_error}
 
 -- a transfer at handle 0 that says nothing else
@@ -40,7 +40,7 @@ bare = record {
 abbrev three_bytes : Held
 three_bytes = record { performative = bare; pieces = (1 ∷ 2 ∷ []) ∷ [] ∷ (3 ∷ []) ∷ [] }
 
-pieces_are_joined : bytes_of three_bytes ≡ 1 ∷ 2 ∷ 3 ∷ []
+pieces_are_joined : held_bytes three_bytes ≡ 1 ∷ 2 ∷ 3 ∷ []
 pieces_are_joined = refl
 
 a_true_flag_stays : settled_by (present (None ∷ Some true ∷ Some false ∷ [])) ≡ Some true
@@ -141,6 +141,6 @@ recorded_without_error = refl
 recorded_with_error : recorded reply_error true (Some failed) ≡ Err (RemoteClosedWithError failed)
 recorded_with_error = refl
 
-properties_are_joined : joined (Some ((codes "a", uint 1) ∷ (codes "b", uint 2) ∷ [])) (Some ((codes "b", uint 3) ∷ (codes "c", uint 4) ∷ []))
+properties_are_joined : merged_properties (Some ((codes "a", uint 1) ∷ (codes "b", uint 2) ∷ [])) (Some ((codes "b", uint 3) ∷ (codes "c", uint 4) ∷ []))
     ≡ Some ((codes "a", uint 1) ∷ (codes "b", uint 3) ∷ (codes "c", uint 4) ∷ [])
 properties_are_joined = refl

@@ -25,17 +25,17 @@ with_entries attach entries j =
     }
 
 -- a frame has room for its header of four bytes and the attach
-pub record Fits (attach : Attach) (frame : ℕ) : Type 0 where
+pub record FitsFrame (attach : Attach) (frame : ℕ) : Type 0 where
   pub within : 4 + attach_len attach ≤ frame
 
 -- j is the least number of halvings with which the attach fits
 pub record Divided (attach : Attach) (entries : States) (j frame : ℕ) : Type 0 where
-  pub fits : Fits (with_entries attach entries j) frame
-  pub least : (i : ℕ) → i < j → ¬ Fits (with_entries attach entries i) frame
+  pub fits : FitsFrame (with_entries attach entries j) frame
+  pub least : (i : ℕ) → i < j → ¬ FitsFrame (with_entries attach entries i) frame
 
 -- no number of halvings lets the attach fit
-pub record NeverFits (attach : Attach) (entries : States) (frame : ℕ) : Type 0 where
-  pub none : (j : ℕ) → ¬ Fits (with_entries attach entries j) frame
+pub record NeverFitsFrame (attach : Attach) (entries : States) (frame : ℕ) : Type 0 where
+  pub none : (j : ℕ) → ¬ FitsFrame (with_entries attach entries j) frame
 
 -- the attach that is sent is the one with the least number of halvings
 pub record IsDivided (attach : Attach) (entries : States) (frame : ℕ) (now : Attach) : Type 0 where

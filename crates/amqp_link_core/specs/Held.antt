@@ -10,8 +10,8 @@ pub record Held : Type 0 where
   pub pieces : List (List ℕ)
 
 -- its bytes so far
-abbrev pub bytes_of : Held → List ℕ
-bytes_of held = concat held.pieces
+abbrev pub held_bytes : Held → List ℕ
+held_bytes held = concat held.pieces
 
 -- they can be counted: n is their length
 pub record IsCountable (bytes : List ℕ) (n : ℕ) : Type 0 where
@@ -20,6 +20,6 @@ pub record IsCountable (bytes : List ℕ) (n : ℕ) : Type 0 where
   pub sections : (position bytes).0 < 2 ^ 32
 
 -- new has the bytes of old up to a place, and all else of it
-pub record IsFront (old new : Held) (place : ℕ) : Type 0 where
-  pub bytes : bytes_of new ≡ take place (bytes_of old)
+pub record KeepsFront (old new : Held) (place : ℕ) : Type 0 where
+  pub bytes : held_bytes new ≡ take place (held_bytes old)
   pub performative : new.performative ≡ old.performative

@@ -1,12 +1,11 @@
 -- Why a transfer of a delivery is refused (OASIS AMQP 1.0 core, 2.7.5).
-use Rattle.std.specs.Prelude.{◌≡◌, ◌^◌, ℕ, Bool, false, not, ◌||◌, List, [], ◌∷◌, ◌++◌, length, nat_eq, nat_le, Option, Some, None, is_none, Result, Ok, Err}
+use Rattle.std.specs.Prelude.{◌^◌, ℕ, Bool, false, not, ◌||◌, List, [], ◌∷◌, ◌++◌, length, nat_eq, nat_le, Option, Some, None, is_none}
 use Rattle.std.specs.Str.{bytes_eq}
 use Rattle.amqp_link_types.specs.declared.types.transfer.Transfer.{Transfer}
 use Rattle.amqp_link_types.specs.declared.types.errors.ReceiverTransferError.{ReceiverTransferError}
-use Rattle.amqp_link_types.specs.declared.types.errors.ReceiverTransferError.TheVariants.{DeliveryIdIsNone, DeliveryTagIsNone, InconsistentFieldInMultiFrameDelivery, PayloadTooLong, OutOfMemory}
+use Rattle.amqp_link_types.specs.declared.types.errors.ReceiverTransferError.TheVariants.{DeliveryIdIsNone, DeliveryTagIsNone, InconsistentFieldInMultiFrameDelivery, PayloadTooLong}
 use Rattle.amqp_link_payloads.specs.Position.{position}
-use Rattle.amqp_link_core.specs.Held.{Held, bytes_of}
-use Rattle.amqp_link_types.specs.Refusals.{refusal}
+use Rattle.amqp_link_core.specs.Held.{Held, held_bytes}
 
 -- both are there, and not the same
 abbrev pub differs : {A : Type 0} → (A → A → Bool) → Option A → Option A → Bool
@@ -49,7 +48,7 @@ is_inconsistent old t =
 abbrev pub append_tests : Held → Transfer → List ℕ → List Test
 append_tests held t payload =
     (is_inconsistent held.performative t, InconsistentFieldInMultiFrameDelivery)
-    ∷ long_test (bytes_of held ++ payload)
+    ∷ long_test (held_bytes held ++ payload)
 
 -- of the first transfer of a delivery that is taken up again, whose id replaces the old one
 abbrev pub resume_tests : Held → Transfer → List ℕ → List Test
@@ -57,11 +56,4 @@ resume_tests held t payload =
     (is_none t.delivery_id, DeliveryIdIsNone)
     ∷ (is_none t.delivery_tag, DeliveryTagIsNone)
     ∷ (is_of_another held.performative t, InconsistentFieldInMultiFrameDelivery)
-    ∷ long_test (bytes_of held ++ payload)
-
--- A result by the first test that holds. Want of memory may come before each of them; a clause `memory`
--- of the call says before which it does not.
-abbrev pub Answers : {A : Type 0} → Result A ReceiverTransferError → List Test → Type 0
-Answers (Ok a) tests = refusal tests ≡ None
-Answers (Err OutOfMemory) tests = Unit {0}
-Answers (Err e) tests = refusal tests ≡ Some e
+    ∷ long_test (held_bytes held ++ payload)

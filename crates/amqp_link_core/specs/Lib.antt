@@ -6,6 +6,7 @@ pub use Rattle.amqp_link_payloads.specs.Header
 pub use Rattle.amqp_link_payloads.specs.Position
 pub use Rattle.amqp_link_types.specs.Refusals
 pub use Rattle.amqp_link_types.specs.Size
+pub mod AttachFields
 pub mod AttachSent
 pub mod Attaching
 pub mod Detaching
@@ -14,4 +15,5 @@ pub mod IncompleteRefusals
 pub mod LinkStates
 pub mod Merging
 pub mod Resuming
+pub mod Shown
 pub mod Targets

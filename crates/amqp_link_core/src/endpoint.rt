@@ -1,23 +1,26 @@
-//! What both ends of a link share, whatever their role and target: how an attach and a detach move
-//! them (2.6.3 to 2.6.6).
-ghost use Rattle.std.specs.Prelude.{◌≡◌, ◌⊎◌, ℕ, Bool, true, false, List, [], if◌then◌else◌};
-ghost use Rattle.std.specs.Prelude.{Option, None, Some, Ok, Err, MatchOption, MatchResult, IfOk, IfErr, IfNone, IsErrAnd, IsErrOf, OnOk, OnErr, is_none};
+//! What both endpoints of a link share, whatever their role and target: how an attach and a detach move
+//! them, and what they show (2.6.3 to 2.6.6).
+//!
+//! Contracts speak of an endpoint by the record of all that it shows. Each change that a call can make
+//! has one law: the record afterwards is the record before with these fields replaced.
+ghost use Rattle.std.specs.Prelude.{◌≡◌, ◌⊎◌, Bool, false, List, []};
+ghost use Rattle.std.specs.Prelude.{ℕ, if◌then◌else◌, unwrap_or};
+ghost use Rattle.std.specs.Prelude.{Option, None, Some, Ok, Err, MatchOption, MatchResult, IfOk, IfErr, IfNone, IsErrAnd, IsErrOf, OnErr, is_none};
 ghost use Rattle.std.specs.Borrow.{Lends, sem};
 ghost use Rattle.std.specs.contracts.option.Option.{the_row as option_row};
 ghost use Rattle.amqp_link_types.specs.contracts.types.definitions.OutputHandle.{the_row as handle_row};
 ghost use Rattle.amqp_link_values.specs.contracts.fields.Fields.{the_row as fields_row};
 ghost use Rattle.amqp_link_state.specs.declared.state.LinkState.{LinkState as TheState};
-ghost use Rattle.amqp_link_types.specs.declared.types.definitions.ReceiverSettleMode.{ReceiverSettleMode as TheMode};
 ghost use Rattle.amqp_link_values.specs.Data.{Data};
 ghost use Rattle.amqp_link_types.specs.declared.types.definitions.OutputHandle.{OutputHandle as TheHandle};
 ghost use Rattle.amqp_link_types.specs.declared.types.definitions.Error.{Error as TheError};
-ghost use Rattle.amqp_link_types.specs.declared.types.delivery_state.DeliveryState.{DeliveryState as State};
 ghost use Rattle.amqp_link_types.specs.declared.types.attach.Attach.{Attach as TheAttach};
-ghost use Rattle.amqp_link_types.specs.Entries.{Entries};
-ghost use Rattle.amqp_link_core.specs.AttachSent.{SendsAttach, IsTooLarge, limit_of};
-ghost use Rattle.amqp_link_types.specs.Deliveries.{Ended};
+ghost use Rattle.amqp_link_types.specs.declared.types.terminus.TargetArchetype.{TargetArchetype as Archetype};
+ghost use Rattle.amqp_link_core.specs.AttachFields.{message_limit, next_of};
+ghost use Rattle.amqp_link_core.specs.AttachSent.{SendsAttach, IsTooLarge};
 ghost use Rattle.amqp_link_core.specs.LinkStates.{Call, next_state};
 ghost use Rattle.amqp_link_core.specs.Detaching.{detach_frame, recorded, remote_error};
+ghost use Rattle.amqp_link_core.specs.Shown.{Shown, shown_attached, shown_taken, with_terms_of};
 
 pub mod attached;
 pub mod detached;
@@ -26,86 +29,84 @@ pub mod steps;
 pub mod table;
 pub mod target;
 
-use amqp_link_state::state::LinkState;
+use amqp_link_state::state::{LinkFlowState, LinkState};
 use amqp_link_types::delivery::Outcomes;
 use amqp_link_types::frame::LinkFrame;
 use amqp_link_types::types::{
     ApplyRemoteDetachError, Attach, Detach, Error, Fields, OutputHandle, ReceiverSettleMode,
 };
 
-/// A link end that can be detached (2.6.5, 2.6.6). Nothing here takes memory.
+/// A link endpoint that can be detached (2.6.5, 2.6.6). Nothing here allocates.
 pub trait LinkDetach {
-    /// Why a detach is refused, or what one that came says.
+    /// Why a detach is refused, or the error of one that arrived.
     type DetachError: Drop;
 
-    // Where the end stands.
-    ghost state: { Self → TheState };
+    /// What the endpoint keeps of its unsettled deliveries.
+    type Unsettled;
 
-    // Its output handle.
-    ghost handle: { Self → Option TheHandle };
+    // All that it shows.
+    ghost shown: { Self → Shown Self.Unsettled };
 
-    // The end in another state and with another output handle, and all else as it is.
+    // The endpoint in another state and with another output handle, and all else as it is.
     ghost moved: { Self → TheState → Option TheHandle → Self };
 
-    // The error of a call for which the table has no row.
+    // The error of a call for which there is no transition.
     ghost illegal_state: { Self.DetachError };
 
     // The error for that of a reply, which closes or does not.
     ghost replied: { Bool → TheError → Self.DetachError };
 
-    /// A detach came in answer to an own one. The output handle is released; an error that the detach
-    /// has is answered after that.
+    /// Takes the peer's detach that answers an own one. The output handle is released; an error that
+    /// the detach carries is returned after that.
     ///
-    /// `IllegalState`, with nothing changed, where the state has no row for it.
+    /// `IllegalState`, with nothing changed, if there is no transition from this state.
     fn on_detach_reply(&mut self, detach: Detach) -> Result<(), Self::DetachError>
-        ensures answer { MatchOption (next_state Call.DetachReply detach.closed (state self.old))
+        ensures answer { MatchOption (next_state Call.DetachReply detach.closed (shown self.old).local_state)
             (result ≡ Err illegal_state)
             (λ _. result ≡ recorded replied detach.closed detach.error) }
-        ensures after { MatchOption (next_state Call.DetachReply detach.closed (state self.old))
+        ensures after { MatchOption (next_state Call.DetachReply detach.closed (shown self.old).local_state)
             (self.new ≡ self.old)
             (λ next. self.new ≡ moved self.old next None) };
 
-    /// The detach that the end sends: one that closes the link, or one after which it may be attached
-    /// again. The output handle is released.
+    /// The detach to send: one that closes the link, or one after which it may be attached again. The
+    /// output handle is released.
     ///
-    /// `IllegalState`, with nothing changed, where the state has no row for it; `IllegalState`, with
-    /// the state moved, where there is no output handle.
+    /// `IllegalState`, with nothing changed, if there is no transition from this state; `IllegalState`,
+    /// with the state moved, if there is no output handle.
     fn send_detach(
         &mut self,
         closed: bool,
         error: Option<Error>,
     ) -> Result<LinkFrame, Self::DetachError>
-        ensures answer { MatchOption (next_state Call.SendDetach closed (state self.old))
+        ensures answer { MatchOption (next_state Call.SendDetach closed (shown self.old).local_state)
             (result ≡ Err illegal_state)
-            (λ _. MatchOption (handle self.old)
+            (λ _. MatchOption (shown self.old).output_handle
             (result ≡ Err illegal_state)
             (λ number. result ≡ Ok (detach_frame number closed error))) }
-        ensures after { MatchOption (next_state Call.SendDetach closed (state self.old))
+        ensures after { MatchOption (next_state Call.SendDetach closed (shown self.old).local_state)
             (self.new ≡ self.old)
             (λ next. self.new ≡ moved self.old next None) };
 
-    /// The other end has detached the link of itself, and was answered. The output handle is released;
-    /// an error that the detach has is answered after that.
+    /// Records a detach that the peer initiated, and to which the session has replied. The output handle
+    /// is released; an error that the detach carries is returned after that.
     ///
-    /// `IllegalState`, with nothing changed, where the state has no row for it.
+    /// `IllegalState`, with nothing changed, if there is no transition from this state.
     fn apply_remote_detach_outcome(&mut self, detach: Detach) -> Result<(), ApplyRemoteDetachError>
-        ensures answer { MatchOption (next_state Call.RemoteDetach detach.closed (state self.old))
+        ensures answer { MatchOption (next_state Call.RemoteDetach detach.closed (shown self.old).local_state)
             (result ≡ Err ApplyRemoteDetachError.IllegalState)
             (λ _. result ≡ recorded remote_error detach.closed detach.error) }
-        ensures after { MatchOption (next_state Call.RemoteDetach detach.closed (state self.old))
+        ensures after { MatchOption (next_state Call.RemoteDetach detach.closed (shown self.old).local_state)
             (self.new ≡ self.old)
             (λ next. self.new ≡ moved self.old next None) };
 
-    // A moved end is in the state and has the handle to which it was moved, and only the last of two
-    // moves stays.
-    ghost state_moved: { (l : Self) (s : TheState) (h : Option TheHandle) → state (moved l s h) ≡ s };
-
-    ghost handle_moved: { (l : Self) (s : TheState) (h : Option TheHandle) → handle (moved l s h) ≡ h };
+    // A moved endpoint is in that state and has that handle, and only the last of two moves stays.
+    ghost shown_moved: { (l : Self) (s : TheState) (h : Option TheHandle)
+        → shown (moved l s h) ≡ record (shown l) { local_state = s; output_handle = h } };
 
     ghost moved_twice: { (l : Self) (s t : TheState) (h k : Option TheHandle) → moved (moved l s h) t k ≡ moved l t k };
 }
 
-/// A link end that can be attached (2.6.3, 2.6.4).
+/// A link endpoint that can be attached (2.6.3, 2.6.4).
 pub trait LinkAttach: LinkDetach {
     /// What follows once both attaches were exchanged.
     type AttachExchange: Drop;
@@ -115,22 +116,13 @@ pub trait LinkAttach: LinkDetach {
 
     // ---- the attach that is sent
 
-    // The limit of the end's frames in bytes: a header of four bytes, and the body.
-    ghost frame_limit: { Self → ℕ };
-
-    // What the end says at an output handle, without its deliveries.
-    ghost whole: { Self → TheHandle → TheAttach };
-
-    // Its deliveries that are not settled, as an attach says them.
-    ghost entries: { Self → Entries (Option State) };
-
-    // The end once it has sent its attach: in this state, and at the count that it has sent.
+    // The endpoint once it has sent its attach: in this state, and at the count that it has stated.
     ghost attached: { Self → TheState → Self };
 
-    // The end without its deliveries, and what became of them.
+    // The endpoint without its deliveries, and what it keeps of none.
     ghost emptied: { Self → Self };
 
-    ghost ended: { Self → List Ended };
+    ghost nothing_unsettled: { Self.Unsettled };
 
     // A copy of the target is equal to it.
     ghost copies: { Type 0 };
@@ -141,49 +133,54 @@ pub trait LinkAttach: LinkDetach {
 
     ghost out_of_memory: { Self.AttachError };
 
-    /// The attach that the end sends, in full or with the first half of its deliveries, or the first
-    /// quarter, and so on, until it fits a frame; it is marked incomplete where it is not full. An end
-    /// that attaches anew says nothing of its deliveries and gives them up: what became of them is
-    /// answered, in their order.
+    /// The attach to send, in full or with the first half of the unsettled deliveries, or the first
+    /// quarter, and so on, until it fits a frame; it is marked incomplete if it is not full. An endpoint
+    /// that attaches anew states none of its deliveries and gives them up: how each ends is returned,
+    /// in their order.
     ///
-    /// Refused in this order, with nothing changed: illegal state without output handle, then where the
-    /// state has no row for it; too large where it does not fit with no delivery named either. Want of
-    /// memory may come before the last.
+    /// Refused in this order, with nothing changed: illegal state without output handle, then if there
+    /// is no transition from this state; too large if even an empty unsettled map does not fit. Out of
+    /// memory may come before the last, since the attach is made before it is measured.
     fn send_attach(
         &mut self,
         is_reattaching: bool,
     ) -> Result<(LinkFrame, Outcomes), Self::AttachError>
         requires { copies }
         ensures sent { IfOk result (λ sent. (next : TheState)
-            × (SendsAttach (Self.state self.old) (Self.handle self.old) (whole self.old)
-            (if is_reattaching then [] else entries self.old) (frame_limit self.old) sent.0 next)
+            × (SendsAttach (Self.shown self.old)
+            (if is_reattaching then [] else (Self.shown self.old).entries) sent.0 next)
             × (self.new ≡ attached (if is_reattaching then emptied self.old else self.old) next)) }
-        ensures ended { IfOk result (λ sent. sent.1.items ≡ (if is_reattaching then ended self.old else [])) }
+        ensures ended { IfOk result (λ sent. sent.1.items
+            ≡ (if is_reattaching then (Self.shown self.old).ended else [])) }
         ensures refused { IfErr result (λ error. (error ≡ out_of_memory)
-            ⊎ ((error ≡ illegal_attach) × ((Self.handle self.old ≡ None)
-            ⊎ (next_state Call.SendAttach false (Self.state self.old) ≡ None)))
-            ⊎ ((error ≡ too_large) × IsTooLarge (Self.state self.old) (Self.handle self.old) (whole self.old)
-            (if is_reattaching then [] else entries self.old) (frame_limit self.old))) }
-        ensures memory { IsErrOf result out_of_memory → (is_none (Self.handle self.old) ≡ false)
-            × (is_none (next_state Call.SendAttach false (Self.state self.old)) ≡ false) }
+            ⊎ ((error ≡ illegal_attach) × (((Self.shown self.old).output_handle ≡ None)
+            ⊎ (next_state Call.SendAttach false (Self.shown self.old).local_state ≡ None)))
+            ⊎ ((error ≡ too_large) × IsTooLarge (Self.shown self.old)
+            (if is_reattaching then [] else (Self.shown self.old).entries))) }
+        ensures memory { IsErrOf result out_of_memory
+            → (is_none (Self.shown self.old).output_handle ≡ false)
+            × (is_none (next_state Call.SendAttach false (Self.shown self.old).local_state) ≡ false) }
         ensures left { OnErr result (self.new ≡ self.old) };
 
-    // ---- the attach that comes
+    // ---- the attach that arrives
 
-    // The first reason for which it is refused, want of memory aside.
+    // The first reason for which it is refused, out of memory aside.
     ghost refusal_of: { Self → TheAttach → Option Self.AttachError };
 
-    // The end once it has taken the attach, and what is answered.
+    // The endpoint once it has taken the attach, the target that it has then, as it is sent, and what is
+    // returned.
     ghost taken: { Self → TheAttach → Self };
+
+    ghost target_taken: { Self → TheAttach → Option Archetype };
 
     ghost exchanged: { Self → TheAttach → Self.AttachExchange → Type 0 };
 
-    // What stays of it in the end after each refusal.
+    // What stays of it in the endpoint after each refusal.
     ghost left: { Self.AttachError → Self → TheAttach → Self };
 
-    /// An attach came. Illegal state, with nothing changed, where the state has no row for it; else the
-    /// state moves, also where the attach is refused: what more of it stays then is said at each end.
-    /// Want of memory comes after all refusals, with nothing changed.
+    /// Takes the peer's attach. Illegal state, with nothing changed, if there is no transition from this
+    /// state; else the state moves, also if the attach is refused: what more of it stays then is stated
+    /// at each endpoint. Out of memory comes after all refusals, with nothing changed.
     fn on_incoming_attach(
         &mut self,
         attach: Attach,
@@ -195,149 +192,90 @@ pub trait LinkAttach: LinkDetach {
             (λ error. (error ≡ out_of_memory) ⊎ (refusal_of self.old attach ≡ Some error)) }
         ensures memory { IsErrOf result out_of_memory → refusal_of self.old attach ≡ None }
         ensures left { IfErr result (λ error. self.new ≡ left error self.old attach) }
-        ensures step { MatchOption (next_state Call.IncomingAttach attach.incomplete_unsettled (Self.state self.old))
+        ensures step { MatchOption (next_of (Self.shown self.old).local_state attach)
             (IsErrAnd result (λ error. error ≡ illegal_attach))
             (λ next. MatchResult result
-            (λ _. Self.state self.new ≡ next)
-            (λ error. (error ≡ out_of_memory) ⊎ (Self.state self.new ≡ next))) }
-        ensures kept { IfNone (next_state Call.IncomingAttach attach.incomplete_unsettled (Self.state self.old))
+            (λ _. (Self.shown self.new).local_state ≡ next)
+            (λ error. (error ≡ out_of_memory) ⊎ ((Self.shown self.new).local_state ≡ next))) }
+        ensures kept { IfNone (next_of (Self.shown self.old).local_state attach)
             (self.new ≡ self.old) };
 
-    // An end that has sent its attach is in the state to which that led and has its handle still; one
-    // that gave its deliveries up is where it was.
-    ghost state_attached: { (l : Self) (s : TheState) → Self.state (attached l s) ≡ s };
+    // ---- laws
 
-    ghost handle_attached: { (l : Self) (s : TheState) → Self.handle (attached l s) ≡ Self.handle l };
+    // The three errors differ.
+    ghost errors_differ: { (illegal_attach ≡ too_large → ⊥) × (illegal_attach ≡ out_of_memory → ⊥)
+        × (too_large ≡ out_of_memory → ⊥) };
 
-    ghost state_emptied: { (l : Self) → Self.state (emptied l) ≡ Self.state l };
+    // What each change replaces of all that is shown. Out of memory leaves an endpoint as it is.
+    ghost shown_after_attach: { (l : Self) (s : TheState)
+        → Self.shown (attached l s) ≡ shown_attached (Self.shown l) s };
 
-    ghost handle_emptied: { (l : Self) → Self.handle (emptied l) ≡ Self.handle l };
+    ghost shown_emptied: { (l : Self) → Self.shown (emptied l)
+        ≡ record (Self.shown l) { unsettled = nothing_unsettled; entries = []; ended = [] } };
 
-    // It has no deliveries left, and want of memory leaves an end as it is.
-    ghost entries_emptied: { (l : Self) → entries (emptied l) ≡ [] };
+    ghost shown_after_taking: { (l : Self) (a : TheAttach)
+        → Self.shown (taken l a) ≡ shown_taken (Self.shown l) (target_taken l a) a };
 
-    ghost left_by_want: { (l : Self) (a : TheAttach) → left out_of_memory l a ≡ l };
+    ghost shown_after_refusal: { (e : Self.AttachError) (l : Self) (a : TheAttach)
+        → Self.shown (left e l a) ≡ with_terms_of (Self.shown l) (Self.shown (left e l a)) };
 
-    // A detach leaves what an attach is measured by.
-    ghost moved_leaves_frame_limit: { (l : Self) (s : TheState) (h : Option TheHandle) → frame_limit (Self.moved l s h) ≡ frame_limit l };
-
-    ghost moved_leaves_entries: { (l : Self) (s : TheState) (h : Option TheHandle) → entries (Self.moved l s h) ≡ entries l };
+    ghost left_by_memory: { (l : Self) (a : TheAttach) → left out_of_memory l a ≡ l };
 }
 
-/// A link end that can be attached and detached.
+/// A link endpoint that can be attached and detached.
 pub trait Link: LinkAttach + LinkDetach {}
 
-/// What a link end shows of itself. Nothing here takes memory.
+/// What a link endpoint shows of itself. Nothing here allocates.
 pub trait LinkExt: Link {
-    /// The end's flow state.
-    type FlowState;
+    /// The role of the endpoint, by which its flow state is marked.
+    type Marker;
 
-    /// What the end keeps of its unsettled deliveries.
-    type Unsettled;
-
-    // What is shown.
-    ghost name_of: { Self → List ℕ };
-
-    ghost flow: { Self → Self.FlowState };
-
-    ghost deliveries: { Self → Self.Unsettled };
-
-    ghost receiver_mode: { Self → TheMode };
-
-    ghost size_limit: { Self → ℕ };
-
-    ghost properties_of: { Self → Option (List (List ℕ × Data)) };
-
-    // The end with other properties, and all else as it is.
+    // The endpoint with other properties, and all else as it is.
     ghost with_properties: { Self → Option (List (List ℕ × Data)) → Self };
 
-    /// Where the end stands between attach and detach.
+    /// The state between attach and detach.
     fn local_state(&self) -> &LinkState
-        ensures { result.now ≡ Self.state self.now };
+        ensures { result.now ≡ (Self.shown self.now).local_state };
 
-    /// The name of the link, the same at both ends.
+    /// The name of the link, the same at both endpoints.
     fn name(&self) -> &str
-        ensures { result.now ≡ name_of self.now };
+        ensures { result.now ≡ (Self.shown self.now).name };
 
     /// The output handle, to be written: a session gives it and takes it back.
     fn output_handle_mut(&mut self) -> &mut Option<OutputHandle>
-        ensures value { result.now ≡ Self.handle self.old }
+        ensures value { result.now ≡ (Self.shown self.old).output_handle }
         ensures* lends { sem 𝓛 (Lends Self.row (option_row handle_row) self.entry result
-            (λ handle. Self.moved self.old (Self.state self.old) handle)) };
+            (λ handle. Self.moved self.old (Self.shown self.old).local_state handle)) };
 
     /// The counts, the credit and the flags.
-    fn flow_state(&self) -> &Self::FlowState
-        ensures { result.now ≡ flow self.now };
+    fn flow_state(&self) -> &LinkFlowState<Self::Marker>
+        ensures { result.now ≡ (Self.shown self.now).flow_state };
 
-    /// The deliveries that are not settled, by tag.
+    /// The unsettled deliveries, by tag.
     fn unsettled(&self) -> &Self::Unsettled
-        ensures { result.now ≡ deliveries self.now };
+        ensures { result.now ≡ (Self.shown self.now).unsettled };
 
     /// When the receiver settles.
     fn rcv_settle_mode(&self) -> &ReceiverSettleMode
-        ensures { result.now ≡ receiver_mode self.now };
+        ensures { result.now ≡ (Self.shown self.now).rcv_settle_mode };
 
-    /// The bytes that a message may have, none where there is no limit.
+    /// The bytes that a message may have, none if there is no limit.
     fn max_message_size(&self) -> Option<u64>
-        ensures { result ≡ limit_of (size_limit self.now) };
+        ensures { result ≡ message_limit (Self.shown self.now).max_message_size };
 
     /// Further properties of the link.
     fn properties(&self) -> &Option<Fields>
-        ensures { result.now ≡ properties_of self.now };
+        ensures { result.now ≡ (Self.shown self.now).flow_state.properties };
 
     /// Further properties of the link, to be written.
     fn properties_mut(&mut self) -> &mut Option<Fields>
-        ensures value { result.now ≡ properties_of self.old }
+        ensures value { result.now ≡ (Self.shown self.old).flow_state.properties }
         ensures* lends { sem 𝓛 (Lends Self.row (option_row fields_row) self.entry result
             (λ properties. with_properties self.old properties)) };
 
-    // A detach leaves all that is shown here, but for state and handle. An attach that is sent leaves
-    // all but the state and the flow, and deliveries that are given up leave all else.
-    ghost moved_leaves_name: { (l : Self) (s : TheState) (h : Option TheHandle) → name_of (Self.moved l s h) ≡ name_of l };
-
-    ghost moved_leaves_deliveries: { (l : Self) (s : TheState) (h : Option TheHandle) → deliveries (Self.moved l s h) ≡ deliveries l };
-
-    ghost moved_leaves_mode: { (l : Self) (s : TheState) (h : Option TheHandle) → receiver_mode (Self.moved l s h) ≡ receiver_mode l };
-
-    ghost moved_leaves_limit: { (l : Self) (s : TheState) (h : Option TheHandle) → size_limit (Self.moved l s h) ≡ size_limit l };
-
-    ghost moved_leaves_properties: { (l : Self) (s : TheState) (h : Option TheHandle) → properties_of (Self.moved l s h) ≡ properties_of l };
-
-    ghost moved_leaves_flow: { (l : Self) (s : TheState) (h : Option TheHandle) → flow (Self.moved l s h) ≡ flow l };
-
-    ghost attached_leaves_name: { (l : Self) (s : TheState) → name_of (Self.attached l s) ≡ name_of l };
-
-    ghost attached_leaves_deliveries: { (l : Self) (s : TheState) → deliveries (Self.attached l s) ≡ deliveries l };
-
-    ghost attached_leaves_mode: { (l : Self) (s : TheState) → receiver_mode (Self.attached l s) ≡ receiver_mode l };
-
-    ghost attached_leaves_limit: { (l : Self) (s : TheState) → size_limit (Self.attached l s) ≡ size_limit l };
-
-    ghost attached_leaves_properties: { (l : Self) (s : TheState) → properties_of (Self.attached l s) ≡ properties_of l };
-
-    ghost emptied_leaves_name: { (l : Self) → name_of (Self.emptied l) ≡ name_of l };
-
-    ghost emptied_leaves_mode: { (l : Self) → receiver_mode (Self.emptied l) ≡ receiver_mode l };
-
-    ghost emptied_leaves_limit: { (l : Self) → size_limit (Self.emptied l) ≡ size_limit l };
-
-    ghost emptied_leaves_properties: { (l : Self) → properties_of (Self.emptied l) ≡ properties_of l };
-
-    ghost emptied_leaves_flow: { (l : Self) → flow (Self.emptied l) ≡ flow l };
-
-    // Other properties are those that are shown then, and leave all else that is shown here but the
-    // flow, of which they are a part.
-    ghost properties_given: { (l : Self) (p : Option (List (List ℕ × Data))) → properties_of (with_properties l p) ≡ p };
-
-    ghost properties_leave_state: { (l : Self) (p : Option (List (List ℕ × Data))) → Self.state (with_properties l p) ≡ Self.state l };
-
-    ghost properties_leave_handle: { (l : Self) (p : Option (List (List ℕ × Data))) → Self.handle (with_properties l p) ≡ Self.handle l };
-
-    ghost properties_leave_name: { (l : Self) (p : Option (List (List ℕ × Data))) → name_of (with_properties l p) ≡ name_of l };
-
-    ghost properties_leave_deliveries: { (l : Self) (p : Option (List (List ℕ × Data))) → deliveries (with_properties l p) ≡ deliveries l };
-
-    ghost properties_leave_mode: { (l : Self) (p : Option (List (List ℕ × Data))) → receiver_mode (with_properties l p) ≡ receiver_mode l };
-
-    ghost properties_leave_limit: { (l : Self) (p : Option (List (List ℕ × Data))) → size_limit (with_properties l p) ≡ size_limit l };
+    // Other properties replace those of the flow state.
+    ghost shown_with_properties: { (l : Self) (p : Option (List (List ℕ × Data)))
+        → Self.shown (with_properties l p) ≡ record (Self.shown l) {
+          flow_state = record (Self.shown l).flow_state { properties = p };
+        } };
 }

@@ -3,14 +3,15 @@
 //! The fields of all its transfers are merged as they come; its bytes are kept in the pieces in
 //! which they came. The first transfer names the delivery; a continuation may leave its tag, id and
 //! format out, and is refused where it names another.
-ghost use Rattle.std.specs.Prelude.{◌≡◌, ◌<◌, ◌^◌, ◌++◌, [], ◌∷◌};
-ghost use Rattle.std.specs.Prelude.{List, Some, false, not, nat_eq, length, is_none, IfOk, IsErrOf, OnOk, OnErr};
+ghost use Rattle.std.specs.Prelude.{◌≡◌, ◌++◌, [], ◌∷◌};
+ghost use Rattle.std.specs.Prelude.{List, Some, not, nat_eq, length, IfOk, OnOk, OnErr};
 ghost use Rattle.std.specs.Str.{bytes_eq};
 ghost use Rattle.std.specs.Option.{option_or};
 ghost use Rattle.amqp_link_payloads.specs.Position.{position};
 ghost use Rattle.amqp_link_core.specs.Merging.{Came, Merged, IsSilent, opening, following};
-ghost use Rattle.amqp_link_core.specs.Held.{bytes_of};
-ghost use Rattle.amqp_link_core.specs.IncompleteRefusals.{Answers, start_tests, append_tests, long_test};
+ghost use Rattle.amqp_link_core.specs.Held.{held_bytes};
+ghost use Rattle.amqp_link_types.specs.Refusals.{AnswersThenOutOfMemory};
+ghost use Rattle.amqp_link_core.specs.IncompleteRefusals.{start_tests, append_tests, long_test};
 ghost use Rattle.amqp_link_core.specs.IncompleteRefusals.{differs as fields_differ, is_inconsistent};
 
 mod merging;
@@ -55,8 +56,8 @@ impl Model for IncompleteTransfer {
 impl IncompleteTransfer {
     /// Begins a delivery with its first transfer, which it keeps as it is.
     ///
-    /// Refused in this order: `DeliveryIdIsNone`, `DeliveryTagIsNone`, `PayloadTooLong`. Takes
-    /// memory, which may be refused before the last of them.
+    /// Refused in this order: `DeliveryIdIsNone`, `DeliveryTagIsNone`, `PayloadTooLong`, and only
+    /// then `OutOfMemory`. Reads no bytes of a payload of less than 2^32.
     pub fn start(
         alloc: Global,
         transfer: Transfer,
@@ -65,10 +66,9 @@ impl IncompleteTransfer {
         ensures ok { IfOk result (λ held.
             held ≡ record { performative = transfer; pieces = payload ∷ [] }) }
         ensures merged { IfOk result (λ held. Merged (opening transfer ∷ []) held.performative) }
-        ensures bytes { IfOk result (λ held. bytes_of held ≡ payload) }
-        ensures refused { Answers result (start_tests transfer payload) }
-        ensures memory { IsErrOf result ReceiverTransferError.OutOfMemory
-            → (is_none transfer.delivery_id ≡ false) × (is_none transfer.delivery_tag ≡ false) }
+        ensures bytes { IfOk result (λ held. held_bytes held ≡ payload) }
+        ensures refused { AnswersThenOutOfMemory ReceiverTransferError.OutOfMemory
+            result (start_tests transfer payload) }
     {
         if transfer.delivery_id.is_none() {
             drop((transfer, payload));
@@ -95,7 +95,8 @@ impl IncompleteTransfer {
     /// Adds a continuation. The transfer may leave out its tag, id and format.
     ///
     /// Refused in this order, with nothing changed: `InconsistentFieldInMultiFrameDelivery`,
-    /// `PayloadTooLong`. Takes memory, which may be refused before the sections are counted.
+    /// `PayloadTooLong`, and only then `OutOfMemory`. While the delivery has less than 2^32 bytes
+    /// none are read; from there on each call reads them all, to count the sections.
     pub fn try_append(
         &mut self,
         transfer: Transfer,
@@ -105,7 +106,7 @@ impl IncompleteTransfer {
         ensures merged { OnOk result ((came : List Came) → Merged came self.old.performative
             → Merged (came ++ following transfer ∷ []) self.new.performative) }
         ensures pieces { OnOk result (self.new.pieces ≡ self.old.pieces ++ payload ∷ []) }
-        ensures bytes { OnOk result (bytes_of self.new ≡ bytes_of self.old ++ payload) }
+        ensures bytes { OnOk result (held_bytes self.new ≡ held_bytes self.old ++ payload) }
 
         // What of it a caller needs most.
         ensures tag { OnOk result
@@ -117,10 +118,8 @@ impl IncompleteTransfer {
         ensures silent { OnOk result (IsSilent transfer
             → self.new.performative ≡ self.old.performative) }
 
-        ensures refused { Answers result (append_tests self.old transfer payload) }
-        ensures memory { IsErrOf result ReceiverTransferError.OutOfMemory
-            → (is_inconsistent self.old.performative transfer ≡ false)
-            × (length (bytes_of self.old ++ payload) < 2 ^ 64) }
+        ensures refused { AnswersThenOutOfMemory ReceiverTransferError.OutOfMemory
+            result (append_tests self.old transfer payload) }
         ensures err { OnErr result (self.new ≡ self.old) }
     {
         if self.is_inconsistent_with(&transfer) {
@@ -142,9 +141,8 @@ impl IncompleteTransfer {
             → Merged (came ++ record { opens = opens; transfer = transfer } ∷ [])
             self.new.performative) }
         ensures pieces { OnOk result (self.new.pieces ≡ self.old.pieces ++ payload ∷ []) }
-        ensures refused { Answers result (long_test (bytes_of self.old ++ payload)) }
-        ensures memory { IsErrOf result ReceiverTransferError.OutOfMemory
-            → length (bytes_of self.old ++ payload) < 2 ^ 64 }
+        ensures refused { AnswersThenOutOfMemory ReceiverTransferError.OutOfMemory
+            result (long_test (held_bytes self.old ++ payload)) }
         ensures err { OnErr result (self.new ≡ self.old) }
     {
         match push_piece(&mut self.pieces, self.size, payload) {
@@ -190,23 +188,25 @@ impl IncompleteTransfer {
         }
     }
 
-    /// The number of the section in which the bytes end, counted from 0. Reads all bytes.
+    /// The number of the section in which the bytes end, counted from 0. Reads all bytes; a caller of
+    /// both this and `section_offset` has them by one `position`.
     pub fn section_number(&self) -> u32
-        ensures { result ≡ (position (bytes_of self.now)).0 }
+        ensures { result ≡ (position (held_bytes self.now)).0 }
     {
         self.position().0
     }
 
     /// The bytes since the start of that section. Reads all bytes.
     pub fn section_offset(&self) -> u64
-        ensures { result ≡ (position (bytes_of self.now)).1 }
+        ensures { result ≡ (position (held_bytes self.now)).1 }
     {
         self.position().1
     }
 
-    // Found by a scan of all pieces.
-    fn position(&self) -> (u32, u64)
-        ensures { result ≡ position (bytes_of self.now) }
+    /// The number of the section in which the bytes end, counted from 0, and the bytes since the start
+    /// of that section. Reads all bytes, once for both.
+    pub fn position(&self) -> (u32, u64)
+        ensures { result ≡ position (held_bytes self.now) }
     {
         match position_of(self.pieces.as_slice()) {
             Some(position) => position,
@@ -216,7 +216,7 @@ impl IncompleteTransfer {
 
     /// The number of bytes that came.
     pub fn accumulated_payload_size(&self) -> u64
-        ensures { result ≡ length (bytes_of self.now) }
+        ensures { result ≡ length (held_bytes self.now) }
     {
         self.size
     }
@@ -240,7 +240,7 @@ impl IncompleteTransfer {
     pub fn into_parts(self) -> (Transfer, Vec<Payload>, u32, u64)
         ensures performative { result.0 ≡ self.performative }
         ensures pieces { result.1.items ≡ self.pieces }
-        ensures position { (result.2, result.3) ≡ position (bytes_of self) }
+        ensures position { (result.2, result.3) ≡ position (held_bytes self) }
     {
         let (number, offset) = self.position();
         (self.performative, self.pieces, number, offset)

@@ -10,7 +10,7 @@ ghost use Rattle.amqp_link_types.specs.Entries.{Tag};
 ghost use Rattle.amqp_link_core.specs.Resuming.{front, ended, nothing, local_said};
 ghost use Rattle.amqp_link_core.specs.Resuming.{is_resumed, row, resolution};
 
-mod states;
+pub(crate) mod states;
 
 use crate::resumption::states::{has_ended, has_ended_as, is_past, rest_of};
 use amqp_link_types::delivery::{DeliveryOutcome, UnsettledMessage};

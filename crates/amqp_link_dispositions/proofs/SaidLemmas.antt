@@ -1,13 +1,13 @@
 -- What dispositions name.
-use Rattle.std.proofs.Common.{◌≡◌, ◌∙◌, sym, ap, inl, inr, ℕ, ◌+◌, ◌-◌, ◌==◌, Bool, List, [], ◌∷◌, ◌++◌, map, refl, Option, Some, None, if◌then◌else◌, unwrap_or}
+use Rattle.std.proofs.Common.{◌≡◌, ◌∙◌, sym, ap, inl, inr, ℕ, ◌+◌, ◌-◌, ◌==◌, Bool, List, [], ◌∷◌, ◌++◌, map, refl, Option, Some, None, if◌then◌else◌, unwrap_or, rules, arith}
 use Rattle.std.specs.List.{flat_map, range_with_len}
-use Rattle.std.proofs.lemmas.List.{map-append, map-id}
+use Rattle.std.proofs.lemmas.List.{append-nil, map-append, map-id}
 use Rattle.std.proofs.lemmas.List.Folds.{flat_map-map}
 use Rattle.std.proofs.lemmas.Simd.{map-map}
 use Rattle.std.proofs.lemmas.Bool.Decides.{eqb_tells}
 use Rattle.amqp_link_runs.specs.declared.Run.{Run}
 use Rattle.amqp_link_runs.specs.Order.{sorted_by}
-use Rattle.amqp_link_runs.specs.Runs.{written_out}
+use Rattle.amqp_link_runs.specs.Runs.{written_out, Runs}
 use Rattle.amqp_link_runs.proofs.OrderLemmas.{sorted-map}
 use Rattle.amqp_link_types.specs.declared.frame.LinkFrame.{LinkFrame}
 use Rattle.amqp_link_types.specs.declared.types.definitions.ReceiverSettleMode.{ReceiverSettleMode}
@@ -15,7 +15,7 @@ use Rattle.amqp_link_types.specs.declared.types.delivery_state.DeliveryState.{De
 use Rattle.amqp_link_types.specs.Deliveries.{Info}
 use Rattle.amqp_link_dispositions.specs.declared.groups.Group.{Group}
 use Rattle.amqp_link_dispositions.specs.Groups.{Numbered, numbered, group_out}
-use Rattle.amqp_link_dispositions.specs.Said.{AreSaid, AreSaidAlike, named_by, said_of_run, said_of_group}
+use Rattle.amqp_link_dispositions.specs.Said.{AreSaid, AreSaidAlike, numbers_named_by, said_of_run, said_of_group}
 
 -- a run's last number that is left out is its first
 last_or_first : (first last : ℕ) → unwrap_or (if first == last then None else Some last) first ≡ last
@@ -24,14 +24,28 @@ last_or_first first last = elim (eqb_tells first last) [
   | inr other ↦ ap (λ b. unwrap_or (if b then None else Some last) first) other.0
 ]
 
-named-run : (settled : Bool) (state : DeliveryState) (batchable : Bool) (run : Run) → named_by (said_of_run settled state batchable run) ≡ written_out run
+named-run : (settled : Bool) (state : DeliveryState) (batchable : Bool) (run : Run) → numbers_named_by (said_of_run settled state batchable run) ≡ written_out run
 named-run settled state batchable run = ap (λ last. range_with_len run.first (last + 1 - run.first)) (last_or_first run.first run.last)
 
+-- one number is one run
+one_run : (id : ℕ) → Runs (id ∷ []) (record { first = id; last = id } ∷ [])
+one_run id =
+    let one : id + 1 - id ≡ 1 = omega arith in
+    record {
+      not_empty = search rules;
+      all = append-nil (range_with_len id (id + 1 - id)) ∙ ap (range_with_len id) one;
+      longest = tt;
+    }
+
+pub said_of_one : (settled : Bool) (state : DeliveryState) (batchable : Bool) (id : ℕ)
+    → AreSaid settled state batchable (id ∷ []) (said_of_run settled state batchable (record { first = id; last = id }) ∷ [])
+said_of_one settled state batchable id = record { runs = record { first = id; last = id } ∷ []; are_runs = one_run id; each = refl }
+
 pub names_listed : (settled : Bool) (state : DeliveryState) (batchable : Bool) (ids : List ℕ) (frames : List LinkFrame)
-    → AreSaid settled state batchable ids frames → flat_map named_by frames ≡ sorted_by (λ id. id) ids
+    → AreSaid settled state batchable ids frames → flat_map numbers_named_by frames ≡ sorted_by (λ id. id) ids
 names_listed settled state batchable ids frames said =
-    ap (flat_map named_by) said.each
-    ∙ flat_map-map named_by (said_of_run settled state batchable) said.runs
+    ap (flat_map numbers_named_by) said.each
+    ∙ flat_map-map numbers_named_by (said_of_run settled state batchable) said.runs
     ∙ (λ i. flat_map (λ run. named-run settled state batchable run i) said.runs)
     ∙ said.are_runs.all
 
@@ -45,10 +59,10 @@ numbers_out (g ∷ groups) =
 
 pub names_sorted : (given : Option Bool) (own : ReceiverSettleMode) (state : DeliveryState) (batchable : Bool) (infos : List Info) (frames : List LinkFrame)
     → AreSaidAlike given own state batchable (sorted_by (λ info. info.delivery_id) infos) frames
-    → flat_map named_by frames ≡ sorted_by (λ id. id) (map (λ info. info.delivery_id) infos)
+    → flat_map numbers_named_by frames ≡ sorted_by (λ id. id) (map (λ info. info.delivery_id) infos)
 names_sorted given own state batchable infos frames said =
-    ap (flat_map named_by) said.each
-    ∙ flat_map-map named_by (said_of_group given own state batchable) said.groups
+    ap (flat_map numbers_named_by) said.each
+    ∙ flat_map-map numbers_named_by (said_of_group given own state batchable) said.groups
     ∙ sym (numbers_out said.groups)
     ∙ ap (map (λ d. d.0)) said.are_groups.all
     ∙ map-map (λ (d : Numbered). d.0) numbered (sorted_by (λ info. info.delivery_id) infos)

@@ -15,8 +15,8 @@ use Rattle.amqp_link_types.specs.Entries.{Tag, Entries, entry_at, without_entry,
 use Rattle.amqp_link_dispositions.specs.Listed.{firsts}
 
 -- what is kept of a delivery, with another state or none
-abbrev pub with_state : Option DeliveryState → UnsettledMessage → UnsettledMessage
-with_state state message = record message { state = state }
+abbrev pub message_with_state : Option DeliveryState → UnsettledMessage → UnsettledMessage
+message_with_state state message = record message { state = state }
 
 -- settled by its sender a delivery ends with the state that is known of it
 abbrev pub settled_at : Entries UnsettledMessage → Tag → Option Ended
@@ -33,7 +33,7 @@ ended_of settled ts es = if settled then settled_of es ts else []
 -- and what it keeps then: those that are settled are taken out, one after the other; the others have
 -- the state
 abbrev pub disposed : Bool → DeliveryState → List Tag → Entries UnsettledMessage → Entries UnsettledMessage
-disposed settled state ts es = if settled then without_entries es ts else changed_at (with_state (Some state)) ts es
+disposed settled state ts es = if settled then without_entries es ts else changed_at (message_with_state (Some state)) ts es
 
 -- whether a disposition that comes to a sender ends its delivery: settled, or with a terminal state
 abbrev pub does_end : Bool → Option DeliveryState → Bool
@@ -45,8 +45,8 @@ ended_by settled state t es =
     if does_end settled state then option_map (λ message. (t, Ok state)) (entry_at es t) else None
 
 -- and what the sender keeps then: one that does not end has that state, or none
-abbrev pub told : Bool → Option DeliveryState → Tag → Entries UnsettledMessage → Entries UnsettledMessage
-told settled state t es = if does_end settled state then without_entry es t else changed_at (with_state state) (t ∷ []) es
+abbrev pub map_after_receiver_disposition : Bool → Option DeliveryState → Tag → Entries UnsettledMessage → Entries UnsettledMessage
+map_after_receiver_disposition settled state t es = if does_end settled state then without_entry es t else changed_at (message_with_state state) (t ∷ []) es
 
 -- why a delivery ends whose link is closed
 abbrev pub closed_for : Option Error → LinkStateError

@@ -34,5 +34,5 @@ after_dispositions is_settled state infos es =
     (tags_of (filter is_settled infos))
 
 -- a delivery of which the sender tells: settled it is forgotten, else it has that state, or none
-abbrev pub told : Bool → Option DeliveryState → Tag → Entries (Option DeliveryState) → Entries (Option DeliveryState)
-told settled state t es = if settled then without_entry es t else changed_at (λ _. state) (t ∷ []) es
+abbrev pub map_after_sender_disposition : Bool → Option DeliveryState → Tag → Entries (Option DeliveryState) → Entries (Option DeliveryState)
+map_after_sender_disposition settled state t es = if settled then without_entry es t else changed_at (λ _. state) (t ∷ []) es

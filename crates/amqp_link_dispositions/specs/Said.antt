@@ -27,9 +27,9 @@ said_of role first last settled state batchable = frame.Disposition (record {
 
 -- the numbers that a disposition names: from the first to the last, where that is left out the first
 -- alone
-abbrev pub named_by : LinkFrame → List ℕ
-named_by (frame.Disposition d) = range_with_len d.first (unwrap_or d.last d.first + 1 - d.first)
-named_by _ = []
+abbrev pub numbers_named_by : LinkFrame → List ℕ
+numbers_named_by (frame.Disposition d) = range_with_len d.first (unwrap_or d.last d.first + 1 - d.first)
+numbers_named_by _ = []
 
 -- ---- a sender
 

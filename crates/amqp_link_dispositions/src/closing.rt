@@ -1,11 +1,11 @@
 //! What a detach that comes makes of the deliveries that a sender keeps, and what is answered
 //! (2.6.5, 2.6.6 and 2.7.7).
-ghost use Rattle.std.specs.Prelude.{◌≡◌, IfOk, OnErr, true, is_some};
+ghost use Rattle.std.specs.Prelude.{◌≡◌, ◌+◌, ◌≤◌, ◌++◌, [], true, is_some, vec_len, vec_capacity, All, IfOk, OnOk, OnErr};
 ghost use Rattle.amqp_link_dispositions.specs.Ending.{closed_for as why_closed, all_closed as all_closed_for, reply_of};
 
 use amqp_link_types::delivery::{Outcomes, UnsettledMessage};
 use amqp_link_types::types::unsettled_map::UnsettledMap;
-use amqp_link_types::types::{Detach, Error, LinkStateError, OutputHandle};
+use amqp_link_types::types::{DeliveryTag, Detach, Error, LinkStateError, OutputHandle};
 use amqp_link_values::copy::copy_of;
 use std::alloc::{AllocError, Global};
 
@@ -32,25 +32,62 @@ fn closed_for(error: &Option<Error>) -> Result<LinkStateError, AllocError>
     }
 }
 
-/// How each delivery ends, in order, as its link is closed. The deliveries are as they were.
+// The reason for each of so many deliveries.
+fn reasons_for(
+    alloc: Global,
+    error: &Option<Error>,
+    count: usize,
+) -> Result<Vec<LinkStateError>, AllocError>
+    ensures count { IfOk result (λ reasons. vec_len reasons ≡ count) }
+    ensures each { IfOk result (λ reasons. All (λ reason. reason ≡ why_closed error.now) reasons.items) }
+{
+    let mut reasons = Vec::with_capacity(alloc, count)?;
+    for _ in 0..count {
+        reasons.push(closed_for(error)?)?;
+    }
+    Ok(reasons)
+}
+
+// Each delivery ends for the reason that is taken for it, in a list that has the room.
+fn end_each(
+    pairs: Vec<(DeliveryTag, UnsettledMessage)>,
+    reasons: Vec<LinkStateError>,
+    outcomes: &mut Outcomes,
+    error: &Option<Error>,
+)
+    requires count { vec_len reasons ≡ vec_len pairs }
+    requires each { All (λ reason. reason ≡ why_closed error.now) reasons.items }
+    requires room { vec_len outcomes.old + vec_len pairs ≤ vec_capacity outcomes.old }
+    ensures { outcomes.new.items ≡ outcomes.old.items ++ all_closed_for error.now pairs.items }
+{
+    let _why = error;
+    let mut reasons = reasons;
+    for (tag, message) in pairs {
+        drop(message);
+        let Some(reason) = reasons.pop() else {
+            unreachable!()
+        };
+        drop(outcomes.push((tag, Err(reason))));
+    }
+}
+
+/// Ends each delivery, in order, as its link is closed, and takes all of them out of the map.
+///
+/// Refused where it is out of memory, with nothing changed: all memory is taken first.
 pub fn all_closed(
     alloc: Global,
-    unsettled: &UnsettledMap<UnsettledMessage>,
+    unsettled: &mut UnsettledMap<UnsettledMessage>,
     error: &Option<Error>,
 ) -> Result<Outcomes, AllocError>
-    ensures { IfOk result (λ outcomes. outcomes.items ≡ all_closed_for error.now unsettled.now) }
+    ensures ended { IfOk result (λ outcomes.
+        outcomes.items ≡ all_closed_for error.now unsettled.old) }
+    ensures emptied { OnOk result (unsettled.new ≡ []) }
+    ensures left { OnErr result (unsettled.new ≡ unsettled.old) }
 {
+    let reasons = reasons_for(alloc, error, unsettled.len())?;
     let mut outcomes = Vec::with_capacity(alloc, unsettled.len())?;
-    for (tag, _) in unsettled.pairs() {
-        let tag = tag.clone()?;
-        let reason = match closed_for(error) {
-            Ok(reason) => reason,
-            Err(refused) => {
-                drop(tag);
-                return Err(refused);
-            }
-        };
-        outcomes.push((tag, Err(reason)))?;
-    }
+    // From here on nothing can fail.
+    let pairs = unsettled.take_all().into_pairs();
+    end_each(pairs, reasons, &mut outcomes, error);
     Ok(outcomes)
 }

@@ -14,13 +14,13 @@ ghost use Rattle.amqp_link_types.specs.Deliveries.{Info};
 ghost use Rattle.amqp_link_types.specs.Entries.{Tag, Entries, entry_at};
 ghost use Rattle.amqp_link_dispositions.specs.Ending.{settled_of};
 ghost use Rattle.amqp_link_dispositions.specs.Listed.{kept_in_order};
-ghost use Rattle.amqp_link_dispositions.specs.Said.{AreSaid, AreSaidAlike, named_by};
+ghost use Rattle.amqp_link_dispositions.specs.Said.{AreSaid, AreSaidAlike, numbers_named_by};
 
 /// The numbers that a sender's dispositions name are the listed ones, sorted, each as often as it is
 /// listed.
 pub fn frames_name_what_is_listed()
     ensures { (settled : Bool) (state : DeliveryState) (batchable : Bool) (ids : List ℕ) (frames : List LinkFrame)
-        → AreSaid settled state batchable ids frames → flat_map named_by frames ≡ sorted_by (λ id. id) ids }
+        → AreSaid settled state batchable ids frames → flat_map numbers_named_by frames ≡ sorted_by (λ id. id) ids }
 {}
 
 /// The numbers that a receiver's dispositions name are those of the listed deliveries that it keeps,
@@ -29,7 +29,7 @@ pub fn frames_name_what_is_kept<V>()
     ensures { (given : Option Bool) (own : ReceiverSettleMode) (state : DeliveryState) (batchable : Bool)
         (es : Entries V) (infos : List Info) (frames : List LinkFrame)
         → AreSaidAlike given own state batchable (kept_in_order es infos) frames
-        → flat_map named_by frames ≡ sorted_by (λ id. id)
+        → flat_map numbers_named_by frames ≡ sorted_by (λ id. id)
         (map (λ info. info.delivery_id) (filter (λ info. is_some (entry_at es info.delivery_tag)) infos)) }
 {}
 

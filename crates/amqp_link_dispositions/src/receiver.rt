@@ -3,7 +3,7 @@ ghost use Rattle.std.specs.Prelude.{◌≡◌, ◌∷◌, [], false, not, filter
 ghost use Rattle.amqp_link_types.specs.Entries.{entry_at};
 ghost use Rattle.amqp_link_dispositions.specs.Changes.{Change};
 ghost use Rattle.amqp_link_dispositions.specs.Keeping.{is_settled_one, tags_of, after_dispositions};
-ghost use Rattle.amqp_link_dispositions.specs.Keeping.{said_of_one, after_one, told};
+ghost use Rattle.amqp_link_dispositions.specs.Keeping.{said_of_one, after_one, map_after_sender_disposition};
 ghost use Rattle.amqp_link_dispositions.specs.Listed.{kept_in_order as kept_by_number};
 ghost use Rattle.amqp_link_dispositions.specs.Said.{AreSaidAlike, is_settled_by, said_of, said_of_group};
 ghost use Rattle.amqp_link_types.specs.declared.types.definitions.Role.TheVariants as role;
@@ -234,7 +234,7 @@ pub fn on_incoming_disposition(
     state: Option<DeliveryState>,
     delivery_tag: &DeliveryTag,
 )
-    ensures { unsettled.new ≡ told settled state delivery_tag.now unsettled.old }
+    ensures { unsettled.new ≡ map_after_sender_disposition settled state delivery_tag.now unsettled.old }
 {
     if settled {
         drop(unsettled.remove(delivery_tag));

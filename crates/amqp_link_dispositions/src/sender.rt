@@ -1,8 +1,8 @@
 //! What a sender says of deliveries, and what becomes of those that it keeps.
-ghost use Rattle.std.specs.Prelude.{◌≡◌, ◌∷◌, [], List, ℕ, map, IfOk, OnOk, OnErr};
+ghost use Rattle.std.specs.Prelude.{◌≡◌, ◌∷◌, [], List, ℕ, false, map, IfOk, OnOk, OnErr};
 ghost use Rattle.amqp_link_runs.specs.Order.{sorted_by};
 ghost use Rattle.amqp_link_dispositions.specs.Listed.{tags_in_order};
-ghost use Rattle.amqp_link_dispositions.specs.Ending.{ended_of, disposed, ended_by, told};
+ghost use Rattle.amqp_link_dispositions.specs.Ending.{ended_of, disposed, ended_by, map_after_receiver_disposition};
 ghost use Rattle.amqp_link_dispositions.specs.Said.{AreSaid, said_of_run};
 
 use crate::changes::{changes_to, set_each, settle_all};
@@ -121,11 +121,71 @@ fn dispose_sorted(
     Ok((frames, Vec::new(alloc)))
 }
 
+// The disposition of one delivery.
+fn frame_of_one(
+    alloc: Global,
+    id: DeliveryNumber,
+    settled: bool,
+    state: DeliveryState,
+    batchable: bool,
+) -> Result<Vec<LinkFrame>, AllocError>
+    ensures { IfOk result (λ frames. AreSaid settled state batchable (id ∷ []) frames.items) }
+{
+    let mut frames = match Vec::with_capacity(alloc, 1) {
+        Ok(frames) => frames,
+        Err(refused) => {
+            drop(state);
+            return Err(refused);
+        }
+    };
+    let run = Run {
+        first: id,
+        last: id,
+    };
+    frames.push(frame_of(run, settled, state, batchable))?;
+    Ok(frames)
+}
+
+// Says of one delivery that it has this state and is not settled.
+fn state_of_one(
+    alloc: Global,
+    unsettled: &mut UnsettledMap<UnsettledMessage>,
+    delivery_id: DeliveryNumber,
+    delivery_tag: &DeliveryTag,
+    state: DeliveryState,
+    batchable: bool,
+) -> Result<(Vec<LinkFrame>, Outcomes), AllocError>
+    ensures frames { IfOk result (λ said.
+        AreSaid false state batchable (delivery_id ∷ []) said.0.items) }
+    ensures outcomes { IfOk result (λ said. said.1.items ≡ []) }
+    ensures after { OnOk result (unsettled.new
+        ≡ disposed false state (delivery_tag.now ∷ []) unsettled.old) }
+    ensures left { OnErr result (unsettled.new ≡ unsettled.old) }
+{
+    let kept = match state.clone() {
+        Ok(kept) => kept,
+        Err(refused) => {
+            drop(state);
+            return Err(refused);
+        }
+    };
+    match frame_of_one(alloc, delivery_id, false, state, batchable) {
+        Ok(frames) => {
+            unsettled.set_state(delivery_tag, Some(kept));
+            Ok((frames, Vec::new(alloc)))
+        }
+        Err(refused) => {
+            drop(kept);
+            Err(refused)
+        }
+    }
+}
+
 /// Says of one delivery that it has this state, and is settled or not. A settled one that is kept
 /// is forgotten, and ends with the state that was known of it before; else the state is kept of it,
 /// where it is kept at all.
 ///
-/// Refused where memory is wanting, with nothing changed.
+/// Refused where it is out of memory, with nothing changed.
 pub fn dispose(
     alloc: Global,
     unsettled: &mut UnsettledMap<UnsettledMessage>,
@@ -143,9 +203,29 @@ pub fn dispose(
         ≡ disposed settled state (delivery_tag.now ∷ []) unsettled.old) }
     ensures left { OnErr result (unsettled.new ≡ unsettled.old) }
 {
-    let ids = [delivery_id];
-    let tags = [delivery_tag];
-    dispose_sorted(alloc, unsettled, &ids, &tags, settled, state, batchable)
+    if !settled {
+        return state_of_one(
+            alloc,
+            unsettled,
+            delivery_id,
+            delivery_tag,
+            state,
+            batchable,
+        );
+    }
+    let mut outcomes = match Vec::with_capacity(alloc, 1) {
+        Ok(outcomes) => outcomes,
+        Err(refused) => {
+            drop(state);
+            return Err(refused);
+        }
+    };
+    let frames = frame_of_one(alloc, delivery_id, true, state, batchable)?;
+    // From here on nothing can fail.
+    if let Some((tag, message)) = unsettled.remove_entry(delivery_tag) {
+        drop(outcomes.push((tag, message.settle())));
+    }
+    Ok((frames, outcomes))
 }
 
 /// The same of several deliveries, by rising numbers, those of one number as they are listed. The
@@ -196,7 +276,7 @@ pub fn on_incoming_disposition(
     delivery_tag: &DeliveryTag,
 ) -> Option<(DeliveryTag, DeliveryOutcome)>
     ensures ended { result ≡ ended_by settled state delivery_tag.now unsettled.old }
-    ensures after { unsettled.new ≡ told settled state delivery_tag.now unsettled.old }
+    ensures after { unsettled.new ≡ map_after_receiver_disposition settled state delivery_tag.now unsettled.old }
 {
     let is_terminal = match &state {
         Some(state) => state.is_terminal(),

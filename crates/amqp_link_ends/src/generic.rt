@@ -1,25 +1,65 @@
-//! What a caller of either end can rest on: the contracts of the traits alone.
-ghost use Rattle.std.specs.Prelude.{◌≡◌, Some, OnOk};
+//! What a caller of either endpoint can rest on: the contracts of the traits alone.
+ghost use Rattle.std.specs.Prelude.{◌≡◌, ◌⊎◌, Bool, Some, IfOk, OnOk, OnErr};
 ghost use Rattle.amqp_link_state.specs.declared.state.LinkState.TheVariants.{Attached, Detached};
+ghost use Rattle.amqp_link_types.specs.declared.types.attach.Attach.{Attach as TheAttach};
+ghost use Rattle.amqp_link_core.specs.AttachFields.{next_of};
+ghost use Rattle.amqp_link_core.specs.LinkStates.{Call, next_state};
+ghost use Rattle.amqp_link_ends.specs.Stated.{IsStatedBy, Keeps};
 
 use crate::samples::{coming, parts};
-use amqp_link_core::endpoint::LinkExt;
+use amqp_link_core::endpoint::{LinkAttach, LinkExt};
 use amqp_link_receiver::receiver_link::ReceiverLink;
 use amqp_link_samples::links::went;
-use amqp_link_samples::table::{attached, taken};
 use amqp_link_sender::sender_link::SenderLink;
 use amqp_link_state::state::LinkState;
-use amqp_link_types::types::{Detach, Handle, OutputHandle, Role, SenderSettleMode};
+use amqp_link_types::frame::LinkFrame;
+use amqp_link_types::types::{
+    Attach, Detach, Fields, Handle, OutputHandle, Role, SenderSettleMode,
+};
+use std::mem;
 use std::process::Abort;
 
-// Detaches a link and gives it an output handle again. It is detached then, and its deliveries, its
-// name and its flow are as they were.
+// Sends the endpoint's attach, which states what the endpoint shows; the state moves, and the handle, the
+// name, the frame limit and the deliveries stay.
+fn send<L: LinkAttach>(link: &mut L) -> Result<LinkFrame, L::AttachError>
+    requires { L.copies }
+    ensures stated { IfOk result (λ frame. (attach : TheAttach) × (frame ≡ LinkFrame.Attach attach)
+        × IsStatedBy (L.shown link.old) attach) }
+    ensures state { OnOk result ((incomplete : Bool)
+        × (next_state Call.SendAttach incomplete (L.shown link.old).local_state
+        ≡ Some (L.shown link.new).local_state)) }
+    ensures handle { OnOk result ((L.shown link.new).output_handle ≡ (L.shown link.old).output_handle) }
+    ensures kept { OnOk result (Keeps (L.shown link.old) (L.shown link.new)) }
+    ensures left { OnErr result (link.new ≡ link.old) }
+{
+    let (frame, outcomes) = link.send_attach(false)?;
+    drop(outcomes);
+    Ok(frame)
+}
+
+// Takes the peer's attach: taken or refused, the handle, the name, the frame limit and the deliveries
+// stay; the state moves where the attach is taken, and stays or moves where it is refused.
+fn take<L: LinkAttach>(link: &mut L, attach: Attach) -> Result<L::AttachExchange, L::AttachError>
+    ensures state { OnOk result (next_of (L.shown link.old).local_state attach
+        ≡ Some (L.shown link.new).local_state) }
+    ensures refused { OnErr result ((link.new ≡ link.old)
+        ⊎ (next_of (L.shown link.old).local_state attach ≡ Some (L.shown link.new).local_state)) }
+    ensures handle { (L.shown link.new).output_handle ≡ (L.shown link.old).output_handle }
+    ensures kept { Keeps (L.shown link.old) (L.shown link.new) }
+{
+    match link.on_incoming_attach(attach) {
+        Ok(exchange) => Ok(exchange),
+        Err(refused) => Err(refused),
+    }
+}
+
+// Detaches a link and gives it an output handle again.
 fn cut<L: LinkExt>(link: &mut L, handle: OutputHandle) -> Result<(), L::DetachError>
-    ensures state { L.state link.old ≡ Attached → OnOk result (L.state link.new ≡ Detached) }
-    ensures again { OnOk result (L.handle link.new ≡ Some handle) }
-    ensures kept { OnOk result (L.deliveries link.new ≡ L.deliveries link.old) }
-    ensures named { OnOk result (L.name_of link.new ≡ L.name_of link.old) }
-    ensures flow { OnOk result (L.flow link.new ≡ L.flow link.old) }
+    ensures state { (L.shown link.old).local_state ≡ Attached
+        → OnOk result ((L.shown link.new).local_state ≡ Detached) }
+    ensures again { OnOk result ((L.shown link.new).output_handle ≡ Some handle) }
+    ensures kept { OnOk result (Keeps (L.shown link.old) (L.shown link.new)) }
+    ensures flow { OnOk result ((L.shown link.new).flow_state ≡ (L.shown link.old).flow_state) }
 {
     drop(link.send_detach(false, None)?);
     link.on_detach_reply(Detach {
@@ -31,7 +71,17 @@ fn cut<L: LinkExt>(link: &mut L, handle: OutputHandle) -> Result<(), L::DetachEr
     Ok(())
 }
 
-// Attaches a link to an end of this role, and cuts it; answers where it stands.
+// Gives a link other properties.
+fn set_properties<L: LinkExt>(link: &mut L, properties: Option<Fields>)
+    ensures given { (L.shown link.new).flow_state.properties ≡ properties }
+    ensures state { (L.shown link.new).local_state ≡ (L.shown link.old).local_state }
+    ensures handle { (L.shown link.new).output_handle ≡ (L.shown link.old).output_handle }
+    ensures kept { Keeps (L.shown link.old) (L.shown link.new) }
+{
+    drop(mem::replace(link.properties_mut(), properties));
+}
+
+// Attaches a link to an endpoint of this role, and cuts it; returns where it stands.
 fn attached_and_cut<L: LinkExt>(
     rt: &(impl Abort + AllocGlobal),
     link: &mut L,
@@ -39,8 +89,9 @@ fn attached_and_cut<L: LinkExt>(
 ) -> (bool, LinkState)
     requires { L.copies }
 {
-    let (sent, _) = attached(link);
-    let (came, _) = taken(link, coming(rt, role, false));
+    set_properties(link, None);
+    let sent = went(send(link));
+    let came = went(take(link, coming(rt, role, false)));
     let detached = went(cut(link, OutputHandle(9)));
     (sent && came && detached, *link.local_state())
 }

@@ -1,5 +1,6 @@
 pub mod FrontLemmas
 pub mod HeaderLemmas
+pub mod PieceLemmas
 pub mod PositionLemmas
 pub mod ScanLemmas
 pub mod SectionLemmas

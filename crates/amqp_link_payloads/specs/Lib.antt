@@ -5,3 +5,5 @@ pub mod Scan
 pub mod Section
 pub mod Seek
 pub mod Tail
+pub mod Bodies
+pub mod Pieces

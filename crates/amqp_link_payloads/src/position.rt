@@ -5,7 +5,7 @@
 //! bytes stand inside a section's data. How the bytes are cut into pieces makes no difference.
 //! Each front of a payload has a position of its own, and the place of that position is its end.
 ghost use Rattle.std.specs.Prelude.{◌≡◌, ◌+◌, ◌^◌, ◌<◌, ◌≤◌, [], ◌∷◌, ◌++◌};
-ghost use Rattle.std.specs.Prelude.{ℕ, List, length, IfSome, SomeIff};
+ghost use Rattle.std.specs.Prelude.{ℕ, List, None, length, IfSome, SomeIff};
 ghost use Rattle.std.specs.List.{concat};
 ghost use Rattle.amqp_link_payloads.specs.Position.{position, place};
 ghost use Rattle.amqp_link_payloads.specs.Scan.{HasSeen, number_below};
@@ -13,7 +13,7 @@ ghost use Rattle.amqp_link_payloads.specs.Scan.{HasSeen, number_below};
 mod header;
 mod places;
 
-use crate::payload::Payload;
+use crate::payload::{Payload, joined_len};
 use crate::position::header::Tail;
 use crate::position::places::Seek;
 
@@ -60,6 +60,14 @@ impl Scan {
             self.feed(*byte);
         }
     }
+
+    // The position of the end of what was seen.
+    fn end(self) -> Option<(u32, u64)>
+        ensures { (F : List ℕ) → HasSeen self F → let at = position F
+            in SomeIff result ((at.0 < 2 ^ 32) × (at.1 < 2 ^ 64)) at }
+    {
+        Some((self.number?, self.distance?))
+    }
 }
 
 fn next_number(number: Option<u32>) -> Option<u32>
@@ -101,15 +109,32 @@ pub fn place_of(payload: &Payload, section_number: u32, section_offset: u64) -> 
 }
 
 /// The place in the joined pieces of this offset in the section of this number, as [`place_of`]
-/// tells it of one payload. Reads all bytes, and takes no memory.
+/// tells it of one payload. None also where the length of the joined pieces passes `u64`. Reads all
+/// bytes, and does not allocate.
 pub fn place_in(pieces: &[Payload], section_number: u32, section_offset: u64) -> Option<u64>
-    requires { length (concat pieces.now) < 2 ^ 64 }
-    ensures place { result ≡ place (concat pieces.now) section_number section_offset }
+    ensures place { length (concat pieces.now) < 2 ^ 64
+        → result ≡ place (concat pieces.now) section_number section_offset }
+    ensures too_long { 2 ^ 64 ≤ length (concat pieces.now) → result ≡ None }
     ensures within { IfSome result (λ place. place ≤ length (concat pieces.now)) }
 {
+    joined_len(pieces)?;
     let mut seek = Seek::new(section_number);
     for piece in pieces {
         seek.feed_all(piece.as_slice());
     }
     seek.place(section_offset)
+}
+
+/// The position of the end of the joined pieces and one more after them, as [`position_of`] tells it.
+/// Takes no memory.
+pub fn position_with(pieces: &[Payload], next: &Payload) -> Option<(u32, u64)>
+    ensures { let at = position (concat pieces.now ++ next.now)
+        in SomeIff result ((at.0 < 2 ^ 32) × (at.1 < 2 ^ 64)) at }
+{
+    let mut seen = Scan::new();
+    for part in pieces {
+        seen.feed_all(part.as_slice());
+    }
+    seen.feed_all(next.as_slice());
+    seen.end()
 }

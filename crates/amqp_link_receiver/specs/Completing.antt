@@ -17,7 +17,7 @@ use Rattle.amqp_link_state.specs.Counts.{after_consuming}
 use Rattle.amqp_link_types.specs.Deliveries.{Info, Delivered}
 use Rattle.amqp_link_types.specs.Entries.{Tag}
 use Rattle.amqp_link_types.specs.Refusals.{refusal}
-use Rattle.amqp_link_receiver.specs.ReceiverDeliveries.{is_settled, with_state}
+use Rattle.amqp_link_receiver.specs.ReceiverDeliveries.{is_settled, with_kept_state}
 use Rattle.amqp_link_receiver.specs.Receivers.{Receiver}
 
 -- a link takes deliveries once both attaches were exchanged
@@ -57,7 +57,7 @@ module _ {T : Type 0} where
   -- of the delivery with this tag, where there is one, the place is kept up to which it came
   abbrev pub reported : Option Tag → ℕ → ℕ → Receiver T → Receiver T
   reported None number offset r = r
-  reported (Some tag) number offset r = with_state tag (Received number offset) r
+  reported (Some tag) number offset r = with_kept_state tag (Received number offset) r
 
   -- one credit is spent, and the place of an unsettled delivery is kept
   abbrev pub entered : Transfer → ℕ → ℕ → Receiver T → Receiver T

@@ -1,11 +1,9 @@
 -- The attach that a receiver's end sends, and the one that comes to it (OASIS AMQP 1.0 core, 2.6.3 and
 -- 2.7.3).
-use Rattle.std.specs.Prelude.{ℕ, Bool, true, false, [], ◌∷◌, Option, Some, None, is_none, option_map, unwrap_or}
+use Rattle.std.specs.Prelude.{◌≡◌, ℕ, Bool, true, false, [], ◌∷◌, Option, Some, None, is_some, is_none, option_map, unwrap_or, if◌then◌else◌, refl}
 use Rattle.amqp_link_state.specs.declared.state.LinkState.{LinkState}
 use Rattle.amqp_link_state.specs.declared.state.LinkState.TheVariants.{IncompleteAttachSent, IncompleteAttachReceived, IncompleteAttachExchanged}
 use Rattle.amqp_link_types.specs.declared.types.attach.Attach.{Attach}
-use Rattle.amqp_link_types.specs.declared.types.definitions.OutputHandle.{OutputHandle}
-use Rattle.amqp_link_types.specs.declared.types.definitions.Handle.{Handle}
 use Rattle.amqp_link_types.specs.declared.types.definitions.Role.TheVariants as role
 use Rattle.amqp_link_types.specs.declared.types.delivery_state.DeliveryState.{DeliveryState}
 use Rattle.amqp_link_types.specs.declared.types.errors.ReceiverAttachError.{ReceiverAttachError}
@@ -13,7 +11,8 @@ use Rattle.amqp_link_types.specs.declared.types.errors.ReceiverAttachError.TheVa
 use Rattle.amqp_link_types.specs.declared.types.terminus.TargetArchetype.{TargetArchetype}
 use Rattle.amqp_link_types.specs.Entries.{Entries}
 use Rattle.amqp_link_types.specs.Refusals.{refusal}
-use Rattle.amqp_link_core.specs.AttachSent.{limit_of, smaller_limit, joined, is_foreign, next_of}
+use Rattle.amqp_link_core.specs.AttachFields.{smaller_limit, merged_properties, is_foreign, next_of}
+use Rattle.amqp_link_core.specs.Shown.{Shown, with_terms_of}
 use Rattle.amqp_link_receiver.specs.declared.receiver_link.attach.ReceiverAttachExchange.{ReceiverAttachExchange}
 use Rattle.amqp_link_receiver.specs.declared.receiver_link.attach.ReceiverAttachExchange.TheVariants as exchange
 use Rattle.amqp_link_receiver.specs.Receivers.{Receiver}
@@ -25,37 +24,34 @@ has_entries (Some []) = false
 has_entries (Some (entry ∷ entries)) = true
 
 -- what follows in this state, where the sender has named a delivery or not
-abbrev pub exchanged : LinkState → Bool → ReceiverAttachExchange
-exchanged state false = exchange.Complete
-exchanged IncompleteAttachSent true = exchange.IncompleteUnsettled
-exchanged IncompleteAttachReceived true = exchange.IncompleteUnsettled
-exchanged IncompleteAttachExchanged true = exchange.IncompleteUnsettled
-exchanged _ true = exchange.Resume
+abbrev pub exchange_in : LinkState → Bool → ReceiverAttachExchange
+exchange_in state false = exchange.Complete
+exchange_in IncompleteAttachSent true = exchange.IncompleteUnsettled
+exchange_in IncompleteAttachReceived true = exchange.IncompleteUnsettled
+exchange_in IncompleteAttachExchanged true = exchange.IncompleteUnsettled
+exchange_in _ true = exchange.Resume
 
 module _ {T : Type 0} where
-  -- ---- the attach that is sent
-
-  -- what a receiver says at an output handle with this count, without its deliveries
-  abbrev pub counted_attach : (T → TargetArchetype) → Receiver T → ℕ → OutputHandle → Attach
-  counted_attach sent_as r count handle = record {
-    name = r.name;
-    handle = record { 0 = handle.0 };
+  -- what a receiver shows, if its target is sent so
+  abbrev pub receiver_shown : (T → TargetArchetype) → Receiver T → Shown (Entries (Option DeliveryState))
+  receiver_shown sent_as r = record {
     role = role.Receiver;
+    local_state = r.local_state;
+    output_handle = r.output_handle;
+    name = r.name;
     snd_settle_mode = r.snd_settle_mode;
     rcv_settle_mode = r.rcv_settle_mode;
     source = r.source;
     target = option_map sent_as r.target;
-    unsettled = None;
-    incomplete_unsettled = false;
-    initial_delivery_count = Some count;
-    max_message_size = limit_of r.max_message_size;
+    max_message_size = r.max_message_size;
+    max_frame_size = r.max_frame_size;
     offered_capabilities = r.offered_capabilities;
     desired_capabilities = r.desired_capabilities;
-    properties = r.flow_state.properties;
+    flow_state = r.flow_state;
+    unsettled = r.unsettled;
+    entries = r.unsettled;
+    ended = [];
   }
-
-  abbrev pub receiver_attach : (T → TargetArchetype) → Receiver T → OutputHandle → Attach
-  receiver_attach sent_as r handle = counted_attach sent_as r r.flow_state.initial_delivery_count handle
 
   -- ---- the attach that comes
 
@@ -68,14 +64,14 @@ module _ {T : Type 0} where
       ∷ (is_foreign admitted attach.target, error.CoordinatorIsNotImplemented)
       ∷ [])
 
-  -- it has moved the state, the link answers at its handle, and no delivery is under way
-  abbrev pub receiver_moved : Option LinkState → Receiver T → Handle → Receiver T
-  receiver_moved None r handle = r
-  receiver_moved (Some next) r handle =
-      record r { local_state = next; input_handle = Some (record { 0 = handle.0 }); more = false }
-
+  -- it has moved the state, the peer's handle is known, and no delivery is under way, if there is a
+  -- transition
   abbrev pub receiver_came : Receiver T → Attach → Receiver T
-  receiver_came r attach = receiver_moved (next_of r.local_state attach) r attach.handle
+  receiver_came r attach = record r {
+    local_state = unwrap_or (next_of r.local_state attach) r.local_state;
+    input_handle = if is_some (next_of r.local_state attach) then Some (record { 0 = attach.handle.0 }) else r.input_handle;
+    more = if is_some (next_of r.local_state attach) then false else r.more;
+  }
 
   -- and its source and the sender's mode are taken
   abbrev pub receiver_sourced : Receiver T → Attach → Receiver T
@@ -89,7 +85,7 @@ module _ {T : Type 0} where
     flow_state = record r.flow_state {
       initial_delivery_count = unwrap_or attach.initial_delivery_count 0;
       delivery_count = unwrap_or attach.initial_delivery_count 0;
-      properties = joined r.flow_state.properties attach.properties;
+      properties = merged_properties r.flow_state.properties attach.properties;
     };
   }
 
@@ -102,4 +98,15 @@ module _ {T : Type 0} where
 
   -- what is answered
   abbrev pub exchanged_with : Receiver T → Attach → ReceiverAttachExchange
-  exchanged_with r attach = exchanged (receiver_came r attach).local_state (has_entries attach.unsettled)
+  exchanged_with r attach = exchange_in (receiver_came r attach).local_state (has_entries attach.unsettled)
+
+  -- ---- what a receiver shows then
+
+  pub receiver_shown_after_refusal : (sent_as : T → TargetArchetype) (e : ReceiverAttachError) (r : Receiver T) (attach : Attach)
+      → receiver_shown sent_as (receiver_left e r attach) ≡ with_terms_of (receiver_shown sent_as r) (receiver_shown sent_as (receiver_left e r attach))
+  receiver_shown_after_refusal sent_as error.IncomingSourceIsNone r attach = refl
+  receiver_shown_after_refusal sent_as error.InitialDeliveryCountIsNone r attach = refl
+  receiver_shown_after_refusal sent_as error.CoordinatorIsNotImplemented r attach = refl
+  receiver_shown_after_refusal sent_as error.IllegalState r attach = refl
+  receiver_shown_after_refusal sent_as error.AttachTooLarge r attach = refl
+  receiver_shown_after_refusal sent_as error.OutOfMemory r attach = refl

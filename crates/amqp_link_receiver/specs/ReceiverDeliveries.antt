@@ -28,14 +28,14 @@ frame_come t payload = frame.RemoteTransfer (record {
 })
 
 -- both a number and a tag, where both are there
-abbrev pub named_by : Option ℕ → Option Tag → Option (ℕ × Tag)
-named_by (Some id) (Some tag) = Some (id, tag)
-named_by _ _ = None
+abbrev pub number_and_tag : Option ℕ → Option Tag → Option (ℕ × Tag)
+number_and_tag (Some id) (Some tag) = Some (id, tag)
+number_and_tag _ _ = None
 
 module _ {T : Type 0} where
   -- this state is kept of the delivery
-  abbrev pub with_state : Tag → DeliveryState → Receiver T → Receiver T
-  with_state tag state r = record r { unsettled = with_entry r.unsettled tag (Some state) }
+  abbrev pub with_kept_state : Tag → DeliveryState → Receiver T → Receiver T
+  with_kept_state tag state r = record r { unsettled = with_entry r.unsettled tag (Some state) }
 
   -- nothing is kept of it any more
   abbrev pub forgotten : Tag → Receiver T → Receiver T
@@ -46,11 +46,11 @@ module _ {T : Type 0} where
   after_state tag settled state r =
       if unwrap_or settled false then forgotten tag r
       else if has_ended (entry_at r.unsettled tag) then r
-      else with_state tag state r
+      else with_kept_state tag state r
 
   -- the number and the tag that the session is told as a transfer begins a delivery which the
   -- receiver settles only after the sender has
   abbrev pub told_of : Receiver T → Transfer → Option (ℕ × Tag)
   told_of r t =
       if is_settled t || r.more || settles_at_once r.rcv_settle_mode then None
-      else named_by t.delivery_id t.delivery_tag
+      else number_and_tag t.delivery_id t.delivery_tag

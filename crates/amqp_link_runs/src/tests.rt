@@ -65,3 +65,34 @@ fn pairs_of_one_id_stay_as_listed(rt: HostRuntime) {
         assert!(rt; are_sorted(&rt, listed, wanted), "{listed:?}");
     }
 }
+
+// The id of the pair that is listed at a place: ids repeat, and do not rise.
+fn id_at(place: u8) -> u32 {
+    u32::from(place) * 7 % 5
+}
+
+// The places of thirty pairs by their ids, and those of one id as listed.
+fn by_id(rt: &(impl Abort + AllocGlobal)) -> Vec<(u32, u8)> {
+    let mut pairs = Vec::new(rt.alloc());
+    for id in 0..5u32 {
+        for place in 0..30u8 {
+            if id_at(place) == id {
+                pairs.push((id, place)).expect(rt, "memory");
+            }
+        }
+    }
+    pairs
+}
+
+#[test]
+fn more_than_twenty_pairs_are_sorted(rt: HostRuntime) {
+    let mut pairs = Vec::new(rt.alloc());
+    for place in 0..30u8 {
+        pairs.push((id_at(place), place)).expect(&rt, "memory");
+    }
+    sort_by_id(&mut pairs).expect(&rt, "memory");
+    let wanted = by_id(&rt);
+    let is_wanted = pairs.as_slice() == wanted.as_slice();
+    assert_eq!(rt; wanted.len(), 30, "all pairs");
+    assert!(rt; is_wanted, "by id, then as listed");
+}

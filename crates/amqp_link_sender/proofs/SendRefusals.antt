@@ -9,7 +9,7 @@ use Rattle.amqp_link_types.specs.declared.types.errors.LinkStateError.TheVariant
 use Rattle.amqp_link_types.specs.declared.types.transfer.Transfer.{Transfer}
 use Rattle.amqp_link_sender.specs.declared.sender_link.Sending.{Sending}
 use Rattle.amqp_link_sender.specs.Room.{has_room}
-use Rattle.amqp_link_sender.specs.Senders.{Sender, Delivery, Stop, refused, missing_credit, payload_tests, tagged_transfer_tests, new_transfer, next_tag, settled_by_mode, is_pending, AnswersSend}
+use Rattle.amqp_link_sender.specs.Senders.{Sender, Delivery, SendStop, refused, missing_credit, payload_tests, delivery_tests, new_transfer, next_tag, settled_by_mode, is_pending, SendAnswersThenOutOfMemory}
 
 skip : {E : Type 0} (a : Bool) (e : E) (rest : List (Bool × E)) → a ≡ false → refusal ((a, e) ∷ rest) ≡ refusal rest
 skip false e rest h = refl
@@ -24,37 +24,25 @@ last_two false true p q = refl
 last_two false false p q = refl
 
 module _ {T : Type 0} (s : Sender T) (d : Delivery) (payload : List ℕ) where
-  -- with handles and credit a delivery is refused where its transfer is
-  by_transfer : (h : OutputHandle) → s.output_handle ≡ Some h → is_none s.input_handle ≡ false → (s.flow_state.link_credit == 0) ≡ false
-      → refusal (payload_tests s d payload) ≡ option_map refused (refusal (tagged_transfer_tests s (new_transfer s h (next_tag s) d) payload))
-  by_transfer h output input credit =
+  -- with handles and credit a delivery is refused where its tag or its transfer is
+  pub refused_with : (h : OutputHandle) → s.output_handle ≡ Some h → is_none s.input_handle ≡ false → (s.flow_state.link_credit ≡ 0 → ⊥)
+      → refusal (payload_tests s d payload) ≡ option_map refused (refusal (delivery_tests s (new_transfer s h (next_tag s) d) (next_tag s) payload))
+  refused_with h output input some =
+      let credit = not_zero s.flow_state.link_credit some in
       let pending : Bool = not (settled_by_mode s.snd_settle_mode d.settled) && is_pending s (next_tag s) in
       let crowded : Option OutputHandle → Bool = λ o. not (has_room (new_transfer s (unwrap_or o (record { 0 = 0 })) (next_tag s) d) s.max_frame_size payload) in
-      let last : Option OutputHandle → List (Bool × Stop) = λ o. (pending, refused error.TagPending) ∷ (crowded o, refused error.NoRoom) ∷ [] in
-      let third : Option OutputHandle → List (Bool × Stop) = λ o. (s.flow_state.link_credit == 0, missing_credit) ∷ last o in
-      let second : Option OutputHandle → List (Bool × Stop) = λ o. (is_none s.input_handle, refused error.IllegalState) ∷ third o in
+      let last : Option OutputHandle → List (Bool × SendStop) = λ o. (pending, refused error.TagPending) ∷ (crowded o, refused error.NoRoom) ∷ [] in
+      let third : Option OutputHandle → List (Bool × SendStop) = λ o. (s.flow_state.link_credit == 0, missing_credit) ∷ last o in
+      let second : Option OutputHandle → List (Bool × SendStop) = λ o. (is_none s.input_handle, refused error.IllegalState) ∷ third o in
       skip (is_none s.output_handle) (refused error.IllegalState) (second s.output_handle) (ap is_none output)
       ∙ skip (is_none s.input_handle) (refused error.IllegalState) (third s.output_handle) input
       ∙ skip (s.flow_state.link_credit == 0) missing_credit (last s.output_handle) credit
       ∙ ap (λ o. refusal (last o)) output
       ∙ last_two pending (crowded (Some h)) error.TagPending error.NoRoom
-      ∙ sym (ap (option_map refused) (skip (is_none s.input_handle) error.IllegalState ((pending, error.TagPending) ∷ (crowded (Some h), error.NoRoom) ∷ []) input))
-
-  pub refused_with : (first : Transfer) → IsSomeAnd s.output_handle (λ h. first ≡ new_transfer s h (next_tag s) d)
-      → is_none s.input_handle ≡ false → (s.flow_state.link_credit ≡ 0 → ⊥)
-      → refusal (payload_tests s d payload) ≡ option_map refused (refusal (tagged_transfer_tests s first payload))
-  refused_with first made input credit = by s.output_handle refl made
-    where
-      by : (o : Option OutputHandle) → s.output_handle ≡ o → IsSomeAnd o (λ h. first ≡ new_transfer s h (next_tag s) d)
-          → refusal (payload_tests s d payload) ≡ option_map refused (refusal (tagged_transfer_tests s first payload))
-      by None o m = absurd m
-      by (Some h) o m =
-          by_transfer h o input (not_zero s.flow_state.link_credit credit)
-          ∙ ap (λ t. option_map refused (refusal (tagged_transfer_tests s t payload))) (sym m)
 
 -- a refused transfer refuses the delivery
-pub told : (r : Result Sending LinkStateError) (tests : List (Bool × LinkStateError)) (stops : List (Bool × Stop)) (e : LinkStateError) → IsErrAnd r (λ x. x ≡ e)
-    → refusal stops ≡ option_map refused (refusal tests) → ((e ≡ error.OutOfMemory) × (refusal tests ≡ None)) ⊎ (refusal tests ≡ Some e) → AnswersSend r stops
+pub told : (r : Result Sending LinkStateError) (tests : List (Bool × LinkStateError)) (stops : List (Bool × SendStop)) (e : LinkStateError) → IsErrAnd r (λ x. x ≡ e)
+    → refusal stops ≡ option_map refused (refusal tests) → ((e ≡ error.OutOfMemory) × (refusal tests ≡ None)) ⊎ (refusal tests ≡ Some e) → SendAnswersThenOutOfMemory r stops
 told (Ok a) tests stops e is same why = absurd is
-told (Err x) tests stops e is same (inl memory) = inl (is ∙ memory.0)
+told (Err x) tests stops e is same (inl memory) = inl (is ∙ memory.0, same ∙ ap (option_map refused) memory.1)
 told (Err x) tests stops e is same (inr stop) = inr (same ∙ ap (option_map refused) (stop ∙ ap Some (sym is)))

@@ -6,7 +6,7 @@ use Rattle.std.proofs.lemmas.List.{get_or_append_left, take-append-drop, length-
 use Rattle.std.proofs.Math.Seq.{get_or-append_seam}
 use native.Mathlib.Decide.{dec_lt}
 use Rattle.std.proofs.lemmas.List.Folds.{concat-append}
-use Rattle.amqp_link_sender.specs.Split.{IsSplit, Fits, Least}
+use Rattle.amqp_link_sender.specs.Split.{IsSplit, ArePiecesOf, IsFewestPieces}
 
 -- some fronts of m bytes are cut, and the rest is left
 pub record IsCut (P : List ℕ) (m : ℕ) (done : List (List ℕ)) (rest : List ℕ) : Type 0 where
@@ -72,7 +72,7 @@ lower m x (y ∷ ys) full filled =
     let rest = lower m y ys (λ i h. full (suc i) (omega arith)) (λ i e. filled (suc i) (omega arith)) in
     omega (arith, suc-mul (length ys) m, length-append x (concat (y ∷ ys)), rest)
 
-fewest-IsSplit : (P : List ℕ) (m : ℕ) (pieces : List (List ℕ)) → IsSplit P m pieces → (qs : List (List ℕ)) → Fits P m qs → length pieces ≤ length qs
+fewest-IsSplit : (P : List ℕ) (m : ℕ) (pieces : List (List ℕ)) → IsSplit P m pieces → (qs : List (List ℕ)) → ArePiecesOf P m qs → length pieces ≤ length qs
 fewest-IsSplit P m [] h qs f = omega arith
 fewest-IsSplit P m (x ∷ xs) h qs f =
     elim (dec_lt 0 (length P)) [
@@ -84,7 +84,7 @@ fewest-IsSplit P m (x ∷ xs) h qs f =
           omega (arith, lt_of_mul-lt-mul_right m strict)
     ]
 
-pub Least-IsSplit : (P : List ℕ) (m : ℕ) (pieces : List (List ℕ)) → IsSplit P m pieces → Least P m (length pieces)
+pub Least-IsSplit : (P : List ℕ) (m : ℕ) (pieces : List (List ℕ)) → IsSplit P m pieces → IsFewestPieces P m (length pieces)
 Least-IsSplit P m pieces h = record {
   reached = (pieces, ((h.some, h.joined, small), refl));
   fewest = fewest-IsSplit P m pieces h;

@@ -1,7 +1,9 @@
+pub use Rattle.amqp_link_core.specs.AttachFields
 pub use Rattle.amqp_link_core.specs.AttachSent
 pub use Rattle.amqp_link_core.specs.Attaching
 pub use Rattle.amqp_link_core.specs.Detaching
 pub use Rattle.amqp_link_core.specs.LinkStates
+pub use Rattle.amqp_link_core.specs.Shown
 pub use Rattle.amqp_link_core.specs.Targets
 pub use Rattle.amqp_link_dispositions.specs.Ending
 pub use Rattle.amqp_link_dispositions.specs.Listed

@@ -1,12 +1,9 @@
 -- The attach that a sender's end sends, and the one that comes to it (OASIS AMQP 1.0 core, 2.6.3 and
 -- 2.7.3).
-use Rattle.std.specs.Prelude.{ℕ, Bool, true, false, List, [], ◌∷◌, map, Option, Some, None, is_none, option_map, Err}
+use Rattle.std.specs.Prelude.{◌≡◌, ℕ, Bool, true, false, List, [], ◌∷◌, map, Option, Some, None, is_some, is_none, option_map, unwrap_or, if◌then◌else◌, Err, refl}
 use Rattle.amqp_link_types.specs.declared.delivery.UnsettledMessage.{UnsettledMessage}
 use Rattle.amqp_link_state.specs.declared.state.LinkState.{LinkState}
-use Rattle.amqp_link_state.specs.declared.state.LinkState.TheVariants.{Unattached}
 use Rattle.amqp_link_types.specs.declared.types.attach.Attach.{Attach}
-use Rattle.amqp_link_types.specs.declared.types.definitions.OutputHandle.{OutputHandle}
-use Rattle.amqp_link_types.specs.declared.types.definitions.Handle.{Handle}
 use Rattle.amqp_link_types.specs.declared.types.definitions.Role.TheVariants as role
 use Rattle.amqp_link_types.specs.declared.types.definitions.SenderSettleMode.{SenderSettleMode}
 use Rattle.amqp_link_types.specs.declared.types.definitions.SenderSettleMode.TheVariants as mode
@@ -17,14 +14,10 @@ use Rattle.amqp_link_types.specs.declared.types.terminus.TargetArchetype.{Target
 use Rattle.amqp_link_types.specs.Entries.{Entries}
 use Rattle.amqp_link_types.specs.Refusals.{refusal}
 use Rattle.amqp_link_types.specs.Deliveries.{Ended}
-use Rattle.amqp_link_core.specs.AttachSent.{limit_of, smaller_limit, joined, is_foreign, next_of}
+use Rattle.amqp_link_types.specs.Unsettled.{states_of}
+use Rattle.amqp_link_core.specs.AttachFields.{smaller_limit, merged_properties, is_foreign, next_of}
+use Rattle.amqp_link_core.specs.Shown.{Shown, stated_count, with_terms_of}
 use Rattle.amqp_link_sender.specs.Senders.{Sender}
-
--- the count that an attach states: the first attach of a link the initial one, each later one the
--- present one
-abbrev pub stated_count : LinkState → ℕ → ℕ → ℕ
-stated_count Unattached initial present = initial
-stated_count _ initial present = present
 
 -- what becomes of each delivery as the link is attached anew
 abbrev pub all_illegal : Entries UnsettledMessage → List Ended
@@ -37,32 +30,32 @@ disagree mode.Unsettled mode.Settled = true
 disagree _ _ = false
 
 module _ {T : Type 0} where
-  abbrev pub sent_count : Sender T → ℕ
-  sent_count s = stated_count s.local_state s.flow_state.initial_delivery_count s.flow_state.delivery_count
-
-  -- ---- the attach that is sent
-
-  -- what a sender says at an output handle with this count, without its deliveries
-  abbrev pub counted_attach : (T → TargetArchetype) → Sender T → ℕ → OutputHandle → Attach
-  counted_attach sent_as s count handle = record {
-    name = s.name;
-    handle = record { 0 = handle.0 };
+  -- what a sender shows, if its target is sent so
+  abbrev pub sender_shown : (T → TargetArchetype) → Sender T → Shown (Entries UnsettledMessage)
+  sender_shown sent_as s = record {
     role = role.Sender;
+    local_state = s.local_state;
+    output_handle = s.output_handle;
+    name = s.name;
     snd_settle_mode = s.snd_settle_mode;
     rcv_settle_mode = s.rcv_settle_mode;
     source = s.source;
     target = option_map sent_as s.target;
-    unsettled = None;
-    incomplete_unsettled = false;
-    initial_delivery_count = Some count;
-    max_message_size = limit_of s.max_message_size;
+    max_message_size = s.max_message_size;
+    max_frame_size = s.max_frame_size;
     offered_capabilities = s.offered_capabilities;
     desired_capabilities = s.desired_capabilities;
-    properties = s.flow_state.properties;
+    flow_state = s.flow_state;
+    unsettled = s.unsettled;
+    entries = states_of s.unsettled;
+    ended = all_illegal s.unsettled;
   }
 
-  abbrev pub sender_attach : (T → TargetArchetype) → Sender T → OutputHandle → Attach
-  sender_attach sent_as s handle = counted_attach sent_as s (sent_count s) handle
+  -- ---- the attach that is sent
+
+  -- the delivery-count that it states
+  abbrev pub sent_count : Sender T → ℕ
+  sent_count s = stated_count role.Sender s.local_state s.flow_state
 
   -- it keeps the count that it has stated
   abbrev pub sender_attached : Sender T → LinkState → Sender T
@@ -82,13 +75,12 @@ module _ {T : Type 0} where
       ∷ (disagree s.snd_settle_mode attach.snd_settle_mode, error.SndSettleModeNotSupported)
       ∷ [])
 
-  -- it has moved the state, and the link answers at its handle
-  abbrev pub sender_moved : Option LinkState → Sender T → Handle → Sender T
-  sender_moved None s handle = s
-  sender_moved (Some next) s handle = record s { local_state = next; input_handle = Some (record { 0 = handle.0 }) }
-
+  -- it has moved the state, and the peer's handle is known, if there is a transition
   abbrev pub sender_came : Sender T → Attach → Sender T
-  sender_came s attach = sender_moved (next_of s.local_state attach) s attach.handle
+  sender_came s attach = record s {
+    local_state = unwrap_or (next_of s.local_state attach) s.local_state;
+    input_handle = if is_some (next_of s.local_state attach) then Some (record { 0 = attach.handle.0 }) else s.input_handle;
+  }
 
   -- what its target is taken as
   abbrev pub target_of : (TargetArchetype → Option T) → Option TargetArchetype → Option T
@@ -106,7 +98,7 @@ module _ {T : Type 0} where
   abbrev pub sender_taken : (TargetArchetype → Option T) → Sender T → Attach → Sender T
   sender_taken admitted s attach = record (sender_targeted admitted s attach) {
     max_message_size = smaller_limit s.max_message_size attach.max_message_size;
-    flow_state = record s.flow_state { properties = joined s.flow_state.properties attach.properties };
+    flow_state = record s.flow_state { properties = merged_properties s.flow_state.properties attach.properties };
   }
 
   -- what stays of it after a refusal
@@ -115,3 +107,18 @@ module _ {T : Type 0} where
   sender_left admitted error.IncomingTargetIsNone s attach = sender_came s attach
   sender_left admitted error.SndSettleModeNotSupported s attach = sender_targeted admitted s attach
   sender_left admitted _ s attach = s
+
+  -- ---- what a sender shows then
+
+  -- the target that it takes, as it is sent
+  abbrev pub sender_target_taken : (T → TargetArchetype) → (TargetArchetype → Option T) → Attach → Option TargetArchetype
+  sender_target_taken sent_as admitted attach = option_map sent_as (target_of admitted attach.target)
+
+  pub sender_shown_after_refusal : (sent_as : T → TargetArchetype) (admitted : TargetArchetype → Option T) (e : SenderAttachError) (s : Sender T) (attach : Attach)
+      → sender_shown sent_as (sender_left admitted e s attach) ≡ with_terms_of (sender_shown sent_as s) (sender_shown sent_as (sender_left admitted e s attach))
+  sender_shown_after_refusal sent_as admitted error.CoordinatorIsNotImplemented s attach = refl
+  sender_shown_after_refusal sent_as admitted error.IncomingTargetIsNone s attach = refl
+  sender_shown_after_refusal sent_as admitted error.SndSettleModeNotSupported s attach = refl
+  sender_shown_after_refusal sent_as admitted error.IllegalState s attach = refl
+  sender_shown_after_refusal sent_as admitted error.AttachTooLarge s attach = refl
+  sender_shown_after_refusal sent_as admitted error.OutOfMemory s attach = refl

@@ -11,17 +11,17 @@ use Rattle.amqp_link_dispositions.specs.Said.{AreSaid, settles_at_once}
 use Rattle.amqp_link_sender.specs.Senders.{Sender, settles}
 
 -- the frames say the runs of these numbers, if anything is said
-abbrev pub SaysRuns : Bool → Bool → DeliveryState → Bool → List ℕ → List LinkFrame → Type 0
-SaysRuns true settled state batchable ids frames = frames ≡ []
-SaysRuns false settled state batchable ids frames = AreSaid settled state batchable ids frames
+abbrev pub DispositionsOfRuns : Bool → Bool → DeliveryState → Bool → List ℕ → List LinkFrame → Type 0
+DispositionsOfRuns true settled state batchable ids frames = frames ≡ []
+DispositionsOfRuns false settled state batchable ids frames = AreSaid settled state batchable ids frames
 
 -- a disposition that does not settle is answered where the receiver waits for the sender to settle
 abbrev pub is_echoed : Bool → ReceiverSettleMode → Bool
 is_echoed settled mode = not settled && not (settles_at_once mode)
 
 module _ {T : Type 0} where
-  abbrev pub Says : Sender T → Bool → DeliveryState → Bool → List ℕ → List LinkFrame → Type 0
-  Says s settled state batchable ids frames = SaysRuns (settles s.snd_settle_mode) settled state batchable ids frames
+  abbrev pub Dispositions : Sender T → Bool → DeliveryState → Bool → List ℕ → List LinkFrame → Type 0
+  Dispositions s settled state batchable ids frames = DispositionsOfRuns (settles s.snd_settle_mode) settled state batchable ids frames
 
   -- what ends
   abbrev pub ended_at : Sender T → Bool → List Tag → List Ended

@@ -1,6 +1,6 @@
 -- A sender's link endpoint as its callers see it, and what its calls do (OASIS AMQP 1.0 core, 2.6
 -- and 2.7.5).
-use Rattle.std.specs.Prelude.{◌≡◌, ◌≢◌, ◌⊎◌, ℕ, ◌==◌, ◌&&◌, not, Bool, true, false, List, [], ◌∷◌, length, map, Option, Some, None, is_some, is_none, IsSomeAnd, unwrap_or, if◌then◌else◌, Result, Ok, Err}
+use Rattle.std.specs.Prelude.{◌≡◌, ◌⊎◌, ℕ, ◌==◌, ◌&&◌, not, Bool, true, false, List, [], ◌∷◌, length, map, Option, Some, None, is_some, is_none, IsSomeAnd, unwrap_or, if◌then◌else◌, Result, Ok, Err}
 use Rattle.std.specs.Int.{w32, to_be_bytes}
 use Rattle.std.specs.Option.{option_map_or}
 use Rattle.amqp_link_types.specs.declared.types.errors.LinkStateError.{LinkStateError}
@@ -26,7 +26,7 @@ use Rattle.amqp_link_types.specs.Entries.{Tag, Entries, with_entry, entry_at}
 use Rattle.amqp_link_types.specs.Frames.{payload_of, AreFramesOf}
 use Rattle.amqp_link_types.specs.Refusals.{refusal}
 use Rattle.amqp_link_sender.specs.Room.{has_room, payload_limit}
-use Rattle.amqp_link_sender.specs.Split.{IsSplit, Least}
+use Rattle.amqp_link_sender.specs.Split.{IsSplit, IsFewestPieces}
 
 -- what a caller sees of a sender's link endpoint with a target of type T
 pub record Sender (T : Type 0) : Type 0 where
@@ -99,6 +99,12 @@ new_transfer s handle tag d = record {
   batchable = d.batchable;
 }
 
+-- the same without its tag, which a sender makes last
+abbrev pub untagged : {T : Type 0} → Sender T → OutputHandle → Delivery → Transfer
+untagged s handle d =
+    let t = new_transfer s handle [] d in
+    record t { delivery_tag = None }
+
 -- what is kept of it until it is settled: its whole payload, and no state yet
 abbrev pub new_entry : ℕ → List ℕ → UnsettledMessage
 new_entry message_format payload = record { payload = payload; state = None; message_format = message_format }
@@ -146,17 +152,17 @@ pub record SendsPayload {T : Type 0} (old : Sender T) (handle : OutputHandle) (d
   }
 
 -- a send of a payload, by its answer: without credit nothing changes
-abbrev pub Sends : {T : Type 0} → Sender T → Delivery → List ℕ → Sending → Sender T → Type 0
-Sends old d payload (sending.Sent told frames) new =
+abbrev pub SendsOrLacksCredit : {T : Type 0} → Sender T → Delivery → List ℕ → Sending → Sender T → Type 0
+SendsOrLacksCredit old d payload (sending.Sent told frames) new =
     IsSomeAnd old.output_handle (λ handle. SendsPayload old handle d payload told frames.items new)
-Sends old d payload sending.CreditMissing new = new ≡ old
+SendsOrLacksCredit old d payload sending.CreditMissing new = new ≡ old
 
 -- the frames of a sent payload are as few as the frame limit allows
-abbrev pub IsFewest : {T : Type 0} → Sender T → Delivery → List ℕ → Sending → Type 0
-IsFewest old d payload (sending.Sent told frames) = IsSomeAnd old.output_handle (λ handle.
+abbrev pub SendsFewest : {T : Type 0} → Sender T → Delivery → List ℕ → Sending → Type 0
+SendsFewest old d payload (sending.Sent told frames) = IsSomeAnd old.output_handle (λ handle.
     let t = new_transfer old handle (next_tag old) d in
-    Least payload (payload_limit t old.max_frame_size) (length frames.items))
-IsFewest old d payload sending.CreditMissing = Unit {0}
+    IsFewestPieces payload (payload_limit t old.max_frame_size) (length frames.items))
+SendsFewest old d payload sending.CreditMissing = Unit {0}
 
 -- ---- refusals, in the order of the tests
 
@@ -170,6 +176,13 @@ transfer_tests s t payload =
     ∷ (not (has_room t s.max_frame_size payload), error.NoRoom)
     ∷ []
 
+-- a delivery with this tag is free where it is unsettled, and a frame has room beside its transfer
+abbrev pub delivery_tests : {T : Type 0} → Sender T → Transfer → Tag → List ℕ → List (Bool × LinkStateError)
+delivery_tests s t tag payload =
+    (not (settled_on_send s t) && is_pending s tag, error.TagPending)
+    ∷ (not (has_room t s.max_frame_size payload), error.NoRoom)
+    ∷ []
+
 -- a transfer that is to be registered names its delivery, which is free where it is unsettled
 abbrev pub tagged_transfer_tests : {T : Type 0} → Sender T → Transfer → List ℕ → List (Bool × LinkStateError)
 tagged_transfer_tests s t payload =
@@ -180,11 +193,11 @@ tagged_transfer_tests s t payload =
     ∷ []
 
 -- what a send of a payload answers where it sends nothing
-pub data Stop : Type 0 where
-  missing_credit : Stop
-  refused : LinkStateError → Stop
+pub data SendStop : Type 0 where
+  missing_credit : SendStop
+  refused : LinkStateError → SendStop
 
-abbrev pub payload_tests : {T : Type 0} → Sender T → Delivery → List ℕ → List (Bool × Stop)
+abbrev pub payload_tests : {T : Type 0} → Sender T → Delivery → List ℕ → List (Bool × SendStop)
 payload_tests s d payload =
     let t = new_transfer s (unwrap_or s.output_handle (record { 0 = 0 })) (next_tag s) d in
     (is_none s.output_handle, refused error.IllegalState)
@@ -194,19 +207,9 @@ payload_tests s d payload =
     ∷ (not (has_room t s.max_frame_size payload), refused error.NoRoom)
     ∷ []
 
--- A result by the first test that holds. Want of memory comes after all of them.
-abbrev pub Answers : {A : Type 0} → Result A LinkStateError → List (Bool × LinkStateError) → Type 0
-Answers (Ok a) tests = refusal tests ≡ None
-Answers (Err e) tests = ((e ≡ error.OutOfMemory) × (refusal tests ≡ None)) ⊎ (refusal tests ≡ Some e)
-
--- the handles and the credit that a send of a payload asks for before it makes the delivery's tag
-abbrev pub HasHandlesAndCredit : {T : Type 0} → Sender T → Type 0
-HasHandlesAndCredit s =
-    (is_none s.output_handle ≡ false) × (is_none s.input_handle ≡ false) × (s.flow_state.link_credit ≢ 0)
-
--- A send of a payload by the first test that holds. Its tag is made for the last two of them, so want of
--- memory may come before these; before the others it does not where `HasHandlesAndCredit` is shown beside.
-abbrev pub AnswersSend : Result Sending LinkStateError → List (Bool × Stop) → Type 0
-AnswersSend (Ok (sending.Sent told frames)) tests = refusal tests ≡ None
-AnswersSend (Ok sending.CreditMissing) tests = refusal tests ≡ Some missing_credit
-AnswersSend (Err e) tests = (e ≡ error.OutOfMemory) ⊎ (refusal tests ≡ Some (refused e))
+-- A send of a payload by the first test that holds; out of memory comes only where none does.
+abbrev pub SendAnswersThenOutOfMemory : Result Sending LinkStateError → List (Bool × SendStop) → Type 0
+SendAnswersThenOutOfMemory (Ok (sending.Sent told frames)) tests = refusal tests ≡ None
+SendAnswersThenOutOfMemory (Ok sending.CreditMissing) tests = refusal tests ≡ Some missing_credit
+SendAnswersThenOutOfMemory (Err e) tests =
+    ((e ≡ error.OutOfMemory) × (refusal tests ≡ None)) ⊎ (refusal tests ≡ Some (refused e))

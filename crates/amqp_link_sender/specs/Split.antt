@@ -13,10 +13,10 @@ pub record IsSplit (P : List ℕ) (m : ℕ) (pieces : List (List ℕ)) : Type 0 
   pub one : length P ≡ 0 → length pieces ≡ 1
 
 -- some pieces of at most m bytes that join to P
-abbrev pub Fits : List ℕ → ℕ → List (List ℕ) → Type 0
-Fits P m pieces = (1 ≤ length pieces) × (concat pieces ≡ P) × All (λ piece. length piece ≤ m) pieces
+abbrev pub ArePiecesOf : List ℕ → ℕ → List (List ℕ) → Type 0
+ArePiecesOf P m pieces = (1 ≤ length pieces) × (concat pieces ≡ P) × All (λ piece. length piece ≤ m) pieces
 
 -- n is the least number of pieces of at most m bytes that join to P
-pub record Least (P : List ℕ) (m n : ℕ) : Type 0 where
-  pub reached : (pieces : List (List ℕ)) × (Fits P m pieces × (length pieces ≡ n))
-  pub fewest : (pieces : List (List ℕ)) → Fits P m pieces → n ≤ length pieces
+pub record IsFewestPieces (P : List ℕ) (m n : ℕ) : Type 0 where
+  pub reached : (pieces : List (List ℕ)) × (ArePiecesOf P m pieces × (length pieces ≡ n))
+  pub fewest : (pieces : List (List ℕ)) → ArePiecesOf P m pieces → n ≤ length pieces

@@ -3,10 +3,9 @@
 //! `send_*` are commands that answer frames, in the order in which they are to go out. A new link is
 //! attached first, then the receiver grants credit, then payloads go out, one credit for each
 //! delivery.
-ghost use Rattle.std.specs.Prelude.{◌≡◌, ◌⊎◌, [], length, None, Some, IfOk, IfErr, IsSomeAnd, IsErrOf, OnOk, OnErr, MatchOption};
-ghost use Rattle.std.specs.Int.{w32, to_be_bytes};
-ghost use Rattle.amqp_link_sender.specs.Room.{payload_limit as limit_of_payload};
-ghost use Rattle.amqp_link_sender.specs.Split.{Least};
+ghost use Rattle.std.specs.Prelude.{◌≡◌, ◌<◌, [], length, true, None, Some, IfOk, IsSomeAnd, OnOk, OnErr, MatchOption};
+ghost use Rattle.amqp_link_sender.specs.Room.{has_room, payload_limit as limit_of_payload};
+ghost use Rattle.amqp_link_sender.specs.Split.{IsFewestPieces};
 
 mod attach;
 mod detach;
@@ -19,7 +18,7 @@ mod split;
 mod tests;
 mod waits;
 
-use crate::sender_link::room::payload_limit;
+use crate::sender_link::room::{payload_limit, payload_limit_with_tag};
 use crate::sender_link::split::frames;
 use amqp_link_core::endpoint::target::LinkTarget;
 use amqp_link_core::link_parts::LinkParts;
@@ -30,8 +29,7 @@ use amqp_link_types::frame::LinkFrame;
 use amqp_link_types::types::unsettled_map::UnsettledMap;
 use amqp_link_types::types::{
     DeliveryState, DeliveryTag, InputHandle, LinkStateError, MessageFormat, OutputHandle, Payload,
-    ReceiverSettleMode, SenderSettleMode, SequenceNo, SessionStopReason, Source, Symbols, Text,
-    Transfer,
+    ReceiverSettleMode, SenderSettleMode, SessionStopReason, Source, Symbols, Text, Transfer,
 };
 pub use attach::SenderAttachExchange;
 use std::alloc::{AllocError, Global};
@@ -117,11 +115,12 @@ impl<T: LinkTarget> Model for SenderLink<T> {
 }
 
 impl<T: LinkTarget> SenderLink<T> {
-    ghost use Rattle.amqp_link_sender.specs.Senders.{Sends, SendsTransfer, IsSent, Answers, AnswersSend};
-    ghost use Rattle.amqp_link_sender.specs.Senders.{delivery_of, next_tag, new_transfer, new_entry, settled_on_send, IsFewest};
+    ghost use Rattle.amqp_link_sender.specs.Senders.{SendsOrLacksCredit, SendsTransfer, IsSent, SendAnswersThenOutOfMemory};
+    ghost use Rattle.amqp_link_types.specs.Refusals.{AnswersExactly, AnswersThenOutOfMemory};
+    ghost use Rattle.amqp_link_sender.specs.Senders.{delivery_of, next_tag, new_transfer, new_entry, settled_on_send, SendsFewest};
     ghost use Rattle.amqp_link_types.specs.Entries.{with_entry};
     ghost use Rattle.amqp_link_sender.specs.Waits.{waiting_error, after_waiting};
-    ghost use Rattle.amqp_link_sender.specs.Senders.{transfer_tests, tagged_transfer_tests, payload_tests, HasHandlesAndCredit};
+    ghost use Rattle.amqp_link_sender.specs.Senders.{transfer_tests, tagged_transfer_tests, delivery_tests, payload_tests, untagged};
     ghost use Rattle.amqp_link_state.specs.declared.state.LinkState.TheVariants.{Unattached};
 
     /// A link that is not attached, without handles and unsettled deliveries. Takes no memory.
@@ -215,15 +214,37 @@ impl<T: LinkTarget> SenderLink<T> {
             drop((delivery_tag, state));
             return Err(LinkStateError::IllegalState);
         };
+        let mut transfer = self.untagged_transfer(
+            handle,
+            message_format,
+            settled,
+            state,
+            batchable,
+        );
+        transfer.delivery_tag = Some(delivery_tag);
+        Ok(transfer)
+    }
+
+    // The transfer of a new delivery, without its tag.
+    fn untagged_transfer(
+        &self,
+        handle: OutputHandle,
+        message_format: MessageFormat,
+        settled: Option<bool>,
+        state: Option<DeliveryState>,
+        batchable: bool,
+    ) -> Transfer
+        ensures { result ≡ untagged self.now handle (delivery_of message_format settled state batchable) }
+    {
         let settled = match self.snd_settle_mode {
             SenderSettleMode::Settled => true,
             SenderSettleMode::Unsettled => false,
             SenderSettleMode::Mixed => settled.unwrap_or(false), // unset means false (2.7.5)
         };
-        Ok(Transfer {
+        Transfer {
             handle: handle.into(),
             delivery_id: None,
-            delivery_tag: Some(delivery_tag),
+            delivery_tag: None,
             message_format: Some(message_format),
             settled: Some(settled),
             more: false,
@@ -232,7 +253,7 @@ impl<T: LinkTarget> SenderLink<T> {
             resume: false,
             aborted: false,
             batchable,
-        })
+        }
     }
 
     /// Sends a payload as a new delivery, for one credit, in the fewest frames that fit the limit
@@ -247,8 +268,11 @@ impl<T: LinkTarget> SenderLink<T> {
     /// `SessionStopped`.
     ///
     /// Then, in this order: `IllegalState` without output handle, then without input handle; the answer
-    /// `CreditMissing`; `TagPending` for an unsettled delivery; `NoRoom`; want of memory, which may come
-    /// before `TagPending`, as the tag is made. Nothing has changed then.
+    /// `CreditMissing`; `TagPending` for an unsettled delivery; `NoRoom`; `OutOfMemory`, which comes only
+    /// where none of these does. Nothing has changed then.
+    ///
+    /// Its cost grows with the number of frames, and for an unsettled delivery with the number of
+    /// those that are pending: their tags are compared once for the test and once as it is kept.
     pub fn send_payload(
         &mut self,
         waiting: Waiting,
@@ -258,16 +282,14 @@ impl<T: LinkTarget> SenderLink<T> {
         state: Option<DeliveryState>,
         batchable: bool,
     ) -> Result<Sending, LinkStateError>
-        ensures sent { IfOk result (λ sending. Sends self.old
+        ensures sent { IfOk result (λ sending. SendsOrLacksCredit self.old
             (delivery_of message_format settled state batchable) payload.now sending self.new) }
-        ensures fewest { IfOk result (λ sending. IsFewest self.old
+        ensures fewest { IfOk result (λ sending. SendsFewest self.old
             (delivery_of message_format settled state batchable) payload.now sending) }
         ensures refused { MatchOption (waiting_error self.old.local_state waiting)
-            (AnswersSend result (payload_tests self.old
+            (SendAnswersThenOutOfMemory result (payload_tests self.old
             (delivery_of message_format settled state batchable) payload.now))
             (λ error. result ≡ Err error) }
-        ensures memory { IsErrOf result LinkStateError.OutOfMemory
-            → waiting_error self.old.local_state waiting ≡ None → HasHandlesAndCredit self.old }
         ensures left { OnErr result (self.new ≡ after_waiting self.old waiting) }
     {
         match self.take_waiting(waiting) {
@@ -288,95 +310,128 @@ impl<T: LinkTarget> SenderLink<T> {
         state: Option<DeliveryState>,
         batchable: bool,
     ) -> Result<Sending, LinkStateError>
-        ensures sent { IfOk result (λ sending. Sends self.old
+        ensures sent { IfOk result (λ sending. SendsOrLacksCredit self.old
             (delivery_of message_format settled state batchable) payload.now sending self.new) }
-        ensures fewest { IfOk result (λ sending. IsFewest self.old
+        ensures fewest { IfOk result (λ sending. SendsFewest self.old
             (delivery_of message_format settled state batchable) payload.now sending) }
-        ensures refused { AnswersSend result (payload_tests self.old
+        ensures refused { SendAnswersThenOutOfMemory result (payload_tests self.old
             (delivery_of message_format settled state batchable) payload.now) }
-        ensures memory { IsErrOf result LinkStateError.OutOfMemory → HasHandlesAndCredit self.old }
         ensures left { OnErr result (self.new ≡ self.old) }
     {
-        if self.output_handle.is_none() || self.input_handle.is_none() {
+        let Some(handle) = self.output_handle else {
             drop(state);
             return Err(LinkStateError::IllegalState);
-        }
+        };
+        let Some(input_handle) = self.input_handle else {
+            drop(state);
+            return Err(LinkStateError::IllegalState);
+        };
         if self.flow_state.link_credit() == 0 {
             drop(state);
             return Ok(Sending::CreditMissing);
         }
-        let first = self.next_transfer(message_format, settled, state, batchable)?;
-        let (settlement, frames) = self.send_payload_with_transfer(message_format, first, payload)?;
+        let transfer = self.untagged_transfer(handle, message_format, settled, state, batchable);
+        let (settlement, frames) = self.send_untagged(
+            input_handle,
+            transfer,
+            message_format,
+            payload,
+        )?;
         // All tests are behind, and all memory is taken.
         let _ = self.flow_state.consume(1);
         Ok(Sending::Sent { settlement, frames })
     }
 
-    // The transfer of the next delivery, whose tag is the delivery count.
-    fn next_transfer(
-        &self,
-        message_format: MessageFormat,
-        settled: Option<bool>,
-        state: Option<DeliveryState>,
-        batchable: bool,
-    ) -> Result<Transfer, LinkStateError>
-        ensures made { IfOk result (λ transfer. IsSomeAnd self.now.output_handle (λ handle.
-            transfer ≡ new_transfer self.now handle (next_tag self.now)
-            (delivery_of message_format settled state batchable))) }
-        ensures refused { IfErr result (λ error. (error ≡ LinkStateError.OutOfMemory)
-            ⊎ ((error ≡ LinkStateError.IllegalState) × (self.now.output_handle ≡ None))) }
-    {
-        match tag_of_count(self.alloc, self.flow_state.delivery_count()) {
-            Ok(tag) => self.generate_non_resuming_transfer_performative(
-                tag,
-                message_format,
-                settled,
-                state,
-                batchable,
-            ),
-            Err(refused) => {
-                drop(state);
-                Err(refused.into())
-            }
-        }
-    }
-
-    /// Sends a payload with this transfer, which names the delivery's tag; spends no credit. An
-    /// unsettled delivery is kept with its whole payload and without a state, whatever state the
-    /// transfer has.
-    ///
-    /// Refused in this order, with nothing changed: `IllegalState` without tag, then without input
-    /// handle; `TagPending` for an unsettled delivery; `NoRoom`; want of memory.
-    pub fn send_payload_with_transfer(
+    // Sends the next delivery with this transfer, which has no tag yet: the tag is made once nothing
+    // is against the delivery.
+    fn send_untagged(
         &mut self,
-        message_format: MessageFormat,
+        input_handle: InputHandle,
         mut transfer: Transfer,
+        message_format: MessageFormat,
         payload: &Payload,
     ) -> Result<(Settlement, Vec<LinkFrame>), LinkStateError>
-        ensures sent { IfOk result (λ sent. IsSomeAnd transfer.delivery_tag (λ tag.
-            SendsTransfer self.old message_format transfer tag payload.now sent.0 sent.1.items self.new)) }
-        ensures fewest { IfOk result (λ sent.
-            Least payload.now (limit_of_payload transfer self.old.max_frame_size) (length sent.1.items)) }
-        ensures refused { Answers result (tagged_transfer_tests self.old transfer payload.now) }
+        requires { self.old.input_handle ≡ Some input_handle }
+        ensures sent { IfOk result (λ sent. SendsTransfer self.old message_format
+            (record transfer { delivery_tag = Some (next_tag self.old) }) (next_tag self.old)
+            payload.now sent.0 sent.1.items self.new) }
+        ensures fewest { IfOk result (λ sent. IsFewestPieces payload.now
+            (limit_of_payload (record transfer { delivery_tag = Some (next_tag self.old) })
+            self.old.max_frame_size) (length sent.1.items)) }
+        ensures refused { AnswersThenOutOfMemory LinkStateError.OutOfMemory result (delivery_tests self.old
+            (record transfer { delivery_tag = Some (next_tag self.old) }) (next_tag self.old) payload.now) }
         ensures left { OnErr result (self.new ≡ self.old) }
     {
-        let tag = match self.tag_to_register(&mut transfer, payload) {
-            Ok(tag) => tag,
+        let count = self.flow_state.delivery_count().to_be_bytes();
+        let limit = match self.limit_of_next(&mut transfer, &count, payload) {
+            Ok(limit) => limit,
             Err(refused) => {
                 drop(transfer);
                 return Err(refused);
             }
         };
-        let (settled, frames) = match self.send_transfer_without_modifying_unsettled_map(
-            transfer, payload,
-        ) {
-            Ok(sent) => sent,
+        let (tag, named) = match tags_of(self.alloc, &count) {
+            Ok(tags) => tags,
+            Err(refused) => {
+                drop(transfer);
+                return Err(refused.into());
+            }
+        };
+        transfer.delivery_tag = Some(named);
+        Ok(self.begin(input_handle, transfer, tag, message_format, payload, limit)?)
+    }
+
+    // The payload bytes of a frame of the delivery with this tag, whose transfer has no tag yet, where
+    // nothing is against it. The transfer is as it was.
+    fn limit_of_next(
+        &self,
+        transfer: &mut Transfer,
+        tag: &[u8],
+        payload: &Payload,
+    ) -> Result<usize, LinkStateError>
+        ensures limit { IfOk result (λ limit. limit ≡ limit_of_payload
+            (record transfer.old { delivery_tag = Some tag.now }) self.now.max_frame_size) }
+        ensures some { IfOk result (λ limit. 0 < length payload.now → 0 < limit) }
+        ensures refused { AnswersExactly result (delivery_tests self.now
+            (record transfer.old { delivery_tag = Some tag.now }) tag.now payload.now) }
+        ensures same { transfer.new ≡ transfer.old }
+    {
+        if !self.is_settled_on_send(transfer) && self.unsettled.contains_bytes(tag) {
+            return Err(LinkStateError::TagPending);
+        }
+        payload_limit_with_tag(transfer, tag, self.max_frame_size, payload).ok_or(
+            LinkStateError::NoRoom,
+        )
+    }
+
+    // Begins a delivery that nothing is against: makes its frames, and keeps it where it is unsettled.
+    fn begin(
+        &mut self,
+        input_handle: InputHandle,
+        transfer: Transfer,
+        tag: DeliveryTag,
+        message_format: MessageFormat,
+        payload: &Payload,
+        limit: usize,
+    ) -> Result<(Settlement, Vec<LinkFrame>), AllocError>
+        requires handle { self.old.input_handle ≡ Some input_handle }
+        requires room { has_room transfer self.old.max_frame_size payload.now ≡ true }
+        requires limit { limit ≡ limit_of_payload transfer self.old.max_frame_size }
+        requires some { 0 < length payload.now → 0 < limit }
+        ensures sent { IfOk result (λ sent.
+            SendsTransfer self.old message_format transfer tag payload.now sent.0 sent.1.items self.new) }
+        ensures fewest { IfOk result (λ sent. IsFewestPieces payload.now limit (length sent.1.items)) }
+        ensures left { OnErr result (self.new ≡ self.old) }
+    {
+        let is_settled = self.is_settled_on_send(&transfer);
+        let frames = match frames(self.alloc, input_handle, transfer, payload, limit) {
+            Ok(frames) => frames,
             Err(refused) => {
                 drop(tag);
                 return Err(refused);
             }
         };
-        if settled {
+        if is_settled {
             return Ok((Settlement::Settled(tag), frames));
         }
         if let Err(refused) = self.register(&tag, payload, message_format) {
@@ -386,17 +441,49 @@ impl<T: LinkTarget> SenderLink<T> {
         Ok((Settlement::Unsettled(tag), frames))
     }
 
+    /// Sends a payload with this transfer, which names the delivery's tag; spends no credit. An
+    /// unsettled delivery is kept with its whole payload and without a state, whatever state the
+    /// transfer has.
+    ///
+    /// Refused in this order, with nothing changed: `IllegalState` without tag, then without input
+    /// handle; `TagPending` for an unsettled delivery; `NoRoom`; `OutOfMemory`.
+    ///
+    /// It costs what `send_payload` does.
+    pub fn send_payload_with_transfer(
+        &mut self,
+        message_format: MessageFormat,
+        mut transfer: Transfer,
+        payload: &Payload,
+    ) -> Result<(Settlement, Vec<LinkFrame>), LinkStateError>
+        ensures sent { IfOk result (λ sent. IsSomeAnd transfer.delivery_tag (λ tag.
+            SendsTransfer self.old message_format transfer tag payload.now sent.0 sent.1.items self.new)) }
+        ensures fewest { IfOk result (λ sent.
+            IsFewestPieces payload.now (limit_of_payload transfer self.old.max_frame_size) (length sent.1.items)) }
+        ensures refused { AnswersThenOutOfMemory LinkStateError.OutOfMemory result
+            (tagged_transfer_tests self.old transfer payload.now) }
+        ensures left { OnErr result (self.new ≡ self.old) }
+    {
+        match self.admit_tagged(&mut transfer, payload) {
+            Ok((input_handle, tag, limit)) => {
+                Ok(self.begin(input_handle, transfer, tag, message_format, payload, limit)?)
+            }
+            Err(refused) => {
+                drop(transfer);
+                Err(refused)
+            }
+        }
+    }
+
     // Keeps a delivery that was sent with its whole payload and no state.
     fn register(
         &mut self,
         tag: &DeliveryTag,
         payload: &Payload,
         message_format: MessageFormat,
-    ) -> Result<(), LinkStateError>
+    ) -> Result<(), AllocError>
         ensures kept { OnOk result (self.new ≡ record self.old {
           unsettled = with_entry self.old.unsettled tag.now (new_entry message_format payload.now);
         }) }
-        ensures refused { IfErr result (λ error. error ≡ LinkStateError.OutOfMemory) }
         ensures left { OnErr result (self.new ≡ self.old) }
     {
         let entry = UnsettledMessage::new(payload.clone()?, None, message_format);
@@ -404,50 +491,53 @@ impl<T: LinkTarget> SenderLink<T> {
             Ok(tag) => tag,
             Err(refused) => {
                 drop(entry);
-                return Err(refused.into());
+                return Err(refused);
             }
         };
         let put = self.unsettled.put(tag, entry);
         let is_kept = put.is_ok();
         drop(put);
-        if is_kept {
-            Ok(())
-        } else {
-            Err(LinkStateError::OutOfMemory)
-        }
+        if is_kept { Ok(()) } else { Err(AllocError) }
     }
 
-    // The tag under which a transfer's delivery is to be registered, where it is unsettled; by all
-    // tests of a transfer with a payload. The transfer is as it was.
-    fn tag_to_register(
+    // The input handle, the tag and the payload bytes of a frame for a transfer that names its
+    // delivery, where nothing is against it. The transfer is as it was.
+    fn admit_tagged(
         &self,
         transfer: &mut Transfer,
         payload: &Payload,
-    ) -> Result<DeliveryTag, LinkStateError>
-        ensures tag { IfOk result (λ tag. transfer.old.delivery_tag ≡ Some tag) }
-        ensures refused { Answers result (tagged_transfer_tests self.now transfer.old payload.now) }
+    ) -> Result<(InputHandle, DeliveryTag, usize), LinkStateError>
+        ensures handle { IfOk result (λ sent. self.now.input_handle ≡ Some sent.0) }
+        ensures tag { IfOk result (λ sent. transfer.old.delivery_tag ≡ Some sent.1) }
+        ensures limit { IfOk result (λ sent.
+            sent.2 ≡ limit_of_payload transfer.old self.now.max_frame_size) }
+        ensures some { IfOk result (λ sent. 0 < length payload.now → 0 < sent.2) }
+        ensures refused { AnswersThenOutOfMemory LinkStateError.OutOfMemory result
+            (tagged_transfer_tests self.now transfer.old payload.now) }
         ensures same { transfer.new ≡ transfer.old }
     {
-        let has_room = payload_limit(transfer, self.max_frame_size, payload).is_some();
+        let limit = payload_limit(transfer, self.max_frame_size, payload);
         let Some(tag) = &transfer.delivery_tag else {
             return Err(LinkStateError::IllegalState);
         };
-        if self.input_handle.is_none() {
+        let Some(input_handle) = self.input_handle else {
             return Err(LinkStateError::IllegalState);
-        }
+        };
         if !self.is_settled_on_send(transfer) && self.unsettled.contains(tag) {
             return Err(LinkStateError::TagPending);
         }
-        if !has_room {
+        let Some(limit) = limit else {
             return Err(LinkStateError::NoRoom);
-        }
-        Ok(tag.clone()?)
+        };
+        Ok((input_handle, tag.clone()?, limit))
     }
 
     /// The frames of a payload with this transfer, and whether it goes out settled. The link is as it
     /// was.
     ///
-    /// Refused in this order: `IllegalState` without input handle; `NoRoom`; want of memory.
+    /// Refused in this order: `IllegalState` without input handle; `NoRoom`; `OutOfMemory`.
+    ///
+    /// Its cost grows with the number of frames; the payload is cut without copying its bytes.
     pub fn send_transfer_without_modifying_unsettled_map(
         &self,
         mut transfer: Transfer,
@@ -456,8 +546,9 @@ impl<T: LinkTarget> SenderLink<T> {
         ensures settled { IfOk result (λ sent. sent.0 ≡ settled_on_send self.now transfer) }
         ensures sent { IfOk result (λ sent. IsSent self.now transfer payload.now sent.1.items) }
         ensures fewest { IfOk result (λ sent.
-            Least payload.now (limit_of_payload transfer self.now.max_frame_size) (length sent.1.items)) }
-        ensures refused { Answers result (transfer_tests self.now transfer payload.now) }
+            IsFewestPieces payload.now (limit_of_payload transfer self.now.max_frame_size) (length sent.1.items)) }
+        ensures refused { AnswersThenOutOfMemory LinkStateError.OutOfMemory result
+            (transfer_tests self.now transfer payload.now) }
     {
         let is_settled = self.is_settled_on_send(&transfer);
         let Some(input_handle) = self.input_handle else {
@@ -468,15 +559,16 @@ impl<T: LinkTarget> SenderLink<T> {
             drop(transfer);
             return Err(LinkStateError::NoRoom);
         };
-        let frames = frames(self.alloc, input_handle, &transfer, payload, limit);
-        drop(transfer);
-        Ok((is_settled, frames?))
+        let frames = frames(self.alloc, input_handle, transfer, payload, limit)?;
+        Ok((is_settled, frames))
     }
 }
 
-// The tag of the delivery that a count stands for: its four bytes, the highest first.
-fn tag_of_count(alloc: Global, count: SequenceNo) -> Result<DeliveryTag, AllocError>
-    ensures { IfOk result (λ tag. tag ≡ to_be_bytes w32 count) }
+// A tag of these bytes, twice: for the answer of a send, and for its transfer.
+fn tags_of(alloc: Global, bytes: &[u8]) -> Result<(DeliveryTag, DeliveryTag), AllocError>
+    ensures { IfOk result (λ tags. (tags.0 ≡ bytes.now) × (tags.1 ≡ bytes.now)) }
 {
-    Ok(DeliveryTag::from(count.to_be_bytes().to_vec(alloc)?))
+    let tag = DeliveryTag::from(bytes.to_vec(alloc)?);
+    let named = DeliveryTag::from(bytes.to_vec(alloc)?);
+    Ok((tag, named))
 }

@@ -1,1 +1,2 @@
+pub mod SerialLemmas
 pub mod Worked

@@ -1,6 +1,6 @@
 -- Values of the definitions that were worked out by hand: docs/DEFINITIONS.md lists them.
-use Rattle.std.proofs.Common.{◌≡◌, pos, negsuc, true, false, refl, Some, None}
-use Rattle.amqp_link_state.specs.Counts.{sdiff, granted, limit_of, after_consuming}
+use Rattle.std.proofs.Common.{◌≡◌, ◌+◌, ◌*◌, ◌^◌, pos, negsuc, true, false, refl, Some, None}
+use Rattle.amqp_link_state.specs.Counts.{sdiff, granted, count_limit, after_consuming}
 use Rattle.amqp_link_state.specs.Counts.{flow_of, credit_after, sender_after, sender_reply, receiver_after, receiver_reply}
 use Rattle.amqp_link_state.specs.Counts.{with_stated, stated_flow}
 use Rattle.amqp_link_state.specs.declared.state.LinkFlowStateInner.{LinkFlowStateInner}
@@ -8,6 +8,10 @@ use Rattle.amqp_link_types.specs.declared.types.performatives.LinkFlow.{LinkFlow
 
 count_wraps : sdiff 2 4294967290 ≡ pos 8
 count_wraps = refl
+
+-- of numbers past 2^32 too
+count_of_any_size : sdiff (5 * 2 ^ 32) (3 * 2 ^ 32 + 7) ≡ negsuc 6
+count_of_any_size = refl
 
 count_behind : sdiff 2147483648 0 ≡ negsuc 2147483647
 count_behind = refl
@@ -31,10 +35,10 @@ at_the_wrap = record {
   properties = None;
 }
 
-limit_at_the_wrap : limit_of at_the_wrap ≡ 2
+limit_at_the_wrap : count_limit at_the_wrap ≡ 2
 limit_at_the_wrap = refl
 
-limit_stays : limit_of (after_consuming 1 at_the_wrap) ≡ 2
+limit_stays : count_limit (after_consuming 1 at_the_wrap) ≡ 2
 limit_stays = refl
 
 -- a receiver that has seen three deliveries fewer grants 10 and drains

@@ -8,10 +8,10 @@ use Rattle.amqp_link_state.specs.declared.state.LinkFlowStateInner.{LinkFlowStat
 use Rattle.amqp_link_types.specs.declared.types.definitions.OutputHandle.{OutputHandle}
 use Rattle.amqp_link_types.specs.declared.types.performatives.LinkFlow.{LinkFlow}
 
--- the one number from -2^31 to 2^31 - 1 that is a - b but for a multiple of 2^32, of two counts
+-- the one number from -2^31 to 2^31 - 1 that is a - b but for a multiple of 2^32
 abbrev pub sdiff : ℕ → ℕ → ℤ
 sdiff a b =
-    let d = (a + (2 ^ 32 - b)) % 2 ^ 32 in
+    let d = (a + (2 ^ 32 - b % 2 ^ 32)) % 2 ^ 32 in
     if nat_lt d (2 ^ 31) then pos d else pos d -ℤ pos (2 ^ 32)
 
 -- a sender's credit at its own count, where a receiver at this count grants so much: what is under
@@ -20,8 +20,8 @@ abbrev pub granted : ℕ → ℕ → ℕ → ℕ
 granted count grant own = saturate_unsigned w32 (pos grant +ℤ sdiff count own)
 
 -- the count up to which the credit allows deliveries, which a spent credit does not move
-abbrev pub limit_of : LinkFlowStateInner → ℕ
-limit_of flow = (flow.delivery_count + flow.link_credit) % 2 ^ 32
+abbrev pub count_limit : LinkFlowStateInner → ℕ
+count_limit flow = (flow.delivery_count + flow.link_credit) % 2 ^ 32
 
 -- n credits went to the count
 abbrev pub after_consuming : ℕ → LinkFlowStateInner → LinkFlowStateInner

@@ -2,5 +2,6 @@
 //! delivery count and its credit, and the flows that tell of them.
 #![tactic(auto)]
 
+pub mod laws;
 pub mod role;
 pub mod state;

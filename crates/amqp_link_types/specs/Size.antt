@@ -202,6 +202,24 @@ attach_len a = described_len (
     ∷ option_map fields_len a.properties
     ∷ [])
 
+-- the fields of a transfer that follow its tag
+abbrev pub len_after_tag : Transfer → ℕ
+len_after_tag t = content (
+    option_map uint_len t.message_format
+    ∷ option_map bool_len t.settled
+    ∷ flag t.more
+    ∷ option_map mode_len t.rcv_settle_mode
+    ∷ option_map state_len t.state
+    ∷ flag t.resume
+    ∷ flag t.aborted
+    ∷ flag t.batchable
+    ∷ [])
+
+-- a transfer of which the tag and the fields that follow it have this length
+abbrev pub len_from_tag : Transfer → ℕ → ℕ
+len_from_tag t rest =
+    list_of (before (Some (uint_len t.handle.0)) (before (option_map uint_len t.delivery_id) rest))
+
 -- a transfer (2.7.5)
 unfoldable pub transfer_len : Transfer → ℕ
 transfer_len t = described_len (

@@ -1,18 +1,30 @@
 //! Deliveries: what a sender keeps of one and answers for it, and what a receiver hands out (2.6.12).
-ghost use Rattle.std.specs.Prelude.{◌≡◌, Ok, Err};
+ghost use Rattle.std.specs.Prelude.{◌≡◌, Ok, Err, IfOk};
 
 pub mod complete;
 pub mod info;
 
 use crate::types::{DeliveryState, DeliveryTag, LinkStateError, MessageFormat, Payload};
+use amqp_link_values::copy::copy_of;
 pub use complete::Delivery;
 pub use info::DeliveryInfo;
+use std::alloc::AllocError;
 
 /// What became of a delivery: its state at the other end, if one was told, or why none will be.
 pub type DeliveryOutcome = Result<Option<DeliveryState>, LinkStateError>;
 
 /// The deliveries that a call ended, and what became of each, in order.
 pub type Outcomes = Vec<(DeliveryTag, DeliveryOutcome)>;
+
+/// A copy of what became of a delivery. May allocate.
+pub fn copy_of_outcome(outcome: &DeliveryOutcome) -> Result<DeliveryOutcome, AllocError>
+    ensures { IfOk result (λ copy. copy ≡ outcome.now) }
+{
+    match outcome {
+        Ok(state) => Ok(Ok(copy_of(state)?)),
+        Err(error) => Ok(Err(error.clone()?)),
+    }
+}
 
 /// A delivery that was sent and is not settled (2.6.12).
 #[derive(Debug, PartialEq, Eq, Drop)]

@@ -1,8 +1,10 @@
 //! The frames of a link (2.7).
-ghost use Rattle.std.specs.Prelude.{◌≡◌, option_copied};
+ghost use Rattle.std.specs.Prelude.{◌≡◌, IfOk, option_copied};
 ghost use Rattle.amqp_link_types.specs.Frames.{cleared, link_transfer, performative_of};
 
 use crate::types::{Attach, Detach, Disposition, InputHandle, LinkFlow, Payload, Transfer};
+use amqp_link_values::copy::copy_of;
+use std::alloc::AllocError;
 
 /// A transfer with its payload, as it stands in one frame (2.7.5).
 #[derive(Debug, PartialEq, Eq, Drop)]
@@ -56,6 +58,26 @@ impl LinkFrame {
             None => false,
         }
     }
+}
+
+/// The transfer of the further frames of a delivery, without what only its first transfer has to
+/// state (2.7.5). Only the copy of a state may allocate: the tag is not copied.
+pub fn continuation_of(transfer: &Transfer) -> Result<Transfer, AllocError>
+    ensures { IfOk result (λ further. further ≡ cleared transfer.now) }
+{
+    Ok(Transfer {
+        handle: transfer.handle,
+        delivery_id: None,
+        delivery_tag: None,
+        message_format: None,
+        settled: None,
+        more: transfer.more,
+        rcv_settle_mode: None,
+        state: copy_of(&transfer.state)?,
+        resume: transfer.resume,
+        aborted: transfer.aborted,
+        batchable: transfer.batchable,
+    })
 }
 
 /// Clears what only the first transfer of a delivery has to say (2.7.5): its delivery id, tag,

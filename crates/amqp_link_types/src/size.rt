@@ -8,7 +8,7 @@ ghost use Rattle.std.specs.Prelude.{Some, option_map};
 ghost use Rattle.amqp_link_values.specs.Length.{IsU64Of};
 ghost use Rattle.amqp_link_types.specs.Size.{before as slot, list_of, flag};
 ghost use Rattle.amqp_link_types.specs.Size.{mode_len, error_len, state_len};
-ghost use Rattle.amqp_link_types.specs.Size.{rejected_len as rejected_length, transfer_len};
+ghost use Rattle.amqp_link_types.specs.Size.{rejected_len as rejected_length, transfer_len, len_after_tag, len_from_tag};
 ghost use Rattle.amqp_link_types.specs.Size.{modified_len as modified_length, outcome_len};
 
 mod attach;
@@ -16,7 +16,7 @@ mod terminus;
 
 use crate::types::{DeliveryState, Error, Fields, Outcome, ReceiverSettleMode, Transfer};
 use amqp_link_values::length::EncodedLen;
-use amqp_link_values::length::value::compound_len;
+use amqp_link_values::length::value::{compound_len, text_len};
 
 // ---- described lists
 
@@ -165,17 +165,42 @@ impl EncodedLen for Transfer {
 
     #[tactic(auto, using(crate::proofs::Sizes::sizes), unfolding(crate::specs::Size::transfer_len))]
     fn encoded_len(&self) -> Option<u64> {
-        let rest = before_flag(self.batchable, 0)?;
-        let rest = before_flag(self.aborted, rest)?;
-        let rest = before_flag(self.resume, rest)?;
-        let rest = before_optional(&self.state, rest)?;
-        let rest = before_optional(&self.rcv_settle_mode, rest)?;
-        let rest = before_flag(self.more, rest)?;
-        let rest = before_optional(&self.settled, rest)?;
-        let rest = before_optional(&self.message_format, rest)?;
-        let rest = before_optional(&self.delivery_tag, rest)?;
-        let rest = before_optional(&self.delivery_id, rest)?;
-        let rest = before_given(&self.handle.0, rest)?;
-        described(rest)
+        let rest = before_optional(&self.delivery_tag, fields_after_tag(self)?)?;
+        described_before_tag(self, rest)
     }
+}
+
+impl Transfer {
+    /// How many bytes the transfer takes with a tag of these bytes in place of its own, so that a
+    /// sender can measure a transfer before it makes the tag. Does not allocate.
+    #[tactic(auto, using(crate::proofs::Sizes::sizes), unfolding(crate::specs::Size::transfer_len))]
+    pub fn encoded_len_with_tag(&self, tag: &[u8]) -> Option<u64>
+        ensures { IsU64Of (transfer_len (record self.now { delivery_tag = Some tag.now })) result }
+    {
+        let rest = before(Some(text_len(tag.len())?), fields_after_tag(self)?)?;
+        described_before_tag(self, rest)
+    }
+}
+
+// The fields of a transfer that follow its tag.
+fn fields_after_tag(transfer: &Transfer) -> Option<u64>
+    ensures { IsU64Of (len_after_tag transfer.now) result }
+{
+    let rest = before_flag(transfer.batchable, 0)?;
+    let rest = before_flag(transfer.aborted, rest)?;
+    let rest = before_flag(transfer.resume, rest)?;
+    let rest = before_optional(&transfer.state, rest)?;
+    let rest = before_optional(&transfer.rcv_settle_mode, rest)?;
+    let rest = before_flag(transfer.more, rest)?;
+    let rest = before_optional(&transfer.settled, rest)?;
+    before_optional(&transfer.message_format, rest)
+}
+
+// A transfer of which the tag and the fields that follow it take `rest` bytes.
+fn described_before_tag(transfer: &Transfer, rest: u64) -> Option<u64>
+    ensures { IsU64Of (len_from_tag transfer.now rest) result }
+{
+    let rest = before_optional(&transfer.delivery_id, rest)?;
+    let rest = before_given(&transfer.handle.0, rest)?;
+    described(rest)
 }

@@ -1,10 +1,10 @@
 //! Copies of parts that may be absent.
-ghost use Rattle.std.specs.Prelude.{◌≡◌, IfOk, OnErr, is_some, true};
+ghost use Rattle.std.specs.Prelude.{◌≡◌, ◌||◌, IfOk, OnErr, is_some, true};
 
 use std::alloc::AllocError;
 
-/// A copy of what may be absent, for a type whose copies are equal to what they copy. Takes none
-/// where it is absent.
+/// A copy of what may be absent, for a type whose copies are equal to what they copy. Where it is
+/// absent this does not allocate.
 pub fn copy_of<T: Clone>(value: &Option<T>) -> Result<Option<T>, AllocError>
     requires { (t c : T) → T.is_clone t c → c ≡ t }
     ensures copy { IfOk result (λ copy. copy ≡ value.now) }
@@ -16,7 +16,7 @@ pub fn copy_of<T: Clone>(value: &Option<T>) -> Result<Option<T>, AllocError>
     }
 }
 
-/// Copies of two such parts. May take memory.
+/// Copies of two such parts. Where both are absent this does not allocate.
 pub fn copies_of<T: Clone + Drop, U: Clone>(
     first: &Option<T>,
     second: &Option<U>,
@@ -25,6 +25,7 @@ pub fn copies_of<T: Clone + Drop, U: Clone>(
     requires second { (u c : U) → U.is_clone u c → c ≡ u }
     ensures first { IfOk result (λ copies. copies.0 ≡ first.now) }
     ensures second { IfOk result (λ copies. copies.1 ≡ second.now) }
+    ensures memory { OnErr result ((is_some first.now || is_some second.now) ≡ true) }
 {
     Ok((copy_of(first)?, copy_of(second)?))
 }

@@ -1,17 +1,20 @@
 //! Maps from symbols to values (2.8.13).
-ghost use Rattle.std.specs.Prelude.{◌≡◌, ◌↔◌, [], map, length, option_map};
+ghost use Rattle.std.specs.Prelude.{◌≡◌, ◌↔◌, ◌<◌, ◌+◌, ◌==◌, ℕ, List, [], map, length, option_map};
 ghost use Rattle.std.specs.Prelude.{IsTrue, None, OnOk, OnErr, IfOk, IfErr};
 ghost use Rattle.std.specs.Cmp.{partial_equiv_from_equiv};
 ghost use Rattle.std.specs.Map.{lookup};
+ghost use Rattle.std.specs.Map.Iter.{ShowsInOrder, GivesInOrder, deref_pair};
 ghost use Rattle.std.specs.Str.{bytes_eq};
 ghost use Rattle.indexmap.specs.IndexMap.{insert_entry, insert_all};
 ghost use Rattle.amqp_link_values.specs.Same.{same_entries};
 ghost use Rattle.amqp_link_values.specs.View.{view, view_entry};
 ghost use Rattle.amqp_link_values.specs.SameLaws.{entries_equiv};
+ghost use Rattle.amqp_link_values.specs.declared.value.Value.{Value as TheValue};
 
 use crate::symbol::Symbol;
 use crate::value::Value;
 use indexmap::IndexMap;
+use indexmap::map::{IntoIter, Iter};
 use std::alloc::{AllocError, AllocFailed, Global};
 use std::marker::Model;
 
@@ -42,7 +45,7 @@ impl Model for Fields {
 }
 
 impl Fields {
-    /// No fields. Takes no memory.
+    /// No fields. Does not allocate.
     pub fn new(alloc: Global) -> Fields
         ensures { result ≡ [] }
     {
@@ -58,6 +61,29 @@ impl Fields {
         self.entries.len()
     }
 
+    /// Whether there are none.
+    pub fn is_empty(&self) -> bool
+        ensures { result ≡ (length self.now == 0) }
+    {
+        self.len() == 0
+    }
+
+    /// The names with their values, in the order in which the names were first put.
+    pub fn iter(&self) -> Iter<'_, Symbol, Value>
+        ensures pairs { map view_entry result ≡ self.now }
+        ensures runs { ShowsInOrder (deref_pair {K = List ℕ} {X = TheValue}) }
+    {
+        self.entries.iter()
+    }
+
+    /// The names with their values in the same order, given up. Does not allocate.
+    pub fn into_pairs(self) -> IntoIter<Symbol, Value>
+        ensures pairs { map view_entry result ≡ self }
+        ensures runs { GivesInOrder (List ℕ × TheValue) }
+    {
+        self.entries.into_iter()
+    }
+
     /// The value under a name.
     pub fn get(&self, name: &Symbol) -> Option<&Value>
         ensures { option_map (λ v. view v.now) result ≡ lookup (bytes_eq name.now) self.now }
@@ -65,8 +91,8 @@ impl Fields {
         self.entries.get(name)
     }
 
-    /// Puts a value under a name: in the place of the one that is there, which is answered, or
-    /// last. Only a new name takes memory; where it is wanting both come back.
+    /// Puts a value under a name: in the place of the one that is there, which is returned, or
+    /// last. Allocates only for a new name; where it is out of memory it returns both.
     pub fn insert(
         &mut self,
         name: Symbol,
@@ -81,10 +107,15 @@ impl Fields {
         self.entries.insert(name, value)
     }
 
-    /// These fields with those of `other` put one by one. Both stay as they are.
+    /// These fields with those of `other` put one by one. Both stay as they are. Where both are
+    /// empty this does not allocate.
     pub fn merged(&self, other: &Fields) -> Result<Fields, AllocError>
-        ensures { IfOk result (λ both. both ≡ insert_all bytes_eq self.now other.now) }
+        ensures merged { IfOk result (λ both. both ≡ insert_all bytes_eq self.now other.now) }
+        ensures memory { OnErr result (0 < length self.now + length other.now) }
     {
+        if other.is_empty() {
+            return self.clone();
+        }
         let mut both = self.clone()?;
         for (name, value) in other.entries.iter() {
             let name = name.clone()?;
@@ -104,7 +135,14 @@ impl Fields {
 impl Clone for Fields {
     ghost is_clone = { λ fields copy. copy ≡ fields };
 
-    fn clone(&self) -> Result<Fields, AllocError> {
+    // The copy of a map allocates even where the map is empty, so that case stands apart.
+    fn clone(&self) -> Result<Fields, AllocError>
+        ensures copy { IfOk result (λ copy. copy ≡ self.now) }
+        ensures memory { OnErr result (0 < length self.now) }
+    {
+        if self.is_empty() {
+            return Ok(Fields::new(*self.entries.allocator()));
+        }
         Ok(Fields {
             entries: self.entries.clone()?,
         })

@@ -7,6 +7,7 @@ ghost use Rattle.std.specs.Hash as fed;
 ghost use Rattle.std.specs.Str.{bytes_eq};
 ghost use Rattle.std.proofs.Common.{rules};
 
+use crate::text::Text;
 use std::alloc::AllocError;
 use std::hash::{Hash, Hasher};
 use std::marker::Model;
@@ -17,15 +18,15 @@ use std::marker::Model;
 /// are, and equal ones hash alike.
 #[derive(Debug, Drop)]
 pub struct Symbol {
-    text: String,
+    text: Text,
 }
 
 impl Model for Symbol {
-    ghost use Rattle.std.specs.Prelude.{ℕ, List, string_bytes};
+    ghost use Rattle.std.specs.Prelude.{ℕ, List};
 
     ghost Value = { List ℕ };
 
-    ghost view = { λ symbol. string_bytes symbol.text };
+    ghost view = { λ symbol. symbol.text };
 }
 
 impl Symbol {
@@ -40,7 +41,7 @@ impl Symbol {
     pub fn into_string(self) -> String
         ensures { string_bytes result ≡ self }
     {
-        self.text
+        self.text.into_string()
     }
 }
 
@@ -48,7 +49,9 @@ impl From<String> for Symbol {
     ghost from_gives = { λ text symbol. symbol ≡ string_bytes text };
 
     fn from(text: String) -> Symbol {
-        Symbol { text }
+        Symbol {
+            text: Text::from(text),
+        }
     }
 }
 
@@ -85,6 +88,6 @@ impl Hash for Symbol {
     ghost respects_eq = { Prim.search (hashing, rules) };
 
     fn hash<H: Hasher>(&self, state: &mut H) {
-        self.as_str().as_bytes().hash(state);
+        self.text.hash(state);
     }
 }

@@ -4,7 +4,7 @@ use Rattle.std.specs.Prelude.{All}
 use Rattle.std.specs.Char.{digit_value}
 use Rattle.std.specs.Str.Parse.{AllDigits}
 use Rattle.std.proofs.lemmas.List.{append_assoc, drop_more}
-use Rattle.line_text.specs.Hex.{bytes_of}
+use Rattle.line_text.specs.Hex.{hex_bytes}
 
 -- the digit at an index
 pub AllDigits-at : (radix : ℕ) (text : List ℕ) (k : ℕ) → AllDigits radix text → k < length text
@@ -37,8 +37,8 @@ drop-pair text i within =
 -- one pair more is read
 pub bytes_of-step : (text bytes : List ℕ) (i byte : ℕ) → 2 * i + 1 < length text
     → byte ≡ digit_value (slice_index text (2 * i)) * 16 + digit_value (slice_index text (2 * i + 1))
-    → bytes ++ bytes_of (drop (2 * i) text) ≡ bytes_of text
-    → (bytes ++ byte ∷ []) ++ bytes_of (drop (2 * (i + 1)) text) ≡ bytes_of text
+    → bytes ++ hex_bytes (drop (2 * i) text) ≡ hex_bytes text
+    → (bytes ++ byte ∷ []) ++ hex_bytes (drop (2 * (i + 1)) text) ≡ hex_bytes text
 bytes_of-step text bytes i byte within value read =
-    let pair = ap bytes_of (drop-pair text i within) in
+    let pair = ap hex_bytes (drop-pair text i within) in
     rw (append_assoc, value) (rw pair at read)

@@ -4,10 +4,10 @@ use Rattle.std.specs.Char.{digit_value}
 use Rattle.std.specs.Str.Parse.{IsNumeral}
 
 -- the bytes that pairs of digits write
-abbrev pub bytes_of : List ℕ → List ℕ
-bytes_of [] = []
-bytes_of (digit ∷ []) = []
-bytes_of (high ∷ low ∷ rest) = (digit_value high * 16 + digit_value low) ∷ bytes_of rest
+abbrev pub hex_bytes : List ℕ → List ℕ
+hex_bytes [] = []
+hex_bytes (digit ∷ []) = []
+hex_bytes (high ∷ low ∷ rest) = (digit_value high * 16 + digit_value low) ∷ hex_bytes rest
 
 -- the text writes bytes: pairs of digits of either case, one pair or more, or `-` for no byte
 abbrev pub IsHexText : List ℕ → Type 0

@@ -1,7 +1,7 @@
 //! Bytes as hexadecimal digits, two a byte, `-` for none.
 ghost use Rattle.std.specs.Prelude.{◌≡◌, ◌%◌, length, IfOk, OnErr, MatchOption};
 ghost use Rattle.std.specs.Str.Parse.{AllDigits};
-ghost use Rattle.line_text.specs.Hex.{IsHexText, bytes_of};
+ghost use Rattle.line_text.specs.Hex.{IsHexText, hex_bytes};
 
 use crate::digits::{are_digits, hex_value};
 use std::alloc::{AllocError, Global};
@@ -12,7 +12,7 @@ use std::alloc::{AllocError, Global};
 pub fn parse_bytes(alloc: Global, text: &[u8]) -> Result<Option<Vec<u8>>, AllocError>
     ensures ok { IfOk result (λ found.
         MatchOption found (¬ IsHexText text.now)
-        (λ bytes. IsHexText text.now × (bytes.items ≡ bytes_of text.now))) }
+        (λ bytes. IsHexText text.now × (bytes.items ≡ hex_bytes text.now))) }
     ensures err { OnErr result (IsHexText text.now) }
 {
     if text == b"-".as_slice() {
@@ -28,7 +28,7 @@ pub fn parse_bytes(alloc: Global, text: &[u8]) -> Result<Option<Vec<u8>>, AllocE
 fn pairs(alloc: Global, text: &[u8]) -> Result<Vec<u8>, AllocError>
     requires even { length text.now % 2 ≡ 0 }
     requires digits { AllDigits 16 text.now }
-    ensures { IfOk result (λ bytes. bytes.items ≡ bytes_of text.now) }
+    ensures { IfOk result (λ bytes. bytes.items ≡ hex_bytes text.now) }
 {
     let count = text.len() / 2;
     let mut bytes = Vec::with_capacity(alloc, count)?;

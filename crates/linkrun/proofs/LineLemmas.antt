@@ -3,7 +3,7 @@ use Rattle.std.proofs.Common.{◌≡◌, ℕ, ◌<◌, ◌^◌, List, ◌++◌, 
 use Rattle.std.specs.Prelude.{codes, MatchOption, OnErr}
 use Rattle.std.specs.Option.{SomeIff, option_map}
 use Rattle.std.specs.Str.Parse.{IsNumeral, digits_value}
-use Rattle.line_text.specs.Hex.{IsHexText, bytes_of}
+use Rattle.line_text.specs.Hex.{IsHexText, hex_bytes}
 use Rattle.linkrun.specs.Line.{IsNumber, Says}
 use Rattle.linkrun.specs.declared.event.Event.{Event}
 use Rattle.linkrun.specs.declared.event.Event.TheVariants.{Attach, Grant, Send, Arrive, Show}
@@ -37,10 +37,10 @@ arrive_read line text None is read =
 
 -- bytes behind `send` and `show` make an event
 pub send_said : (line text : List ℕ) → line ≡ codes "send " ++ text → IsHexText text → (event : Event) × Says line event
-send_said line text is digits = (Send (bytes_of text), (text, is, record { digits = digits; value = refl }))
+send_said line text is digits = (Send (hex_bytes text), (text, is, record { digits = digits; value = refl }))
 
 pub show_said : (line text : List ℕ) → line ≡ codes "show " ++ text → IsHexText text → (event : Event) × Says line event
-show_said line text is digits = (Show (bytes_of text), (text, is, record { digits = digits; value = refl }))
+show_said line text is digits = (Show (hex_bytes text), (text, is, record { digits = digits; value = refl }))
 
 -- a fact that holds anyway holds on an error
 pub OnErr-always : {T E : Type 0} (result : Result T E) (P : Type 0) → P → OnErr result P

@@ -1,7 +1,7 @@
 -- The lines of a script. An event is a word, one space, and the event's number or bytes.
 use Rattle.std.specs.Prelude.{◌≡◌, ℕ, ◌<◌, ◌^◌, ◌++◌, List, codes}
 use Rattle.std.specs.Str.Parse.{IsNumeral, digits_value}
-use Rattle.line_text.specs.Hex.{IsHexText, bytes_of}
+use Rattle.line_text.specs.Hex.{IsHexText, hex_bytes}
 use Rattle.linkrun.specs.declared.event.Event.{Event}
 use Rattle.linkrun.specs.declared.event.Event.TheVariants.{Attach, Grant, Send, Arrive, Show}
 
@@ -14,7 +14,7 @@ pub record IsNumber (text : List ℕ) (n : ℕ) : Type 0 where
 -- the text writes these bytes
 pub record IsBytes (text bytes : List ℕ) : Type 0 where
   pub digits : IsHexText text
-  pub value : bytes ≡ bytes_of text
+  pub value : bytes ≡ hex_bytes text
 
 -- the line begins with the word and its space, and P holds of the rest
 abbrev pub Begins : List ℕ → (List ℕ → Type 0) → List ℕ → Type 0

@@ -50,14 +50,17 @@ impl Deliveries {
         self.entries.get(tag)
     }
 
-    // Puts a delivery: in the place of the one that is there, or last.
-    pub(crate) fn put(&mut self, tag: DeliveryTag, progress: Progress) -> Result<(), AllocError>
+    // Puts a delivery in the place of the one that is there, which is answered, or last.
+    pub(crate) fn put(
+        &mut self,
+        tag: DeliveryTag,
+        progress: Progress,
+    ) -> Result<Option<Progress>, AllocError>
+        ensures before { IfOk result (λ before. before ≡ entry_at self.old tag) }
         ensures put { OnOk result (self.new ≡ with_entry self.old tag progress) }
         ensures kept { OnErr result (self.new ≡ self.old) }
     {
-        let before = self.entries.insert(tag, progress)?;
-        drop(before);
-        Ok(())
+        Ok(self.entries.insert(tag, progress)?)
     }
 
     // Takes a delivery out. The last pair moves into the gap.

@@ -5,8 +5,9 @@
 ghost use Rattle.std.specs.Prelude.{◌≡◌, ◌⊎◌, ℕ, [], false, None, Some, IfOk, OnOk, OnErr};
 ghost use Rattle.amqp_link_state.specs.declared.state.LinkState.{LinkState as TheState};
 ghost use Rattle.amqp_link_types.specs.declared.types.definitions.OutputHandle.{OutputHandle as TheHandle};
-ghost use Rattle.amqp_link_core.specs.Attaching.{Fits, with_entries};
+ghost use Rattle.amqp_link_core.specs.Attaching.{FitsFrame, with_entries};
 ghost use Rattle.amqp_link_core.specs.LinkStates.{Call, next_state};
+ghost use Rattle.amqp_link_core.specs.Shown.{attach_stated};
 ghost use Rattle.amqp_link.specs.Exchange.{CanAttach, MayStop, ends_at, asked, answered, plain_parts};
 ghost use Rattle.amqp_link_state.specs.Counts.{granted, stated_flow};
 ghost use Rattle.amqp_link.specs.Exchange.{IsFlow};
@@ -67,10 +68,11 @@ fn end_wants_memory<L: LinkAttach>(error: L::AttachError) -> AllocError
 // The attach of an end with all its deliveries goes out.
 fn send_whole<L: LinkAttach>(end: &mut L) -> Result<Attach, AllocError>
     requires copies { L.copies }
-    requires can { CanAttach (L.state end.old) (L.handle end.old) (L.whole end.old) (L.entries end.old) (L.frame_limit end.old) }
-    ensures sent { (number : TheHandle) → L.handle end.old ≡ Some number
-        → IfOk result (λ attach. attach ≡ with_entries (L.whole end.old number) (L.entries end.old) 0) }
-    ensures done { (next : TheState) → next_state Call.SendAttach false (L.state end.old) ≡ Some next
+    requires can { CanAttach (L.shown end.old) }
+    ensures sent { (number : TheHandle) → (L.shown end.old).output_handle ≡ Some number
+        → IfOk result (λ attach. attach
+        ≡ with_entries (attach_stated (L.shown end.old) number) (L.shown end.old).entries 0) }
+    ensures done { (next : TheState) → next_state Call.SendAttach false (L.shown end.old).local_state ≡ Some next
         → OnOk result (end.new ≡ L.attached end.old next) }
     ensures left { OnErr result (end.new ≡ end.old) }
 {
@@ -218,7 +220,7 @@ impl Ends {
     /// wanting; the ends stay where they have come to then.
     pub(crate) fn attach(&mut self, limit: u32) -> Result<(), AllocError>
         requires fits { (count : ℕ) × (self.old ≡ ends_at self.old.stage count self.old.limit)
-            × Fits (asked count) limit × Fits (answered count) limit }
+            × FitsFrame (asked count) limit × FitsFrame (answered count) limit }
         requires limit { (self.old.stage ≡ Apart) ⊎ (self.old.limit ≡ limit) }
         requires apart { self.old.stage ≡ Together → ⊥ }
         ensures done { (count : ℕ) → self.old ≡ ends_at self.old.stage count self.old.limit
@@ -238,7 +240,7 @@ impl Ends {
     // The sender's attach goes out, and on.
     fn ask(&mut self, limit: u32) -> Result<(), AllocError>
         requires { (count : ℕ) × (self.old ≡ ends_at Apart count self.old.limit)
-            × Fits (asked count) limit × Fits (answered count) limit }
+            × FitsFrame (asked count) limit × FitsFrame (answered count) limit }
         ensures done { (count : ℕ) → self.old ≡ ends_at Apart count self.old.limit
             → OnOk result (self.new ≡ ends_at Together count limit) }
         ensures left { (count : ℕ) → self.old ≡ ends_at Apart count self.old.limit
@@ -250,7 +252,7 @@ impl Ends {
 
     // The sender's attach goes out.
     fn send_asked(&mut self, limit: u32) -> Result<(), AllocError>
-        requires { (count : ℕ) × (self.old ≡ ends_at Apart count self.old.limit) × Fits (asked count) limit }
+        requires { (count : ℕ) × (self.old ≡ ends_at Apart count self.old.limit) × FitsFrame (asked count) limit }
         ensures done { (count : ℕ) → self.old ≡ ends_at Apart count self.old.limit
             → OnOk result (self.new ≡ ends_at Asked count limit) }
         ensures left { (count : ℕ) → self.old ≡ ends_at Apart count self.old.limit
@@ -270,7 +272,7 @@ impl Ends {
 
     // The receiver takes the sender's attach, and on.
     fn go_on_asked(&mut self) -> Result<(), AllocError>
-        requires { (count : ℕ) × (self.old ≡ ends_at Asked count self.old.limit) × Fits (answered count) self.old.limit }
+        requires { (count : ℕ) × (self.old ≡ ends_at Asked count self.old.limit) × FitsFrame (answered count) self.old.limit }
         ensures done { (count : ℕ) → self.old ≡ ends_at Asked count self.old.limit
             → OnOk result (self.new ≡ ends_at Together count self.old.limit) }
         ensures left { (count : ℕ) → self.old ≡ ends_at Asked count self.old.limit
@@ -287,7 +289,7 @@ impl Ends {
 
     // The receiver's attach goes out, and on.
     fn go_on_taken(&mut self) -> Result<(), AllocError>
-        requires { (count : ℕ) × (self.old ≡ ends_at Taken count self.old.limit) × Fits (answered count) self.old.limit }
+        requires { (count : ℕ) × (self.old ≡ ends_at Taken count self.old.limit) × FitsFrame (answered count) self.old.limit }
         ensures done { (count : ℕ) → self.old ≡ ends_at Taken count self.old.limit
             → OnOk result (self.new ≡ ends_at Together count self.old.limit) }
         ensures left { (count : ℕ) → self.old ≡ ends_at Taken count self.old.limit

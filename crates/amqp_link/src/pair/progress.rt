@@ -1,8 +1,8 @@
 //! What has come of one delivery, from its send on.
-ghost use Rattle.std.specs.Prelude.{◌≡◌, ◌++◌, None, Some, IfOk, OnOk, OnErr, IsSome, IsSomeAnd};
+ghost use Rattle.std.specs.Prelude.{◌≡◌, ◌++◌, None, Some, true, false, is_none, IfOk, OnOk, OnErr, IsSome, IsSomeAnd};
 ghost use Rattle.amqp_link_types.specs.Entries.{Entries, entry_at, with_entry};
 ghost use Rattle.amqp_link_types.specs.Frames.{payload_of};
-ghost use Rattle.amqp_link_core.specs.Held.{bytes_of};
+ghost use Rattle.amqp_link_core.specs.Held.{held_bytes};
 ghost use Rattle.amqp_link_payloads.specs.Position.{position};
 ghost use Rattle.amqp_link.specs.Receiving.{CanReceive, IsReceived};
 ghost use Rattle.amqp_link.specs.Steps.{held_after, received, begun};
@@ -54,13 +54,13 @@ fn go_on(held: &mut IncompleteTransfer, next: &LinkTransfer) -> Result<(u32, u64
     requires { CanReceive (Some held.old) (LinkFrame.TransferContinuation next.now) }
     ensures ok { OnOk result
         (held.new ≡ held_after (Some held.old) 0 (LinkFrame.TransferContinuation next.now)) }
-    ensures place { IfOk result (λ place. place ≡ position (bytes_of held.old ++ next.now.payload)) }
+    ensures place { IfOk result (λ place. place ≡ position (held_bytes held.old ++ next.now.payload)) }
     ensures err { OnErr result (held.new ≡ held.old) }
 {
     let payload = next.payload.clone()?;
     let transfer = next.performative.clone()?;
     match held.try_append(transfer, payload) {
-        Ok(()) => Ok((held.section_number(), held.section_offset())),
+        Ok(()) => Ok(held.position()),
         Err(error) => Err(transfer_wants_memory(error)),
     }
 }
@@ -84,7 +84,7 @@ impl Progress {
         match frame {
             LinkFrame::FirstTransfer(first) => {
                 let held = begin(alloc, first, id)?;
-                let (number, offset) = (held.section_number(), held.section_offset());
+                let (number, offset) = held.position();
                 self.held = Some(held);
                 self.whole = self.whole || !first.performative.more;
                 Ok((number, offset, self.whole))
@@ -120,13 +120,23 @@ fn blank() -> Progress
     }
 }
 
-/// A new delivery, of which nothing has come.
-pub(crate) fn open(deliveries: &mut Deliveries, tag: &DeliveryTag) -> Result<(), AllocError>
-    ensures ok { OnOk result (deliveries.new ≡ with_entry deliveries.old tag.now begun) }
+/// Adds a delivery of which nothing has come, unless there is one of the tag: then nothing changes.
+/// Answers whether it was added.
+pub(crate) fn open(deliveries: &mut Deliveries, tag: &DeliveryTag) -> Result<bool, AllocError>
+    ensures answer { IfOk result (λ added. added ≡ is_none (entry_at deliveries.old tag.now)) }
+    ensures added { IfOk result (λ added. added ≡ true
+        → deliveries.new ≡ with_entry deliveries.old tag.now begun) }
+    ensures present { IfOk result (λ added. added ≡ false → deliveries.new ≡ deliveries.old) }
     ensures left { OnErr result (deliveries.new ≡ deliveries.old) }
 {
-    let tag = tag.clone()?;
-    deliveries.put(tag, blank())
+    let own = tag.clone()?;
+    match deliveries.put(own, blank())? {
+        None => Ok(true),
+        Some(before) => {
+            put_back(deliveries, tag, before);
+            Ok(false)
+        }
+    }
 }
 
 /// Takes back what `open` did. Takes no memory.

@@ -4,7 +4,7 @@ ghost use Rattle.std.specs.Int.{w32, to_be_bytes};
 ghost use Rattle.amqp_link_sender.specs.Room.{payload_limit};
 ghost use Rattle.amqp_link.specs.Sendable.{CanSend};
 ghost use Rattle.amqp_link_sender.specs.Senders.{IsSent, next_tag as tag_of_next};
-ghost use Rattle.amqp_link_sender.specs.Split.{Least};
+ghost use Rattle.amqp_link_sender.specs.Split.{IsFewestPieces};
 ghost use Rattle.amqp_link.specs.Steps.{after_sending, delivery_transfer};
 
 use amqp_link_core::endpoint::LinkExt;
@@ -42,7 +42,7 @@ pub(crate) fn send_unsettled(
     ensures tag { IfOk result (λ sent. sent.0 ≡ tag_of_next sender.old) }
     ensures framed { IfOk result (λ sent.
         IsSent sender.old (delivery_transfer (tag_of_next sender.old)) payload.now sent.1.items) }
-    ensures fewest { IfOk result (λ sent. Least payload.now
+    ensures fewest { IfOk result (λ sent. IsFewestPieces payload.now
         (payload_limit (delivery_transfer (tag_of_next sender.old)) sender.old.max_frame_size)
         (length sent.1.items)) }
     ensures done { OnOk result (sender.new ≡ after_sending sender.old payload.now) }

@@ -1,15 +1,16 @@
-//! What an end says in the attach that it sends, and what it takes of one that comes (2.7.3).
-ghost use Rattle.std.specs.Prelude.{◌≡◌, IfOk};
-ghost use Rattle.std.specs.Option.{option_map};
-ghost use Rattle.amqp_link_core.specs.AttachSent.{limit_of, smaller_limit, joined, is_foreign as is_foreign_to};
+//! What an endpoint states in the attach that it sends, and what it takes of one that arrives (2.7.3).
+ghost use Rattle.std.specs.Prelude.{◌≡◌, ◌&&◌, ◌||◌, true, IfOk, OnErr, is_some};
+ghost use Rattle.std.specs.Option.{option_map, option_or};
+ghost use Rattle.amqp_link_core.specs.AttachFields.{message_limit, smaller_limit, merged_properties, is_foreign as is_foreign_to};
 
 use crate::endpoint::target::LinkTarget;
-use amqp_link_types::types::{Fields, Source, Symbols, TargetArchetype, Text};
-use std::alloc::{AllocError, Global};
+use amqp_link_types::types::{Fields, Source, TargetArchetype, Text};
+use amqp_link_values::copy::copy_of;
+use std::alloc::AllocError;
 
-/// The limit of a message's bytes as an attach says it: none for 0. Takes no memory.
+/// The max-message-size that an attach states: none for 0. Does not allocate.
 pub fn sent_limit(max_message_size: u64) -> Option<u64>
-    ensures { result ≡ limit_of max_message_size }
+    ensures { result ≡ message_limit max_message_size }
 {
     if max_message_size == 0 {
         None
@@ -18,8 +19,8 @@ pub fn sent_limit(max_message_size: u64) -> Option<u64>
     }
 }
 
-/// The smaller of two limits of a message's bytes, where 0 and none are no limit (2.7.3). Takes no
-/// memory.
+/// The smaller of two limits of a message's bytes, where 0 and none are no limit (2.7.3). Does not
+/// allocate.
 pub fn get_max_message_size(local: u64, remote: Option<u64>) -> u64
     ensures { result ≡ smaller_limit local remote }
 {
@@ -30,12 +31,13 @@ pub fn get_max_message_size(local: u64, remote: Option<u64>) -> u64
     }
 }
 
-/// What is sent for a target. Refused where memory is wanting.
+/// What is sent for a target. Only a target that is there allocates.
 pub fn archetype_of<T: LinkTarget>(
     target: &Option<T>,
 ) -> Result<Option<TargetArchetype>, AllocError>
     requires { (t c : T) → T.is_clone t c → c ≡ t }
-    ensures { IfOk result (λ sent. sent ≡ option_map T.sent_as target.now) }
+    ensures sent { IfOk result (λ sent. sent ≡ option_map T.sent_as target.now) }
+    ensures memory { OnErr result (is_some target.now ≡ true) }
 {
     match target {
         Some(target) => {
@@ -46,7 +48,7 @@ pub fn archetype_of<T: LinkTarget>(
     }
 }
 
-/// What is sent for the two termini. Refused where memory is wanting.
+/// What is sent for the two termini. Only those that are there allocate.
 pub fn termini_of<T: LinkTarget>(
     source: &Option<Source>,
     target: &Option<T>,
@@ -54,8 +56,9 @@ pub fn termini_of<T: LinkTarget>(
     requires { (t c : T) → T.is_clone t c → c ≡ t }
     ensures source { IfOk result (λ termini. termini.0 ≡ source.now) }
     ensures target { IfOk result (λ termini. termini.1 ≡ option_map T.sent_as target.now) }
+    ensures memory { OnErr result ((is_some source.now || is_some target.now) ≡ true) }
 {
-    let source = source.clone()?;
+    let source = copy_of(source)?;
     match archetype_of(target) {
         Ok(target) => Ok((source, target)),
         Err(refused) => {
@@ -65,19 +68,7 @@ pub fn termini_of<T: LinkTarget>(
     }
 }
 
-/// What is sent for the capabilities. Refused where memory is wanting.
-pub fn capabilities_of(
-    offered: &Option<Symbols>,
-    desired: &Option<Symbols>,
-) -> Result<(Option<Symbols>, Option<Symbols>), AllocError>
-    ensures offered { IfOk result (λ capabilities. capabilities.0 ≡ offered.now) }
-    ensures desired { IfOk result (λ capabilities. capabilities.1 ≡ desired.now) }
-{
-    let offered = offered.clone()?;
-    Ok((offered, desired.clone()?))
-}
-
-/// What is sent for the name and the properties. Refused where memory is wanting.
+/// What is sent for the name and the properties.
 pub fn name_and_properties_of(
     name: &Text,
     properties: &Option<Fields>,
@@ -86,10 +77,10 @@ pub fn name_and_properties_of(
     ensures properties { IfOk result (λ copies. copies.1 ≡ properties.now) }
 {
     let name = name.clone()?;
-    Ok((name, properties.clone()?))
+    Ok((name, copy_of(properties)?))
 }
 
-/// Whether a target came that is not of the link's kind. Takes no memory.
+/// Whether a target arrived that is not of the link's kind. Does not allocate.
 pub fn is_foreign<T: LinkTarget>(target: Option<TargetArchetype>) -> bool
     ensures { result ≡ is_foreign_to T.admitted target }
 {
@@ -99,17 +90,21 @@ pub fn is_foreign<T: LinkTarget>(target: Option<TargetArchetype>) -> bool
     }
 }
 
-/// The own properties with those that came put one by one (2.7.3). Refused where memory is wanting.
-pub fn with_properties(
-    alloc: Global,
+/// What is to take the place of the own properties once those of the peer's attach arrived (2.7.3): the
+/// own ones with the peer's put one by one, or the peer's where there are no own ones. None if the own
+/// ones stay, since the attach has none.
+///
+/// Allocates only where both have properties.
+pub fn merged_with(
     own: &Option<Fields>,
     theirs: Option<Fields>,
 ) -> Result<Option<Fields>, AllocError>
-    ensures { IfOk result (λ both. both ≡ joined own.now theirs) }
+    ensures merged { IfOk result (λ changed. option_or changed own.now ≡ merged_properties own.now theirs) }
+    ensures memory { OnErr result ((is_some own.now && is_some theirs) ≡ true) }
 {
     match (own, theirs) {
+        (_, None) => Ok(None),
+        (None, Some(theirs)) => Ok(Some(theirs)),
         (Some(own), Some(theirs)) => Ok(Some(own.merged(&theirs)?)),
-        (None, Some(theirs)) => Ok(Some(Fields::new(alloc).merged(&theirs)?)),
-        (_, None) => own.clone(),
     }
 }

@@ -4,7 +4,7 @@
 //! Their number is halved until the attach fits, and the map is marked as incomplete where it is
 //! halved at all.
 ghost use Rattle.std.specs.Prelude.{◌≡◌, ◌↔◌, true, IsTrue, IfSome, IfNone, take, option_map};
-ghost use Rattle.amqp_link_core.specs.Attaching.{with_entries, Fits, NeverFits, IsDivided};
+ghost use Rattle.amqp_link_core.specs.Attaching.{with_entries, FitsFrame, NeverFitsFrame, IsDivided};
 
 use amqp_link_types::types::{Attach, DeliveryState, UnsettledMap};
 use amqp_link_values::length::EncodedLen;
@@ -12,7 +12,7 @@ use amqp_link_values::length::EncodedLen;
 /// Whether the attach fits in a frame of at most `max_frame_size` bytes, of which four are the
 /// frame's header. Takes no memory.
 pub fn fits(attach: &Attach, max_frame_size: u32) -> bool
-    ensures { IsTrue result ↔ Fits attach.now max_frame_size }
+    ensures { IsTrue result ↔ FitsFrame attach.now max_frame_size }
 {
     let limit = u64::from(max_frame_size);
     match attach.encoded_len() {
@@ -29,7 +29,7 @@ pub fn fits_whole(
     entries: UnsettledMap<Option<DeliveryState>>,
     max_frame_size: u32,
 ) -> bool
-    ensures { IsTrue result ↔ Fits (with_entries attach entries 0) max_frame_size }
+    ensures { IsTrue result ↔ FitsFrame (with_entries attach entries 0) max_frame_size }
 {
     let whole = with_all(attach, entries);
     let is_within = fits(&whole, max_frame_size);
@@ -50,7 +50,7 @@ pub fn divided(
     max_frame_size: u32,
 ) -> Option<Attach>
     ensures sent { IfSome result (λ sent. IsDivided attach entries max_frame_size sent) }
-    ensures none { IfNone result (NeverFits attach entries max_frame_size) }
+    ensures none { IfNone result (NeverFitsFrame attach entries max_frame_size) }
 {
     let mut count = entries.len();
     let mut sent = with_all(attach, entries);

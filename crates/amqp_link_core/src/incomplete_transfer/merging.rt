@@ -1,20 +1,10 @@
 //! The fields that the transfers of one delivery make together (2.7.5).
-ghost use Rattle.std.specs.Prelude.{◌≡◌, ◌++◌, [], ◌∷◌, List, Option, Bool, false};
-ghost use Rattle.std.specs.Option.{option_map_or};
+ghost use Rattle.std.specs.Prelude.{◌≡◌, ◌++◌, [], ◌∷◌, List, Option, Bool};
 ghost use Rattle.amqp_link_types.specs.declared.types.delivery_state.DeliveryState.{DeliveryState as State};
-ghost use Rattle.amqp_link_types.specs.DeliveryStates.{is_terminal};
 ghost use Rattle.amqp_link_core.specs.Merging.{Came, Merged, present, settled_by, state_by};
 
+use crate::resumption::states::has_ended;
 use amqp_link_types::types::{DeliveryState, Transfer};
-
-fn has_ended(state: &Option<DeliveryState>) -> bool
-    ensures { result ≡ option_map_or is_terminal state.now false }
-{
-    match state {
-        Some(state) => state.is_terminal(),
-        None => false,
-    }
-}
 
 // The flag of a delivery, once a transfer has told of it.
 #[tactic(auto, using(crate::proofs::MergeLemmas::settled_steps))]

@@ -1,11 +1,12 @@
 //! The pieces of a payload, and whether they can be counted.
 ghost use Rattle.std.specs.Prelude.{◌≡◌, ◌+◌, ◌^◌, ◌<◌, ◌≤◌, ◌++◌, ◌∷◌, []};
-ghost use Rattle.std.specs.Prelude.{length, take, slice_get, OnOk, OnErr, IfOk, IsErrOf, IsSomeAnd};
+ghost use Rattle.std.specs.Prelude.{true, length, take, slice_get, OnOk, OnErr, IfOk, IfSome, IfNone, IsSomeAnd};
 ghost use Rattle.std.specs.List.{concat};
 ghost use Rattle.amqp_link_core.specs.Held.{IsCountable};
-ghost use Rattle.amqp_link_core.specs.IncompleteRefusals.{Answers, long_test};
+ghost use Rattle.amqp_link_types.specs.Refusals.{AnswersThenOutOfMemory};
+ghost use Rattle.amqp_link_core.specs.IncompleteRefusals.{is_too_long, long_test};
 
-use amqp_link_payloads::position::position_of;
+use amqp_link_payloads::position::position_with;
 use amqp_link_types::types::{Payload, ReceiverTransferError};
 use std::alloc::AllocError;
 
@@ -19,20 +20,31 @@ pub(crate) fn push_piece(
     requires size { size ≡ length (concat pieces.old.items) }
     ensures pushed { OnOk result (pieces.new.items ≡ pieces.old.items ++ piece ∷ []) }
     ensures countable { IfOk result (λ size. IsCountable (concat pieces.new.items) size) }
-    ensures refused { Answers result (long_test (concat pieces.old.items ++ piece)) }
-    ensures memory { IsErrOf result ReceiverTransferError.OutOfMemory
-        → length (concat pieces.old.items ++ piece) < 2 ^ 64 }
+    ensures refused { AnswersThenOutOfMemory ReceiverTransferError.OutOfMemory
+        result (long_test (concat pieces.old.items ++ piece)) }
     ensures err { OnErr result (pieces.new.items ≡ pieces.old.items) }
 {
-    let Some(size) = size.checked_add(piece.len() as u64) else {
+    let Some(size) = counted_size(pieces.as_slice(), size, &piece) else {
+        drop(piece);
         return Err(ReceiverTransferError::PayloadTooLong);
     };
     pieces.push(piece)?;
-    if position_of(pieces.as_slice()).is_none() {
-        pieces.pop();
-        return Err(ReceiverTransferError::PayloadTooLong);
-    }
     Ok(size)
+}
+
+// The size of pieces of that size and one more, if their bytes and sections can be counted. Each
+// section has a byte, so that under 2^32 bytes none need be read.
+fn counted_size(pieces: &[Payload], size: u64, next: &Payload) -> Option<u64>
+    requires size { size ≡ length (concat pieces.now) }
+    ensures some { IfSome result (λ size. IsCountable (concat pieces.now ++ next.now) size) }
+    ensures none { IfNone result (is_too_long (concat pieces.now ++ next.now) ≡ true) }
+{
+    let size = size.checked_add(next.len() as u64)?;
+    if size <= u64::from(u32::MAX) {
+        return Some(size);
+    }
+    position_with(pieces, next)?;
+    Some(size)
 }
 
 // Keeps that many bytes of the pieces: some of them whole, and of the next a front. Where memory for

@@ -1,10 +1,11 @@
 //! A delivery that was cut off, as it is taken up again (2.6.13).
-ghost use Rattle.std.specs.Prelude.{◌≡◌, ◌<◌, ◌^◌, ◌++◌, [], ◌∷◌, List, false, length, is_none, IsSome, IsErrOf, OnOk, OnErr, MatchOption};
+ghost use Rattle.std.specs.Prelude.{◌≡◌, ◌++◌, [], ◌∷◌, List, IsSome, OnOk, OnErr, MatchOption};
 ghost use Rattle.std.specs.Option.{option_or};
 ghost use Rattle.amqp_link_payloads.specs.Position.{place};
 ghost use Rattle.amqp_link_core.specs.Merging.{Came, Merged, IsSilent, opening, resumed};
-ghost use Rattle.amqp_link_core.specs.Held.{bytes_of, IsFront};
-ghost use Rattle.amqp_link_core.specs.IncompleteRefusals.{Answers, resume_tests, is_of_another};
+ghost use Rattle.amqp_link_core.specs.Held.{held_bytes, KeepsFront};
+ghost use Rattle.amqp_link_types.specs.Refusals.{AnswersThenOutOfMemory};
+ghost use Rattle.amqp_link_core.specs.IncompleteRefusals.{resume_tests, is_of_another};
 
 use crate::incomplete_transfer::pieces::cut_pieces;
 use crate::incomplete_transfer::{IncompleteTransfer, differs};
@@ -17,8 +18,8 @@ impl IncompleteTransfer {
     /// delivery's from now on. The payload is what follows the bytes that are held.
     ///
     /// Refused in this order, with nothing changed: `DeliveryIdIsNone`, `DeliveryTagIsNone`,
-    /// `InconsistentFieldInMultiFrameDelivery` (another tag or format), `PayloadTooLong`. Takes
-    /// memory, which may be refused before the last of them.
+    /// `InconsistentFieldInMultiFrameDelivery` (another tag or format), `PayloadTooLong`, and only
+    /// then `OutOfMemory`. While the delivery has less than 2^32 bytes none are read.
     pub fn try_resume(
         &mut self,
         transfer: Transfer,
@@ -28,7 +29,7 @@ impl IncompleteTransfer {
         ensures merged { OnOk result ((came : List Came) → Merged came self.old.performative
             → Merged (came ++ opening transfer ∷ []) self.new.performative) }
         ensures pieces { OnOk result (self.new.pieces ≡ self.old.pieces ++ payload ∷ []) }
-        ensures bytes { OnOk result (bytes_of self.new ≡ bytes_of self.old ++ payload) }
+        ensures bytes { OnOk result (held_bytes self.new ≡ held_bytes self.old ++ payload) }
 
         // What of it a caller needs most.
         ensures tag { OnOk result
@@ -40,11 +41,8 @@ impl IncompleteTransfer {
         ensures silent { OnOk result (IsSilent transfer
             → self.new.performative ≡ resumed self.old.performative transfer) }
 
-        ensures refused { Answers result (resume_tests self.old transfer payload) }
-        ensures memory { IsErrOf result ReceiverTransferError.OutOfMemory
-            → (is_none transfer.delivery_id ≡ false) × (is_none transfer.delivery_tag ≡ false)
-            × (is_of_another self.old.performative transfer ≡ false)
-            × (length (bytes_of self.old ++ payload) < 2 ^ 64) }
+        ensures refused { AnswersThenOutOfMemory ReceiverTransferError.OutOfMemory
+            result (resume_tests self.old transfer payload) }
         ensures err { OnErr result (self.new ≡ self.old) }
     {
         if transfer.delivery_id.is_none() {
@@ -82,9 +80,9 @@ impl IncompleteTransfer {
         number: u32,
         offset: u64,
     ) -> Result<(), AllocError>
-        ensures kept { OnOk result (MatchOption (place (bytes_of self.old) number offset)
-            (self.new ≡ self.old) (λ place. IsFront self.old self.new place)) }
-        ensures memory { OnErr result (IsSome (place (bytes_of self.old) number offset)) }
+        ensures kept { OnOk result (MatchOption (place (held_bytes self.old) number offset)
+            (self.new ≡ self.old) (λ place. KeepsFront self.old self.new place)) }
+        ensures memory { OnErr result (IsSome (place (held_bytes self.old) number offset)) }
         ensures err { OnErr result (self.new ≡ self.old) }
     {
         let Some(place) = place_in(self.pieces.as_slice(), number, offset) else {

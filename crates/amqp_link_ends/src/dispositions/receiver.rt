@@ -139,6 +139,47 @@ fn dispositions_name_runs(rt: HostRuntime) {
 }
 
 #[test]
+fn long_batch_is_named_in_order(rt: HostRuntime) {
+    let infos = [
+        (25, 0, None),
+        (24, 1, None),
+        (23, 2, None),
+        (22, 3, None),
+        (21, 4, None),
+        (20, 5, None),
+        (19, 6, None),
+        (18, 7, None),
+        (17, 8, None),
+        (16, 9, None),
+        (15, 10, None),
+        (14, 11, None),
+        (13, 12, None),
+        (12, 13, None),
+        (11, 14, None),
+        (10, 15, None),
+        (9, 16, None),
+        (8, 17, None),
+        (7, 18, None),
+        (6, 19, None),
+        (5, 20, None),
+        (4, 21, None),
+        (3, 22, None),
+        (2, 23, None),
+        (1, 24, None),
+        (13, 25, None),
+    ];
+    let (said, tags, _) = all_accepted(&rt, 26, Some(true), infos);
+    let frames = [
+        Some((1, Some(13), true)),
+        Some((13, Some(25), true)),
+        None,
+        None,
+    ];
+    assert_eq!(rt; said, Some((2, frames)), "the number 13 is listed twice");
+    assert_eq!(rt; tags, [None, None, None], "all of them are settled");
+}
+
+#[test]
 fn ends_of_the_numbers_are_no_run(rt: HostRuntime) {
     let last = u32::MAX;
     let infos = [(last, 0, None), (0, 1, None), (last - 1, 2, None)];

@@ -124,6 +124,78 @@ fn stored_state_is_the_outcome(rt: HostRuntime) {
     assert_eq!(rt; after, (0, Told::Absent));
 }
 
+// The last bytes of the tags of outcomes, in order.
+fn tags_of(rt: &(impl Abort + AllocGlobal), outcomes: &Outcomes) -> Vec<u8> {
+    let mut tags = Vec::new(rt.alloc());
+    for (tag, _) in outcomes.as_slice() {
+        let last = tag.as_bytes().last().copied().unwrap_or(0);
+        tags.push(last).expect(rt, "memory");
+    }
+    tags
+}
+
+#[test]
+fn long_batch_ends_in_order(rt: HostRuntime) {
+    let mut link = mixed(&rt, 26);
+    let pairs = listed(
+        &rt,
+        [
+            (25, 0),
+            (24, 1),
+            (23, 2),
+            (22, 3),
+            (21, 4),
+            (20, 5),
+            (19, 6),
+            (18, 7),
+            (17, 8),
+            (16, 9),
+            (15, 10),
+            (14, 11),
+            (13, 12),
+            (12, 13),
+            (11, 14),
+            (10, 15),
+            (9, 16),
+            (8, 17),
+            (7, 18),
+            (6, 19),
+            (5, 20),
+            (4, 21),
+            (3, 22),
+            (2, 23),
+            (1, 24),
+            (13, 25),
+        ],
+    );
+    let answer = link.batch_dispose(&pairs, true, DeliveryState::Accepted, false);
+    let (frames, outcomes) = answer.expect(&rt, "memory");
+    let (count, said) = all_said(frames.as_slice());
+    let tags = tags_of(&rt, &outcomes);
+    assert_eq!(rt; link.unsettled().len(), 0);
+    drop(pairs);
+    drop(link);
+    drop(frames);
+    drop(outcomes);
+    assert_eq!(rt; count, 2, "the number 13 is listed twice");
+    let runs = [
+        Some((1, Some(13), true)),
+        Some((13, Some(25), true)),
+        None,
+        None,
+    ];
+    assert_eq!(rt; said, runs);
+    let in_order = [
+        24, 23, 22, 21, 20, 19, 18, 17, 16, 15, 14, 13, 12, 25, 11, 10, 9, 8, 7, 6, 5, 4, 3, 2, 1,
+        0,
+    ];
+    assert_eq!(rt;
+        tags.as_slice(),
+        in_order.as_slice(),
+        "of one number as they are listed"
+    );
+}
+
 #[test]
 fn mode_settled_says_nothing(rt: HostRuntime) {
     let mut link = link(&rt, SenderSettleMode::Settled, ReceiverSettleMode::First, 2);

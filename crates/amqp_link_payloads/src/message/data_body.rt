@@ -1,13 +1,15 @@
 //! A body that is one data section (3.2.6).
-ghost use Rattle.std.specs.Prelude.{◌≡◌, ◌≤◌, [], ◌++◌};
-ghost use Rattle.std.specs.Prelude.{ℕ, List, drop, length, Some, None, IfSome, IfNone, Ok, Err};
-ghost use Rattle.std.specs.Option.{option_map_or};
+ghost use Rattle.std.specs.Prelude.{◌≡◌, ◌≤◌, ◌⊎◌, ◌++◌};
+ghost use Rattle.std.specs.Prelude.{ℕ, List, drop, length, Some, None, IfSome, IfNone, Ok, Err, MatchResult};
+ghost use Rattle.std.specs.List.{concat};
 ghost use Rattle.std.proofs.Common.{rules};
+ghost use Rattle.amqp_link_payloads.specs.Bodies.{data_message};
+ghost use Rattle.amqp_link_payloads.specs.Pieces.{full_count};
 ghost use Rattle.amqp_link_payloads.specs.Section.{Form, descriptor, contents_of, IsBinary};
 ghost use Rattle.amqp_link_payloads.specs.declared.error.DecodeError.TheVariants.{NotOneDataSection, OutOfMemory};
 
 use crate::error::DecodeError;
-use crate::message::join::join;
+use crate::message::join::{copy_all, only_full};
 use crate::message::{FromBody, Message};
 use crate::payload::Payload;
 use bytes::Bytes;
@@ -19,24 +21,42 @@ use std::alloc::Global;
 pub struct DataBody(pub Payload);
 
 impl FromBody for DataBody {
-    ghost decoded = { λ bytes. option_map_or
-        (λ contents. Ok (record { preamble = []; body = record { 0 = contents }; footer = [] }))
-        (contents_of bytes) (Err NotOneDataSection) };
+    ghost decoded = { data_message };
 
     ghost memory_aside = { λ bytes e. Prim.search rules };
 
+    // Bytes that stand in one piece are tested before they are shared, so they are refused for what
+    // they are, and never as out of memory.
     fn decode_from_pieces(
         alloc: Global,
         pieces: &[Payload],
-    ) -> Result<Message<DataBody>, DecodeError> {
-        let whole = join(alloc, pieces)?;
-        let start = contents_start(whole.as_slice()).ok_or(DecodeError::NotOneDataSection)?;
-        Ok(Message {
-            preamble: Bytes::new(),
-            body: DataBody(whole.slice(start..)?),
-            footer: Bytes::new(),
-        })
+    ) -> Result<Message<DataBody>, DecodeError>
+        ensures decoded { MatchResult result
+            (λ message. data_message (concat pieces.now) ≡ Ok message)
+            (λ error. (error ≡ OutOfMemory) ⊎ (data_message (concat pieces.now) ≡ Err error)) }
+        ensures memory { full_count pieces.now ≤ 1
+            → IfNone (contents_of (concat pieces.now)) (result ≡ Err NotOneDataSection) }
+    {
+        match only_full(pieces) {
+            Some(piece) => data_of(piece),
+            None => data_of(&copy_all(alloc, pieces)?),
+        }
     }
+}
+
+// The data of bytes that are exactly one data section, which shares their buffer.
+fn data_of(bytes: &Payload) -> Result<Message<DataBody>, DecodeError>
+    ensures decoded { MatchResult result
+        (λ message. data_message bytes.now ≡ Ok message)
+        (λ error. (error ≡ OutOfMemory) ⊎ (data_message bytes.now ≡ Err error)) }
+    ensures memory { IfNone (contents_of bytes.now) (result ≡ Err NotOneDataSection) }
+{
+    let start = contents_start(bytes.as_slice()).ok_or(DecodeError::NotOneDataSection)?;
+    Ok(Message {
+        preamble: Bytes::new(),
+        body: DataBody(bytes.slice(start..)?),
+        footer: Bytes::new(),
+    })
 }
 
 // Where the data begins in bytes that are exactly one data section.

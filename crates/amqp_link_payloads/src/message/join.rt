@@ -1,22 +1,55 @@
 //! Pieces of a payload, joined.
-ghost use Rattle.std.specs.Prelude.{◌≡◌, IfOk};
+ghost use Rattle.std.specs.Prelude.{◌≡◌, ◌⊎◌, ◌<◌, [], IfOk, OnErr, IfSome, IfNone, length};
 ghost use Rattle.std.specs.List.{concat};
+ghost use Rattle.amqp_link_payloads.specs.Pieces.{full_count};
 
-use crate::payload::Payload;
+use crate::payload::{Payload, joined_len};
 use bytes::Bytes;
 use std::alloc::{AllocError, Global};
 
-// The pieces as one payload. A single piece is shared, more are copied.
-#[tactic(auto, using(std::proofs::lemmas::List::Concat::concat_is))]
-pub(crate) fn join(alloc: Global, pieces: &[Payload]) -> Result<Payload, AllocError>
-    ensures { IfOk result (λ whole. whole ≡ concat pieces.now) }
+// The one piece that holds bytes: none where no piece does, and where more than one does.
+pub(crate) fn only_full(pieces: &[Payload]) -> Option<&Payload>
+    ensures joined { IfSome result (λ piece. piece.now ≡ concat pieces.now) }
+    ensures full { IfSome result (λ piece. 0 < length piece.now) }
+    ensures none { IfNone result ((concat pieces.now ≡ []) ⊎ (1 < full_count pieces.now)) }
 {
-    if let [piece] = pieces {
-        return piece.clone();
+    let mut only = None;
+    for piece in pieces {
+        if piece.is_empty() {
+            continue;
+        }
+        if only.is_some() {
+            return None;
+        }
+        only = Some(piece);
     }
-    let mut bytes = Vec::new(alloc);
+    only
+}
+
+// The pieces as one payload, whose bytes are copied. One growth holds them all.
+#[tactic(auto, using(std::proofs::lemmas::List::Concat::concat_is))]
+pub(crate) fn copy_all(alloc: Global, pieces: &[Payload]) -> Result<Payload, AllocError>
+    ensures joined { IfOk result (λ whole. whole ≡ concat pieces.now) }
+    ensures memory { OnErr result (0 < length (concat pieces.now)) }
+{
+    let len = joined_len(pieces).unwrap_or(u64::MAX);
+    if len == 0 {
+        return Ok(Bytes::new());
+    }
+    let mut bytes = Vec::with_capacity(alloc, len as usize)?;
     for piece in pieces {
         bytes.extend_from_slice(piece.as_slice())?;
     }
     Ok(Bytes::from_vec(bytes)?)
+}
+
+// The pieces as one payload: one that alone holds bytes is shared, more are copied.
+pub(crate) fn join(alloc: Global, pieces: &[Payload]) -> Result<Payload, AllocError>
+    ensures joined { IfOk result (λ whole. whole ≡ concat pieces.now) }
+    ensures memory { OnErr result (0 < length (concat pieces.now)) }
+{
+    match only_full(pieces) {
+        Some(piece) => piece.clone(),
+        None => copy_all(alloc, pieces),
+    }
 }

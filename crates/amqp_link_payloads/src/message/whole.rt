@@ -1,5 +1,8 @@
 //! A body that is all bytes.
-ghost use Rattle.std.specs.Prelude.{◌≡◌, [], Ok, Err};
+ghost use Rattle.std.specs.Prelude.{◌≡◌, ◌⊎◌, ◌<◌, length, Ok, Err, OnErr, MatchResult};
+ghost use Rattle.std.specs.List.{concat};
+ghost use Rattle.amqp_link_payloads.specs.Bodies.{whole_message};
+ghost use Rattle.amqp_link_payloads.specs.declared.error.DecodeError.TheVariants.{OutOfMemory};
 
 use crate::error::DecodeError;
 use crate::message::join::join;
@@ -13,15 +16,17 @@ use std::alloc::Global;
 pub struct Whole(pub Payload);
 
 impl FromBody for Whole {
-    ghost decoded = { λ bytes.
-        Ok (record { preamble = []; body = record { 0 = bytes }; footer = [] }) };
+    ghost decoded = { whole_message };
 
     ghost memory_aside = { λ bytes e. Prim.cc };
 
-    fn decode_from_pieces(
-        alloc: Global,
-        pieces: &[Payload],
-    ) -> Result<Message<Whole>, DecodeError> {
+    // Bytes that stand in one piece are shared, and no bytes allocate nothing.
+    fn decode_from_pieces(alloc: Global, pieces: &[Payload]) -> Result<Message<Whole>, DecodeError>
+        ensures decoded { MatchResult result
+            (λ message. whole_message (concat pieces.now) ≡ Ok message)
+            (λ error. (error ≡ OutOfMemory) ⊎ (whole_message (concat pieces.now) ≡ Err error)) }
+        ensures memory { OnErr result (0 < length (concat pieces.now)) }
+    {
         let bytes = join(alloc, pieces)?;
         Ok(Message {
             preamble: Bytes::new(),

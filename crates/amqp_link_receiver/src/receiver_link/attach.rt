@@ -1,21 +1,19 @@
 //! A receiver's end is attached (2.6.3, 2.6.4).
 ghost use Rattle.std.specs.Prelude.{◌≡◌, ◌↔◌, ◌⊎◌, true, false, List, [], if◌then◌else◌};
-ghost use Rattle.std.specs.Prelude.{None, Some, Ok, Err, IfOk, IfErr, IsErrOf, OnOk, OnErr, IsTrue, IsSome};
-ghost use Rattle.std.specs.Prelude.{◌∷◌, is_none, is_some, unwrap_or};
+ghost use Rattle.std.specs.Prelude.{None, Some, Ok, Err, IfOk, IfErr, IsErrOf, IsTrue, is_none, unwrap_or};
 ghost use Rattle.std.specs.Option.{option_or};
 ghost use Rattle.amqp_link_types.specs.declared.frame.LinkFrame.TheVariants as frame;
-ghost use Rattle.amqp_link_core.specs.AttachSent.{SendsAttach, IsTooLarge, smaller_limit, joined};
-ghost use Rattle.amqp_link_types.specs.Refusals.{refusal};
-ghost use Rattle.amqp_link_core.specs.Attaching.{Fits, with_entries};
+ghost use Rattle.amqp_link_core.specs.AttachSent.{SendsAttach, IsTooLarge};
+ghost use Rattle.amqp_link_core.specs.Shown.{counted_attach};
+ghost use Rattle.amqp_link_core.specs.Attaching.{FitsFrame, with_entries};
 ghost use Rattle.amqp_link_core.specs.LinkStates.{Call, next_state};
-ghost use Rattle.amqp_link_receiver.specs.ReceiverAttaches.{has_entries as names_any, exchanged as exchanged_in};
-ghost use Rattle.amqp_link_receiver.specs.ReceiverAttaches.{counted_attach, receiver_attach};
+ghost use Rattle.amqp_link_receiver.specs.ReceiverAttaches.{has_entries as names_any, exchange_in as exchanged_in};
+ghost use Rattle.amqp_link_receiver.specs.ReceiverAttaches.{receiver_shown};
 
 use crate::receiver_link::ReceiverLink;
 use amqp_link_core::endpoint::LinkAttach;
 use amqp_link_core::endpoint::attached::{
-    capabilities_of, get_max_message_size, is_foreign, name_and_properties_of, sent_limit,
-    termini_of, with_properties,
+    get_max_message_size, is_foreign, merged_with, name_and_properties_of, sent_limit, termini_of,
 };
 use amqp_link_core::endpoint::dividing::{divided, fits_whole};
 use amqp_link_core::endpoint::steps::{handle_or_zero, step_of};
@@ -29,8 +27,8 @@ use amqp_link_types::types::{
     Attach, DeliveryState, Fields, Handle, InputHandle, OutputHandle, ReceiverAttachError, Role,
     SenderSettleMode, SequenceNo, Source, TargetArchetype,
 };
+use amqp_link_values::copy::copies_of;
 use std::alloc::{AllocError, Global};
-use std::mem;
 
 /// What follows once a receiver's end has exchanged attaches.
 #[derive(Clone, Copy, Debug, PartialEq, Eq)]
@@ -77,33 +75,33 @@ impl<T: LinkTarget> ReceiverLink<T> {
     // What the link says at an output handle with this count, without its deliveries.
     fn whole_attach(&self, handle: OutputHandle, count: SequenceNo) -> Result<Attach, AllocError>
         requires { (t c : T) → T.is_clone t c → c ≡ t }
-        ensures { IfOk result (λ attach. attach ≡ counted_attach T.sent_as self.now count handle) }
+        ensures { IfOk result (λ attach. attach ≡ counted_attach (receiver_shown T.sent_as self.now) count handle) }
     {
-        let named = name_and_properties_of(&self.name, self.flow_state.properties())?;
-        let capabilities = capabilities_of(&self.offered_capabilities, &self.desired_capabilities);
-        let Ok(capabilities) = capabilities else {
-            drop(named);
+        let (name, properties) = name_and_properties_of(&self.name, self.flow_state.properties())?;
+        let capabilities = copies_of(&self.offered_capabilities, &self.desired_capabilities);
+        let Ok((offered_capabilities, desired_capabilities)) = capabilities else {
+            drop((name, properties));
             return Err(AllocError);
         };
-        let Ok(termini) = termini_of(&self.source, &self.target) else {
-            drop((named, capabilities));
+        let Ok((source, target)) = termini_of(&self.source, &self.target) else {
+            drop((name, properties, offered_capabilities, desired_capabilities));
             return Err(AllocError);
         };
         Ok(Attach {
-            name: named.0,
+            name,
             handle: handle.into(),
             role: Role::Receiver,
             snd_settle_mode: self.snd_settle_mode,
             rcv_settle_mode: self.rcv_settle_mode,
-            source: termini.0,
-            target: termini.1,
+            source,
+            target,
             unsettled: None,
             incomplete_unsettled: false,
             initial_delivery_count: Some(count),
             max_message_size: sent_limit(self.max_message_size),
-            offered_capabilities: capabilities.0,
-            desired_capabilities: capabilities.1,
-            properties: named.1,
+            offered_capabilities,
+            desired_capabilities,
+            properties,
         })
     }
 
@@ -117,8 +115,8 @@ impl<T: LinkTarget> ReceiverLink<T> {
         count: SequenceNo,
     ) -> Result<bool, AllocError>
         requires { (t c : T) → T.is_clone t c → c ≡ t }
-        ensures { IfOk result (λ fits. IsTrue fits ↔ Fits (with_entries
-            (counted_attach T.sent_as self.now count (unwrap_or self.now.output_handle (record { 0 = 0 })))
+        ensures { IfOk result (λ fits. IsTrue fits ↔ FitsFrame (with_entries
+            (counted_attach (receiver_shown T.sent_as self.now) count (unwrap_or self.now.output_handle (record { 0 = 0 })))
             self.now.unsettled 0) max_frame_size) }
     {
         let entries = self.unsettled.clone()?;
@@ -129,16 +127,13 @@ impl<T: LinkTarget> ReceiverLink<T> {
     // The attach that is sent, and the state after it: all tests, and all that takes memory.
     fn plan_attach(&self, is_reattaching: bool) -> Result<(Attach, LinkState), ReceiverAttachError>
         requires { (t c : T) → T.is_clone t c → c ≡ t }
-        ensures sent { IfOk result (λ plan. SendsAttach self.now.local_state self.now.output_handle
-            (receiver_attach T.sent_as self.now)
-            (if is_reattaching then [] else self.now.unsettled) self.now.max_frame_size
-            (frame.Attach plan.0) plan.1) }
+        ensures sent { IfOk result (λ plan. SendsAttach (receiver_shown T.sent_as self.now)
+            (if is_reattaching then [] else self.now.unsettled) (frame.Attach plan.0) plan.1) }
         ensures refused { IfErr result (λ error. (error ≡ ReceiverAttachError.OutOfMemory)
             ⊎ ((error ≡ ReceiverAttachError.IllegalState) × ((self.now.output_handle ≡ None)
             ⊎ (next_state Call.SendAttach false self.now.local_state ≡ None)))
-            ⊎ ((error ≡ ReceiverAttachError.AttachTooLarge) × IsTooLarge self.now.local_state
-            self.now.output_handle (receiver_attach T.sent_as self.now)
-            (if is_reattaching then [] else self.now.unsettled) self.now.max_frame_size)) }
+            ⊎ ((error ≡ ReceiverAttachError.AttachTooLarge) × IsTooLarge (receiver_shown T.sent_as self.now)
+            (if is_reattaching then [] else self.now.unsettled))) }
         ensures memory { IsErrOf result ReceiverAttachError.OutOfMemory → (is_none self.now.output_handle ≡ false)
             × (is_none (next_state Call.SendAttach false self.now.local_state) ≡ false) }
     {
@@ -158,7 +153,7 @@ impl<T: LinkTarget> ReceiverLink<T> {
     }
 }
 
-// What a receiver reads of an attach that comes.
+// What a receiver reads of an attach that arrives.
 #[derive(Drop)]
 struct Incoming {
     handle: Handle,
@@ -208,24 +203,15 @@ fn read(attach: Attach) -> Incoming
     }
 }
 
-// Why an attach that moves the state is refused, if it is, where its target is foreign or not.
-fn refusal_of(incoming: &Incoming, is_foreign: bool) -> Option<ReceiverAttachError>
-    ensures { result ≡ refusal (
-        (is_none incoming.now.source, ReceiverAttachError.IncomingSourceIsNone)
-        ∷ (is_none incoming.now.count, ReceiverAttachError.InitialDeliveryCountIsNone)
-        ∷ (is_foreign, ReceiverAttachError.CoordinatorIsNotImplemented)
-        ∷ []) }
+// Why an attach is refused that has a source, and lacks a count or has a foreign target.
+fn refusal_past_source(count: Option<SequenceNo>) -> ReceiverAttachError
+    ensures { result ≡ (if is_none count then ReceiverAttachError.InitialDeliveryCountIsNone
+        else ReceiverAttachError.CoordinatorIsNotImplemented) }
 {
-    if incoming.source.is_none() {
-        return Some(ReceiverAttachError::IncomingSourceIsNone);
+    match count {
+        None => ReceiverAttachError::InitialDeliveryCountIsNone,
+        Some(_) => ReceiverAttachError::CoordinatorIsNotImplemented,
     }
-    if incoming.count.is_none() {
-        return Some(ReceiverAttachError::InitialDeliveryCountIsNone);
-    }
-    if is_foreign {
-        return Some(ReceiverAttachError::CoordinatorIsNotImplemented);
-    }
-    None
 }
 
 fn exchange(state: LinkState, has_entries: bool) -> ReceiverAttachExchange
@@ -243,8 +229,8 @@ fn exchange(state: LinkState, has_entries: bool) -> ReceiverAttachExchange
 }
 
 impl<T: LinkTarget> ReceiverLink<T> {
-    // An attach has moved the link, which answers at its handle; no delivery is under way any more.
-    fn come(&mut self, handle: Handle, next: LinkState)
+    // Records that an attach has moved the link, and the peer's handle; no delivery is under way any more.
+    fn record_remote_attach(&mut self, handle: Handle, next: LinkState)
         ensures { self.new ≡ record self.old {
           local_state = next;
           input_handle = Some (record { 0 = handle.0 });
@@ -263,101 +249,40 @@ impl<T: LinkTarget> ReceiverLink<T> {
         self.snd_settle_mode = mode;
     }
 
-    // The link counts from where the sender begins.
+    // The link counts from where the sender begins, and other properties take the place of the own ones,
+    // if there are any.
     fn take_flow(&mut self, count: SequenceNo, properties: Option<Fields>)
         ensures { self.new ≡ record self.old {
           flow_state = record self.old.flow_state {
             initial_delivery_count = count;
             delivery_count = count;
-            properties = properties;
+            properties = option_or properties self.old.flow_state.properties;
           };
         } }
     {
-        drop(mem::replace(self.flow_state.properties_mut(), properties));
+        if let Some(properties) = properties {
+            drop(self.flow_state.properties_mut().replace(properties));
+        }
         self.flow_state.initial_delivery_count_mut(|_| count);
         self.flow_state.delivery_count_mut(|_| count);
-    }
-
-    // The link comes to what an attach says of itself: its source, if it has one, and its mode.
-    fn come_from(&mut self, mut incoming: Incoming, next: LinkState)
-        ensures { self.new ≡ record self.old {
-          local_state = next;
-          input_handle = Some (record { 0 = incoming.handle.0 });
-          more = false;
-          source = option_or incoming.source self.old.source;
-          snd_settle_mode =
-              if is_some incoming.source then incoming.snd_settle_mode else self.old.snd_settle_mode;
-        } }
-    {
-        self.come(incoming.handle, next);
-        if let Some(source) = incoming.source.take() {
-            self.take_source(source, incoming.snd_settle_mode);
-        }
-        drop(incoming);
-    }
-
-    // Takes all of an attach that nothing but want of memory refuses, which leaves all as it was.
-    fn take(
-        &mut self,
-        mut incoming: Incoming,
-        next: LinkState,
-    ) -> Result<ReceiverAttachExchange, ReceiverAttachError>
-        requires { IsSome incoming.source }
-        ensures taken { OnOk result (self.new ≡ record self.old {
-          local_state = next;
-          input_handle = Some (record { 0 = incoming.handle.0 });
-          more = false;
-          source = incoming.source;
-          snd_settle_mode = incoming.snd_settle_mode;
-          max_message_size = smaller_limit self.old.max_message_size incoming.max_message_size;
-          flow_state = record self.old.flow_state {
-            initial_delivery_count = unwrap_or incoming.count 0;
-            delivery_count = unwrap_or incoming.count 0;
-            properties = joined self.old.flow_state.properties incoming.properties;
-          };
-        }) }
-        ensures exchanged { IfOk result (λ answer. answer ≡ exchanged_in next incoming.has_entries) }
-        ensures refused { IfErr result (λ error. error ≡ ReceiverAttachError.OutOfMemory) }
-        ensures left { OnErr result (self.new ≡ self.old) }
-    {
-        let theirs = incoming.properties.take();
-        let count = incoming.count.unwrap_or(0);
-        let limit = get_max_message_size(self.max_message_size, incoming.max_message_size);
-        let answer = exchange(next, incoming.has_entries);
-        let Ok(properties) = with_properties(self.alloc, self.flow_state.properties(), theirs)
-        else {
-            drop(incoming);
-            return Err(ReceiverAttachError::OutOfMemory);
-        };
-        // All growths are behind: from here on nothing can fail.
-        self.come_from(incoming, next);
-        self.take_flow(count, properties);
-        self.max_message_size = limit;
-        Ok(answer)
     }
 }
 
 impl<T: LinkTarget> LinkAttach for ReceiverLink<T> {
-    ghost use Rattle.std.specs.Prelude.{◌≡◌, [], refl};
+    ghost use Rattle.std.specs.Prelude.{◌≡◌, [], option_map, refl};
     ghost use Rattle.amqp_link_types.specs.declared.types.errors.ReceiverAttachError.TheVariants.{IllegalState, AttachTooLarge, OutOfMemory};
-    ghost use Rattle.amqp_link_receiver.specs.ReceiverAttaches.{receiver_attach};
     ghost use Rattle.amqp_link_receiver.specs.ReceiverAttaches.{receiver_refusal, receiver_taken, receiver_left, exchanged_with};
+    ghost use Rattle.amqp_link_receiver.specs.ReceiverAttaches.{receiver_shown_after_refusal};
 
     type AttachExchange = ReceiverAttachExchange;
 
     type AttachError = ReceiverAttachError;
 
-    ghost frame_limit = { λ link. link.max_frame_size };
-
-    ghost whole = { λ link. receiver_attach T.sent_as link };
-
-    ghost entries = { λ link. link.unsettled };
-
     ghost attached = { λ link state. record link { local_state = state } };
 
     ghost emptied = { λ link. record link { unsettled = [] } };
 
-    ghost ended = { λ link. [] };
+    ghost nothing_unsettled = { [] };
 
     ghost copies = { (t c : T) → T.is_clone t c → c ≡ t };
 
@@ -371,25 +296,23 @@ impl<T: LinkTarget> LinkAttach for ReceiverLink<T> {
 
     ghost taken = { receiver_taken };
 
+    ghost target_taken = { λ link attach. option_map T.sent_as link.target };
+
     ghost exchanged = { λ link attach answer. answer ≡ exchanged_with link attach };
 
     ghost left = { receiver_left };
 
-    ghost state_attached = { λ link s. refl };
+    ghost errors_differ = { ((λ h. Prim.cc), (λ h. Prim.cc), (λ h. Prim.cc)) };
 
-    ghost handle_attached = { λ link s. refl };
+    ghost shown_after_attach = { λ link s. refl };
 
-    ghost state_emptied = { λ link. refl };
+    ghost shown_emptied = { λ link. refl };
 
-    ghost handle_emptied = { λ link. refl };
+    ghost shown_after_taking = { λ link a. refl };
 
-    ghost entries_emptied = { λ link. refl };
+    ghost shown_after_refusal = { receiver_shown_after_refusal T.sent_as };
 
-    ghost left_by_want = { λ link a. refl };
-
-    ghost moved_leaves_frame_limit = { λ link s h. refl };
-
-    ghost moved_leaves_entries = { λ link s h. refl };
+    ghost left_by_memory = { λ link a. refl };
 
     fn send_attach(
         &mut self,
@@ -414,16 +337,42 @@ impl<T: LinkTarget> LinkAttach for ReceiverLink<T> {
         &mut self,
         attach: Attach,
     ) -> Result<ReceiverAttachExchange, ReceiverAttachError> {
-        let mut incoming = read(attach);
-        let is_foreign = is_foreign::<T>(incoming.target.take());
-        let Some(next) = after_incoming_attach(self.local_state, incoming.incomplete) else {
-            drop(incoming);
+        let Incoming {
+            handle,
+            snd_settle_mode,
+            source,
+            target,
+            incomplete,
+            has_entries,
+            count,
+            max_message_size,
+            properties,
+        } = read(attach);
+        let is_foreign = is_foreign::<T>(target);
+        let Some(next) = after_incoming_attach(self.local_state, incomplete) else {
+            drop((source, properties));
             return Err(ReceiverAttachError::IllegalState);
         };
-        if let Some(refused) = refusal_of(&incoming, is_foreign) {
-            self.come_from(incoming, next);
-            return Err(refused);
-        }
-        self.take(incoming, next)
+        let Some(source) = source else {
+            self.record_remote_attach(handle, next);
+            drop(properties);
+            return Err(ReceiverAttachError::IncomingSourceIsNone);
+        };
+        let (Some(count), false) = (count, is_foreign) else {
+            self.record_remote_attach(handle, next);
+            self.take_source(source, snd_settle_mode);
+            drop(properties);
+            return Err(refusal_past_source(count));
+        };
+        let Ok(properties) = merged_with(self.flow_state.properties(), properties) else {
+            drop(source);
+            return Err(ReceiverAttachError::OutOfMemory);
+        };
+        // All tests are done, and all allocations: from here on nothing can fail.
+        self.record_remote_attach(handle, next);
+        self.take_source(source, snd_settle_mode);
+        self.take_flow(count, properties);
+        self.max_message_size = get_max_message_size(self.max_message_size, max_message_size);
+        Ok(exchange(next, has_entries))
     }
 }

@@ -1,7 +1,8 @@
 //! The last transfer of a delivery at a receiver's end (2.6.7, 2.6.12, 2.7.5).
 ghost use Rattle.std.specs.Prelude.{◌≡◌, ◌⊎◌, ◌≢◌, ◌<◌, ℕ, true, Some, None};
-ghost use Rattle.std.specs.Prelude.{IfOk, IsErrOf, IsSome, OnOk, OnErr, MatchResult};
+ghost use Rattle.std.specs.Prelude.{IfOk, IsErrOf, IsSome, IsSomeAnd, OnOk, OnErr, MatchResult, option_copied};
 ghost use Rattle.std.specs.List.{concat};
+ghost use Rattle.amqp_link_types.specs.Entries.{entry_at};
 ghost use Rattle.amqp_link_receiver.specs.Completing.{may_receive as takes_deliveries, info_of as said_of};
 ghost use Rattle.amqp_link_receiver.specs.Completing.{link_refusal, transfer_refusal, delivery_refusal};
 ghost use Rattle.amqp_link_receiver.specs.Completing.{IsDelivery, completion_refusal, unsettled_tag};
@@ -20,8 +21,8 @@ use std::alloc::AllocError;
 
 // What the last transfer of a delivery enters and answers, made before anything is changed.
 #[derive(Drop)]
-struct Completion<B> {
-    key: Option<DeliveryTag>,
+struct Completion<'a, B> {
+    key: Option<&'a DeliveryTag>,
     answer: Result<Delivery<B>, ReceiverTransferError>,
 }
 
@@ -38,6 +39,10 @@ impl<T: LinkTarget> ReceiverLink<T> {
     /// and an unsettled delivery kept: `MessageDecode`, where the body refuses the bytes;
     /// `IllegalState` without output handle. `OutOfMemory` comes only where none of the first five
     /// does, and has changed nothing.
+    ///
+    /// Its cost grows with the pieces' bytes, as the body reads them, and for an unsettled delivery
+    /// with the number of those that are kept, whose tags are compared. The tag is copied into the
+    /// answer, and into the map only where nothing was kept of the delivery.
     pub fn on_complete_transfer<B: FromBody>(
         &mut self,
         transfer: &Transfer,
@@ -78,14 +83,15 @@ impl<T: LinkTarget> ReceiverLink<T> {
     // Keeps the place of the delivery with this tag, if there is one, and spends one credit.
     fn enter(
         &mut self,
-        key: Option<DeliveryTag>,
+        key: Option<&DeliveryTag>,
         section_number: u32,
         section_offset: u64,
     ) -> Result<(), AllocError>
         requires { 0 < self.old.flow_state.link_credit }
         ensures ok { OnOk result
-            (self.new ≡ spent (reported key section_number section_offset self.old)) }
-        ensures memory { OnErr result (IsSome key) }
+            (self.new ≡ spent (reported (option_copied key.entry) section_number section_offset self.old)) }
+        ensures memory { OnErr result (IsSomeAnd (option_copied key.entry) (λ tag.
+            entry_at self.old.unsettled tag ≡ None)) }
         ensures left { OnErr result (self.new ≡ self.old) }
     {
         if let Some(tag) = key {
@@ -93,36 +99,36 @@ impl<T: LinkTarget> ReceiverLink<T> {
                 section_number,
                 section_offset,
             };
-            self.put(tag, Some(state))?;
+            self.keep(tag, state)?;
         }
         let _ = self.flow_state.consume(1);
         Ok(())
     }
 
     // What a transfer enters and answers once the state and the credit admit it.
-    fn complete<B: FromBody>(
+    fn complete<'a, B: FromBody>(
         &self,
-        transfer: &Transfer,
+        transfer: &'a Transfer,
         pieces: &[Payload],
-    ) -> Result<Completion<B>, AllocError>
+    ) -> Result<Completion<'a, B>, AllocError>
         requires open { takes_deliveries self.now.local_state ≡ true }
         requires credit { 0 < self.now.flow_state.link_credit }
         ensures answer { IfOk result (λ completion. MatchResult completion.answer
-            (λ delivery. (completion.key ≡ unsettled_tag transfer.now)
+            (λ delivery. (option_copied completion.key ≡ unsettled_tag transfer.now)
             × IsDelivery self.now transfer.now (B.decoded (concat pieces.now)) delivery
             × ((number offset : ℕ) → completion_refusal self.now transfer.now number offset
             (B.decoded (concat pieces.now)) ≡ None))
             (λ error. (error ≢ ReceiverTransferError.OutOfMemory)
             × ((number offset : ℕ) → completion_refusal self.now transfer.now number offset
             (B.decoded (concat pieces.now))
-            ≡ Some (error, spent (reported completion.key number offset self.now))))) }
+            ≡ Some (error, spent (reported (option_copied completion.key) number offset self.now))))) }
         ensures kept { IfOk result (λ completion. IsSome completion.key
             → transfer_refusal self.now transfer.now ≡ None) }
         ensures memory { OnErr result (transfer_refusal self.now transfer.now ≡ None) }
     {
         match self.identify(transfer) {
             Ok((delivery_id, tag)) => {
-                let key = key_of(transfer, tag)?;
+                let key = key_of(transfer, tag);
                 let info = info_of(transfer, delivery_id, tag)?;
                 let answer = self.deliver(transfer, info, pieces)?;
                 Ok(Completion { key, answer })
@@ -205,14 +211,14 @@ fn may_receive(state: LinkState) -> bool
 }
 
 // The tag under which the delivery is kept, if it is.
-fn key_of(transfer: &Transfer, tag: &DeliveryTag) -> Result<Option<DeliveryTag>, AllocError>
+fn key_of<'a>(transfer: &Transfer, tag: &'a DeliveryTag) -> Option<&'a DeliveryTag>
     requires { transfer.now.delivery_tag ≡ Some tag.now }
-    ensures { IfOk result (λ key. key ≡ unsettled_tag transfer.now) }
+    ensures { option_copied result ≡ unsettled_tag transfer.now }
 {
     if is_settled(transfer) {
-        Ok(None)
+        None
     } else {
-        Ok(Some(tag.clone()?))
+        Some(tag)
     }
 }
 

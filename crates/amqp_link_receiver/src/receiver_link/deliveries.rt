@@ -2,8 +2,8 @@
 ghost use Rattle.std.specs.Prelude.{◌≡◌, false, None, Some, IfOk, IfErr, IsSome, IsSomeAnd};
 ghost use Rattle.std.specs.Prelude.{⊤, OnOk, OnErr, MatchOption, unwrap_or};
 ghost use Rattle.amqp_link_types.specs.Entries.{entry_at, with_entry};
-ghost use Rattle.amqp_link_receiver.specs.ReceiverDeliveries.{frame_come, named_by, told_of};
-ghost use Rattle.amqp_link_receiver.specs.ReceiverDeliveries.{with_state, after_state};
+ghost use Rattle.amqp_link_receiver.specs.ReceiverDeliveries.{frame_come, number_and_tag, told_of};
+ghost use Rattle.amqp_link_receiver.specs.ReceiverDeliveries.{with_kept_state, after_state};
 ghost use Rattle.amqp_link_receiver.specs.ReceiverDeliveries.{has_ended as is_terminal_at};
 ghost use Rattle.amqp_link_receiver.specs.ReceiverDeliveries.{is_settled as says_settled};
 
@@ -17,10 +17,10 @@ use amqp_link_types::types::{
 use std::alloc::AllocError;
 
 impl<T: LinkTarget> ReceiverLink<T> {
-    /// Takes a transfer off the session, and answers the frame in which it goes on. Beside it stand
-    /// the delivery's number and tag, where the transfer begins a delivery that is not settled and
-    /// that this end settles only after the sender has: the session hands the sender's disposition,
-    /// which names the number, on with this tag (2.7.6).
+    /// Takes a transfer off the session, and returns the frame to hand to the link's user. Beside it
+    /// stand the transfer's delivery id and tag, if the link is in mode `Second`, the transfer is not
+    /// settled, and the transfer before it was the last of its delivery: the session hands the sender's
+    /// disposition, which names the id, on with this tag (2.7.6).
     ///
     /// Refused with `OutOfMemory` and nothing changed; only a tag that is answered takes memory.
     pub fn on_incoming_transfer(
@@ -102,7 +102,7 @@ impl<T: LinkTarget> ReceiverLink<T> {
         section_number: u32,
         section_offset: u64,
     ) -> Result<(), AllocError>
-        ensures after { OnOk result (self.new ≡ with_state delivery_tag.now
+        ensures after { OnOk result (self.new ≡ with_kept_state delivery_tag.now
             (DeliveryState.Received section_number section_offset) self.old) }
         ensures memory { OnErr result (entry_at self.old.unsettled delivery_tag.now ≡ None) }
         ensures left { OnErr result (self.new ≡ self.old) }
@@ -124,9 +124,9 @@ impl<T: LinkTarget> ReceiverLink<T> {
         }
     }
 
-    // Keeps a state of a delivery. Takes no memory where something is kept of it.
-    fn keep(&mut self, tag: &DeliveryTag, state: DeliveryState) -> Result<(), AllocError>
-        ensures after { OnOk result (self.new ≡ with_state tag.now state self.old) }
+    // Keeps a state of a delivery. Does not allocate where something is kept of it.
+    pub(super) fn keep(&mut self, tag: &DeliveryTag, state: DeliveryState) -> Result<(), AllocError>
+        ensures after { OnOk result (self.new ≡ with_kept_state tag.now state self.old) }
         ensures memory { OnErr result (entry_at self.old.unsettled tag.now ≡ None) }
         ensures left { OnErr result (self.new ≡ self.old) }
     {
@@ -183,9 +183,9 @@ pub(super) fn is_settled(transfer: &Transfer) -> bool
 // The number and the tag of a transfer, where it has both.
 fn name_of(transfer: &Transfer) -> Result<Option<(DeliveryNumber, DeliveryTag)>, AllocError>
     ensures named { IfOk result (λ named.
-        named ≡ named_by transfer.now.delivery_id transfer.now.delivery_tag) }
+        named ≡ number_and_tag transfer.now.delivery_id transfer.now.delivery_tag) }
     ensures memory { OnErr result
-        (IsSome (named_by transfer.now.delivery_id transfer.now.delivery_tag)) }
+        (IsSome (number_and_tag transfer.now.delivery_id transfer.now.delivery_tag)) }
 {
     let Some(id) = transfer.delivery_id else {
         return Ok(None);

@@ -6,7 +6,7 @@ ghost use Rattle.std.specs.Option.{option_map};
 ghost use Rattle.amqp_link_types.specs.Entries.{entry_at};
 ghost use Rattle.amqp_link_dispositions.specs.Ending.{reply_of};
 ghost use Rattle.amqp_link_dispositions.specs.Keeping.{is_settled_one, said_of_one, after_one};
-ghost use Rattle.amqp_link_dispositions.specs.Keeping.{after_dispositions, told};
+ghost use Rattle.amqp_link_dispositions.specs.Keeping.{after_dispositions, map_after_sender_disposition};
 ghost use Rattle.amqp_link_dispositions.specs.Listed.{kept_in_order};
 ghost use Rattle.amqp_link_dispositions.specs.Said.{AreSaidAlike};
 
@@ -98,7 +98,7 @@ impl<T: LinkTarget> ReceiverLink<T> {
     ) -> bool
         ensures echo { result ≡ false }
         ensures after { self.new ≡ record self.old {
-          unsettled = told settled state delivery_tag.now self.old.unsettled;
+          unsettled = map_after_sender_disposition settled state delivery_tag.now self.old.unsettled;
         } }
     {
         receiver::on_incoming_disposition(&mut self.unsettled, settled, state, delivery_tag);

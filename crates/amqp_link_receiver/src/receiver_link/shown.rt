@@ -13,71 +13,13 @@ impl<T: LinkTarget> Link for ReceiverLink<T> {}
 impl<T: LinkTarget> LinkExt for ReceiverLink<T> {
     ghost use Rattle.std.specs.Prelude.{refl};
 
-    type FlowState = LinkFlowState<ReceiverMarker>;
-
-    type Unsettled = UnsettledMap<Option<DeliveryState>>;
-
-    ghost name_of = { λ link. link.name };
-
-    ghost flow = { λ link. link.flow_state };
-
-    ghost deliveries = { λ link. link.unsettled };
-
-    ghost receiver_mode = { λ link. link.rcv_settle_mode };
-
-    ghost size_limit = { λ link. link.max_message_size };
-
-    ghost properties_of = { λ link. link.flow_state.properties };
+    type Marker = ReceiverMarker;
 
     ghost with_properties = { λ link properties. record link {
       flow_state = record link.flow_state { properties = properties };
     } };
 
-    ghost moved_leaves_name = { λ link s h. refl };
-
-    ghost moved_leaves_deliveries = { λ link s h. refl };
-
-    ghost moved_leaves_mode = { λ link s h. refl };
-
-    ghost moved_leaves_limit = { λ link s h. refl };
-
-    ghost moved_leaves_properties = { λ link s h. refl };
-
-    ghost moved_leaves_flow = { λ link s h. refl };
-
-    ghost attached_leaves_name = { λ link s. refl };
-
-    ghost attached_leaves_deliveries = { λ link s. refl };
-
-    ghost attached_leaves_mode = { λ link s. refl };
-
-    ghost attached_leaves_limit = { λ link s. refl };
-
-    ghost attached_leaves_properties = { λ link s. refl };
-
-    ghost emptied_leaves_name = { λ link. refl };
-
-    ghost emptied_leaves_mode = { λ link. refl };
-
-    ghost emptied_leaves_limit = { λ link. refl };
-
-    ghost emptied_leaves_properties = { λ link. refl };
-
-    ghost emptied_leaves_flow = { λ link. refl };
-
-    ghost properties_given = { λ link p. refl };
-
-    ghost properties_leave_state = { λ link p. refl };
-
-    ghost properties_leave_handle = { λ link p. refl };
-
-    ghost properties_leave_name = { λ link p. refl };
-
-    ghost properties_leave_deliveries = { λ link p. refl };
-
-    ghost properties_leave_mode = { λ link p. refl };
-
-    ghost properties_leave_limit = { λ link p. refl };
+    ghost shown_with_properties = { λ link p. refl };
 
     fn local_state(&self) -> &LinkState {
         &self.local_state

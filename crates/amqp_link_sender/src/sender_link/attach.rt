@@ -1,19 +1,22 @@
 //! A sender's end is attached (2.6.3, 2.6.4).
 ghost use Rattle.std.specs.Prelude.{◌≡◌, ◌≤◌, ◌++◌, ◌↔◌, ◌⊎◌, ◌+◌, true, false, List, [], if◌then◌else◌};
+ghost use Rattle.std.specs.Option.{option_or};
 ghost use Rattle.std.specs.Prelude.{None, Some, Ok, IfOk, IfErr, IsErrOf, IsTrue, is_none, length, vec_len, vec_capacity, unwrap_or};
 ghost use Rattle.amqp_link_types.specs.declared.frame.LinkFrame.TheVariants as frame;
 ghost use Rattle.amqp_link_types.specs.Unsettled.{states_of};
 ghost use Rattle.amqp_link_core.specs.AttachSent.{SendsAttach, IsTooLarge};
-ghost use Rattle.amqp_link_core.specs.Attaching.{Fits, with_entries};
+ghost use Rattle.amqp_link_core.specs.Attaching.{FitsFrame, with_entries};
 ghost use Rattle.amqp_link_core.specs.LinkStates.{Call, next_state};
-ghost use Rattle.amqp_link_sender.specs.SenderAttaches.{stated_count, all_illegal, disagree as do_disagree};
-ghost use Rattle.amqp_link_sender.specs.SenderAttaches.{sent_count, counted_attach, sender_attach, sender_attached};
+ghost use Rattle.amqp_link_core.specs.Shown.{stated_count, counted_attach};
+ghost use Rattle.amqp_link_state.specs.declared.state.LinkFlowStateInner.{LinkFlowStateInner as Flow};
+ghost use Rattle.amqp_link_types.specs.declared.types.definitions.Role.TheVariants as role;
+ghost use Rattle.amqp_link_sender.specs.SenderAttaches.{all_illegal, disagree as do_disagree};
+ghost use Rattle.amqp_link_sender.specs.SenderAttaches.{sender_shown, sent_count, sender_attached};
 
 use crate::sender_link::SenderLink;
 use amqp_link_core::endpoint::LinkAttach;
 use amqp_link_core::endpoint::attached::{
-    capabilities_of, get_max_message_size, name_and_properties_of, sent_limit, termini_of,
-    with_properties,
+    get_max_message_size, merged_with, name_and_properties_of, sent_limit, termini_of,
 };
 use amqp_link_core::endpoint::dividing::{divided, fits_whole};
 use amqp_link_core::endpoint::steps::{handle_or_zero, step_of};
@@ -27,8 +30,8 @@ use amqp_link_types::types::{
     Attach, DeliveryState, Fields, Handle, InputHandle, LinkStateError, OutputHandle,
     ReceiverSettleMode, Role, SenderAttachError, SenderSettleMode, SequenceNo, TargetArchetype,
 };
+use amqp_link_values::copy::copies_of;
 use std::alloc::{AllocError, Global};
-use std::mem;
 
 /// What follows once a sender's end has exchanged attaches.
 #[derive(Clone, Copy, Debug, PartialEq, Eq)]
@@ -47,10 +50,11 @@ impl SenderAttachExchange {
     }
 }
 
-// The count that an attach states: the first attach of a link the initial one, each later one the
-// present one, as the deliveries before it are not sent again (2.6.4).
+// The delivery-count that an attach states: the first attach of a link the initial one, each later one
+// the present one, as the deliveries before it are not sent again (2.6.4).
 fn count_to_state(state: LinkState, initial: SequenceNo, present: SequenceNo) -> SequenceNo
-    ensures { result ≡ stated_count state initial present }
+    ensures { (flow : Flow) → flow.initial_delivery_count ≡ initial → flow.delivery_count ≡ present
+        → result ≡ stated_count role.Sender state flow }
 {
     match state {
         LinkState::Unattached => initial,
@@ -105,25 +109,17 @@ impl<T: LinkTarget> SenderLink<T> {
     // What the link says at an output handle with this count, without its deliveries.
     fn whole_attach(&self, handle: OutputHandle, count: SequenceNo) -> Result<Attach, AllocError>
         requires { (t c : T) → T.is_clone t c → c ≡ t }
-        ensures { IfOk result (λ attach. attach ≡ counted_attach T.sent_as self.now count handle) }
+        ensures { IfOk result (λ attach. attach ≡ counted_attach (sender_shown T.sent_as self.now) count handle) }
     {
         let (name, properties) = name_and_properties_of(&self.name, self.flow_state.properties())?;
-        let (offered_capabilities, desired_capabilities) = match capabilities_of(
-            &self.offered_capabilities,
-            &self.desired_capabilities,
-        ) {
-            Ok(capabilities) => capabilities,
-            Err(refused) => {
-                drop((name, properties));
-                return Err(refused);
-            }
+        let capabilities = copies_of(&self.offered_capabilities, &self.desired_capabilities);
+        let Ok((offered_capabilities, desired_capabilities)) = capabilities else {
+            drop((name, properties));
+            return Err(AllocError);
         };
-        let (source, target) = match termini_of(&self.source, &self.target) {
-            Ok(termini) => termini,
-            Err(refused) => {
-                drop((name, properties, offered_capabilities, desired_capabilities));
-                return Err(refused);
-            }
+        let Ok((source, target)) = termini_of(&self.source, &self.target) else {
+            drop((name, properties, offered_capabilities, desired_capabilities));
+            return Err(AllocError);
         };
         Ok(Attach {
             name,
@@ -153,8 +149,8 @@ impl<T: LinkTarget> SenderLink<T> {
         count: SequenceNo,
     ) -> Result<bool, AllocError>
         requires { (t c : T) → T.is_clone t c → c ≡ t }
-        ensures { IfOk result (λ fits. IsTrue fits ↔ Fits (with_entries
-            (counted_attach T.sent_as self.now count (unwrap_or self.now.output_handle (record { 0 = 0 })))
+        ensures { IfOk result (λ fits. IsTrue fits ↔ FitsFrame (with_entries
+            (counted_attach (sender_shown T.sent_as self.now) count (unwrap_or self.now.output_handle (record { 0 = 0 })))
             (states_of self.now.unsettled) 0) max_frame_size) }
     {
         let entries = self.unsettled.states()?;
@@ -180,19 +176,16 @@ impl<T: LinkTarget> SenderLink<T> {
         is_reattaching: bool,
     ) -> Result<(Attach, Outcomes, LinkState), SenderAttachError>
         requires { (t c : T) → T.is_clone t c → c ≡ t }
-        ensures sent { IfOk result (λ plan. SendsAttach self.now.local_state self.now.output_handle
-            (sender_attach T.sent_as self.now)
-            (if is_reattaching then [] else states_of self.now.unsettled) self.now.max_frame_size
-            (frame.Attach plan.0) plan.2) }
+        ensures sent { IfOk result (λ plan. SendsAttach (sender_shown T.sent_as self.now)
+            (if is_reattaching then [] else states_of self.now.unsettled) (frame.Attach plan.0) plan.2) }
         ensures none_yet { IfOk result (λ plan. plan.1.items ≡ []) }
         ensures room { IfOk result (λ plan. is_reattaching ≡ true
             → length self.now.unsettled ≤ vec_capacity plan.1) }
         ensures refused { IfErr result (λ error. (error ≡ SenderAttachError.OutOfMemory)
             ⊎ ((error ≡ SenderAttachError.IllegalState) × ((self.now.output_handle ≡ None)
             ⊎ (next_state Call.SendAttach false self.now.local_state ≡ None)))
-            ⊎ ((error ≡ SenderAttachError.AttachTooLarge) × IsTooLarge self.now.local_state
-            self.now.output_handle (sender_attach T.sent_as self.now)
-            (if is_reattaching then [] else states_of self.now.unsettled) self.now.max_frame_size)) }
+            ⊎ ((error ≡ SenderAttachError.AttachTooLarge) × IsTooLarge (sender_shown T.sent_as self.now)
+            (if is_reattaching then [] else states_of self.now.unsettled))) }
         ensures memory { IsErrOf result SenderAttachError.OutOfMemory → (is_none self.now.output_handle ≡ false)
             × (is_none (next_state Call.SendAttach false self.now.local_state) ≡ false) }
     {
@@ -305,38 +298,36 @@ impl<T: LinkTarget> SenderLink<T> {
         self.rcv_settle_mode = mode;
     }
 
+    // Other properties take the place of the own ones, if there are any.
     fn take_properties(&mut self, properties: Option<Fields>)
         ensures { self.new ≡ record self.old {
-          flow_state = record self.old.flow_state { properties = properties };
+          flow_state = record self.old.flow_state {
+            properties = option_or properties self.old.flow_state.properties;
+          };
         } }
     {
-        drop(mem::replace(self.flow_state.properties_mut(), properties));
+        if let Some(properties) = properties {
+            drop(self.flow_state.properties_mut().replace(properties));
+        }
     }
 }
 
 impl<T: LinkTarget> LinkAttach for SenderLink<T> {
     ghost use Rattle.std.specs.Prelude.{◌≡◌, [], refl};
-    ghost use Rattle.amqp_link_types.specs.Unsettled.{states_of};
     ghost use Rattle.amqp_link_types.specs.declared.types.errors.SenderAttachError.TheVariants.{IllegalState, AttachTooLarge, OutOfMemory};
     ghost use Rattle.amqp_link_sender.specs.declared.sender_link.attach.SenderAttachExchange.TheVariants.{Complete};
-    ghost use Rattle.amqp_link_sender.specs.SenderAttaches.{sender_attach, sender_attached, all_illegal};
-    ghost use Rattle.amqp_link_sender.specs.SenderAttaches.{sender_refusal, sender_taken, sender_left};
+    ghost use Rattle.amqp_link_sender.specs.SenderAttaches.{sender_attached, sender_refusal, sender_taken, sender_left};
+    ghost use Rattle.amqp_link_sender.specs.SenderAttaches.{sender_target_taken, sender_shown_after_refusal};
 
     type AttachExchange = (SenderAttachExchange, Outcomes);
 
     type AttachError = SenderAttachError;
 
-    ghost frame_limit = { λ link. link.max_frame_size };
-
-    ghost whole = { λ link. sender_attach T.sent_as link };
-
-    ghost entries = { λ link. states_of link.unsettled };
-
     ghost attached = { sender_attached };
 
     ghost emptied = { λ link. record link { unsettled = [] } };
 
-    ghost ended = { λ link. all_illegal link.unsettled };
+    ghost nothing_unsettled = { [] };
 
     ghost copies = { (t c : T) → T.is_clone t c → c ≡ t };
 
@@ -350,25 +341,23 @@ impl<T: LinkTarget> LinkAttach for SenderLink<T> {
 
     ghost taken = { sender_taken T.admitted };
 
+    ghost target_taken = { λ link attach. sender_target_taken T.sent_as T.admitted attach };
+
     ghost exchanged = { λ link attach answer. (answer.0 ≡ Complete) × (answer.1.items ≡ []) };
 
     ghost left = { sender_left T.admitted };
 
-    ghost state_attached = { λ link s. refl };
+    ghost errors_differ = { ((λ h. Prim.cc), (λ h. Prim.cc), (λ h. Prim.cc)) };
 
-    ghost handle_attached = { λ link s. refl };
+    ghost shown_after_attach = { λ link s. refl };
 
-    ghost state_emptied = { λ link. refl };
+    ghost shown_emptied = { λ link. refl };
 
-    ghost handle_emptied = { λ link. refl };
+    ghost shown_after_taking = { λ link a. refl };
 
-    ghost entries_emptied = { λ link. refl };
+    ghost shown_after_refusal = { sender_shown_after_refusal T.sent_as T.admitted };
 
-    ghost left_by_want = { λ link a. refl };
-
-    ghost moved_leaves_frame_limit = { λ link s h. refl };
-
-    ghost moved_leaves_entries = { λ link s h. refl };
+    ghost left_by_memory = { λ link a. refl };
 
     fn send_attach(
         &mut self,
@@ -423,7 +412,7 @@ impl<T: LinkTarget> LinkAttach for SenderLink<T> {
             let refused = SenderAttachError::SndSettleModeNotSupported;
             return Err(refused);
         }
-        let properties = with_properties(self.alloc, self.flow_state.properties(), properties)?;
+        let properties = merged_with(self.flow_state.properties(), properties)?;
         // All tests are behind, and all growths: from here on nothing can fail.
         self.come(handle, next);
         self.take_target(target, rcv_settle_mode);

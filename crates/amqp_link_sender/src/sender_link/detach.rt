@@ -7,7 +7,9 @@ use amqp_link_core::endpoint::detached::{detach_frame, outcome_of, reply_of};
 use amqp_link_core::endpoint::table::{after_detach_reply, after_remote_detach, after_sent_detach};
 use amqp_link_core::endpoint::target::LinkTarget;
 use amqp_link_state::state::LinkState;
+use amqp_link_types::delivery::UnsettledMessage;
 use amqp_link_types::frame::LinkFrame;
+use amqp_link_types::types::unsettled_map::UnsettledMap;
 use amqp_link_types::types::{ApplyRemoteDetachError, Detach, DetachError, Error};
 
 impl<T: LinkTarget> SenderLink<T> {
@@ -24,12 +26,13 @@ impl<T: LinkTarget> LinkDetach for SenderLink<T> {
     ghost use Rattle.std.specs.Prelude.{refl};
     ghost use Rattle.amqp_link_types.specs.declared.types.errors.DetachError.TheVariants.{IllegalState};
     ghost use Rattle.amqp_link_core.specs.Detaching.{reply_error};
+    ghost use Rattle.amqp_link_sender.specs.SenderAttaches.{sender_shown};
 
     type DetachError = DetachError;
 
-    ghost state = { λ link. link.local_state };
+    type Unsettled = UnsettledMap<UnsettledMessage>;
 
-    ghost handle = { λ link. link.output_handle };
+    ghost shown = { sender_shown T.sent_as };
 
     ghost moved = { λ link s h. record link { local_state = s; output_handle = h } };
 
@@ -37,9 +40,7 @@ impl<T: LinkTarget> LinkDetach for SenderLink<T> {
 
     ghost replied = { reply_error };
 
-    ghost state_moved = { λ link s h. refl };
-
-    ghost handle_moved = { λ link s h. refl };
+    ghost shown_moved = { λ link s h. refl };
 
     ghost moved_twice = { λ link s t h k. refl };
 

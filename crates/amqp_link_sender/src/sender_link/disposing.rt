@@ -3,10 +3,10 @@
 ghost use Rattle.std.specs.Prelude.{◌≡◌, ◌∷◌, ◌&&◌, ◌||◌, ◌↔◌, ◌⊎◌, [], map, true, false, None, is_some};
 ghost use Rattle.std.specs.Prelude.{IfOk, IfErr, IfSome, IsSome, IsErrOf, OnOk, OnErr, if◌then◌else◌};
 ghost use Rattle.std.specs.Option.{option_map};
-ghost use Rattle.amqp_link_dispositions.specs.Ending.{all_closed as all_closed_for, ended_by, reply_of, told};
+ghost use Rattle.amqp_link_dispositions.specs.Ending.{all_closed as all_closed_for, ended_by, reply_of, map_after_receiver_disposition};
 ghost use Rattle.amqp_link_dispositions.specs.Listed.{tags_in_order};
 ghost use Rattle.amqp_link_sender.specs.Senders.{settles};
-ghost use Rattle.amqp_link_sender.specs.SenderDisposes.{Says, ended_at, after_disposing, is_echoed};
+ghost use Rattle.amqp_link_sender.specs.SenderDisposes.{Dispositions, ended_at, after_disposing, is_echoed};
 
 use crate::sender_link::SenderLink;
 use amqp_link_core::endpoint::target::LinkTarget;
@@ -36,7 +36,7 @@ impl<T: LinkTarget> SenderLink<T> {
         batchable: bool,
     ) -> Result<(Vec<LinkFrame>, Outcomes), DispositionError>
         ensures frames { IfOk result (λ said.
-            Says self.old settled state batchable (delivery_id ∷ []) said.0.items) }
+            Dispositions self.old settled state batchable (delivery_id ∷ []) said.0.items) }
         ensures outcomes { IfOk result (λ said.
             said.1.items ≡ ended_at self.old settled (delivery_tag.now ∷ [])) }
         ensures after { OnOk result
@@ -73,7 +73,7 @@ impl<T: LinkTarget> SenderLink<T> {
         batchable: bool,
     ) -> Result<(Vec<LinkFrame>, Outcomes), DispositionError>
         ensures frames { IfOk result (λ said.
-            Says self.old settled state batchable (map (λ pair. pair.0) ids_and_tags.now) said.0.items) }
+            Dispositions self.old settled state batchable (map (λ pair. pair.0) ids_and_tags.now) said.0.items) }
         ensures outcomes { IfOk result (λ said.
             said.1.items ≡ ended_at self.old settled (tags_in_order ids_and_tags.now)) }
         ensures after { OnOk result
@@ -123,7 +123,7 @@ impl<T: LinkTarget> SenderLink<T> {
         ensures echo { result.0 ≡ is_echoed settled self.old.rcv_settle_mode }
         ensures ended { result.1 ≡ ended_by settled state delivery_tag.now self.old.unsettled }
         ensures after { self.new ≡ record self.old {
-          unsettled = told settled state delivery_tag.now self.old.unsettled;
+          unsettled = map_after_receiver_disposition settled state delivery_tag.now self.old.unsettled;
         } }
     {
         let is_second = matches!(self.rcv_settle_mode, ReceiverSettleMode::Second);
@@ -135,17 +135,14 @@ impl<T: LinkTarget> SenderLink<T> {
     /// Ends each delivery that is kept, in order, since this detach closes the link: with its error,
     /// where it has one.
     ///
-    /// Refused where memory is wanting, with nothing changed.
+    /// Refused where it is out of memory, with nothing changed.
     pub fn fail_pending_unsettled(&mut self, detach: &Detach) -> Result<Outcomes, AllocError>
         ensures ended { IfOk result (λ outcomes.
             outcomes.items ≡ all_closed_for detach.now.error self.old.unsettled) }
         ensures after { OnOk result (self.new ≡ record self.old { unsettled = [] }) }
         ensures left { OnErr result (self.new ≡ self.old) }
     {
-        let outcomes = all_closed(self.alloc, &self.unsettled, &detach.error)?;
-        // All memory is taken: from here on nothing can fail.
-        drop(self.unsettled.take_all());
-        Ok(outcomes)
+        all_closed(self.alloc, &mut self.unsettled, &detach.error)
     }
 
     /// Takes a detach off the session. One that the other end sent of itself is answered at the own

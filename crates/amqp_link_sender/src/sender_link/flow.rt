@@ -1,6 +1,6 @@
 //! Flows that come to a sender's end (2.6.7), and transfers, which have no business there.
 ghost use Rattle.std.specs.Prelude.{◌≡◌, ◌+◌, ◌%◌, ◌^◌, Ok, Err, OnOk, OnErr, MatchOption};
-ghost use Rattle.amqp_link_state.specs.Counts.{limit_of, credit_after, sender_after, sender_reply};
+ghost use Rattle.amqp_link_state.specs.Counts.{count_limit, credit_after, sender_after, sender_reply};
 
 use crate::sender_link::SenderLink;
 use amqp_link_core::endpoint::target::LinkTarget;
@@ -26,7 +26,7 @@ impl<T: LinkTarget> SenderLink<T> {
             ≡ record self.old { flow_state = sender_after flow self.old.flow_state }) }
 
         // Drained or not, the count up to which deliveries may be sent is the granted one.
-        ensures limit { OnOk result (limit_of self.new.flow_state ≡
+        ensures limit { OnOk result (count_limit self.new.flow_state ≡
             (self.old.flow_state.delivery_count + credit_after flow self.old.flow_state) % 2 ^ 32) }
         ensures left { OnErr result (self.new ≡ self.old) }
     {

@@ -4,7 +4,7 @@
 ghost use Rattle.std.specs.Prelude.{◌≡◌, ◌↔◌, ◌+◌, ◌%◌, ◌^◌, ◌<◌, ◌≤◌, true, if◌then◌else◌, None};
 ghost use Rattle.std.specs.Prelude.{IfOk, IfErr, IsErr, OnErr, OnOk, is_some};
 ghost use Rattle.std.specs.Int.{w32, to_be_bytes};
-ghost use Rattle.amqp_link_state.specs.Counts.{sdiff, granted as granted_by, limit_of, after_consuming};
+ghost use Rattle.amqp_link_state.specs.Counts.{sdiff, granted as granted_by, count_limit, after_consuming};
 ghost use Rattle.amqp_link_state.specs.Counts.{flow_of, credit_after, sender_after, sender_reply};
 ghost use Rattle.amqp_link_state.specs.Counts.{receiver_after, receiver_reply, with_stated, stated_flow};
 
@@ -73,7 +73,7 @@ impl LinkFlowStateInner {
     fn spend(&mut self, n: u32)
         requires { n ≤ self.old.link_credit }
         ensures spent { self.new ≡ after_consuming n self.old }
-        ensures limit { limit_of self.new ≡ limit_of self.old }
+        ensures limit { count_limit self.new ≡ count_limit self.old }
     {
         self.delivery_count = self.delivery_count.wrapping_add(n);
         self.link_credit -= n;
@@ -88,7 +88,7 @@ impl LinkFlowState<SenderMarker> {
     pub fn consume(&mut self, n: u32) -> Result<[u8; 4], InsufficientCredit>
         ensures tag { IfOk result (λ tag. tag ≡ to_be_bytes w32 self.old.delivery_count) }
         ensures spent { OnOk result (self.new ≡ after_consuming n self.old) }
-        ensures limit { OnOk result (limit_of self.new ≡ limit_of self.old) }
+        ensures limit { OnOk result (count_limit self.new ≡ count_limit self.old) }
         ensures refused { IsErr result ↔ (self.old.link_credit < n) }
         ensures kept { OnErr result (self.new ≡ self.old) }
     {
@@ -116,7 +116,7 @@ impl LinkFlowState<SenderMarker> {
         ensures reply { result ≡ sender_reply flow.now self.old output_handle }
 
         // Drained or not, the count up to which deliveries may be sent is the granted one.
-        ensures limit { limit_of self.new
+        ensures limit { count_limit self.new
             ≡ (self.old.delivery_count + credit_after flow.now self.old) % 2 ^ 32 }
     {
         let state = &mut self.inner;
@@ -142,7 +142,7 @@ impl LinkFlowState<ReceiverMarker> {
     /// Refused with `TransferLimitExceeded`, and nothing changed, where there is less credit.
     pub fn consume(&mut self, n: u32) -> Result<(), ReceiverTransferError>
         ensures spent { OnOk result (self.new ≡ after_consuming n self.old) }
-        ensures limit { OnOk result (limit_of self.new ≡ limit_of self.old) }
+        ensures limit { OnOk result (count_limit self.new ≡ count_limit self.old) }
         ensures refused { IsErr result ↔ (self.old.link_credit < n) }
         ensures error { IfErr result (λ error. error ≡ ReceiverTransferError.TransferLimitExceeded) }
         ensures kept { OnErr result (self.new ≡ self.old) }

@@ -46,6 +46,32 @@ pub enum LinkStateError {
     OutOfMemory,
 }
 
+impl Clone for LinkStateError {
+    ghost is_clone = { λ error copy. copy ≡ error };
+
+    fn clone(&self) -> Result<LinkStateError, AllocError> {
+        let copy = match self {
+            LinkStateError::IllegalState => LinkStateError::IllegalState,
+            LinkStateError::RemoteDetached => LinkStateError::RemoteDetached,
+            LinkStateError::RemoteDetachedWithError(error) => {
+                LinkStateError::RemoteDetachedWithError(error.clone()?)
+            }
+            LinkStateError::RemoteClosed => LinkStateError::RemoteClosed,
+            LinkStateError::RemoteClosedWithError(error) => {
+                LinkStateError::RemoteClosedWithError(error.clone()?)
+            }
+            LinkStateError::ExpectImmediateDetach => LinkStateError::ExpectImmediateDetach,
+            LinkStateError::SessionStopped(reason) => {
+                LinkStateError::SessionStopped(reason.clone()?)
+            }
+            LinkStateError::TagPending => LinkStateError::TagPending,
+            LinkStateError::NoRoom => LinkStateError::NoRoom,
+            LinkStateError::OutOfMemory => LinkStateError::OutOfMemory,
+        };
+        Ok(copy)
+    }
+}
+
 impl From<AllocError> for LinkStateError {
     ghost use Rattle.amqp_link_types.specs.declared.types.errors.LinkStateError.TheVariants.{OutOfMemory};
 

@@ -4,7 +4,7 @@
 //! or adds last, a removal moves the last pair into the gap.
 #![tactic(auto, using(crate::proofs::EntriesLemmas::map_steps))]
 
-ghost use Rattle.std.specs.Prelude.{◌≡◌, ◌+◌, ◌&&◌, ◌∷◌, [], length, position, slice_get, take, is_some, None, Option, Some};
+ghost use Rattle.std.specs.Prelude.{◌≡◌, ◌+◌, ◌==◌, ◌&&◌, ◌∷◌, [], length, position, slice_get, take, is_some, None, Option, Some};
 ghost use Rattle.std.specs.Prelude.{IfOk, IfErr, IfSome, IfNone, OnOk, OnErr};
 ghost use Rattle.std.specs.Map.Iter.{deref_pair};
 ghost use Rattle.std.specs.Option.{option_map, option_copied, option_to_list};
@@ -56,8 +56,22 @@ impl<V> UnsettledMap<V> {
         self.pairs.len()
     }
 
+    /// Whether there are none.
+    pub fn is_empty(&self) -> bool
+        ensures { result ≡ (length self.now == 0) }
+    {
+        self.len() == 0
+    }
+
     /// What is kept of a delivery.
     pub fn get(&self, tag: &DeliveryTag) -> Option<&V>
+        ensures { option_copied result ≡ entry_at self.now tag.now }
+    {
+        self.get_by_bytes(tag.as_bytes())
+    }
+
+    // What is kept of the delivery whose tag has these bytes.
+    fn get_by_bytes(&self, tag: &[u8]) -> Option<&V>
         ensures { option_copied result ≡ entry_at self.now tag.now }
     {
         let i = find(&self.pairs, tag)?;
@@ -69,6 +83,14 @@ impl<V> UnsettledMap<V> {
         ensures { result ≡ is_some (entry_at self.now tag.now) }
     {
         self.get(tag).is_some()
+    }
+
+    /// Whether the delivery whose tag has these bytes is there. Does not allocate. Its cost grows with the
+    /// number of deliveries.
+    pub fn contains_bytes(&self, tag: &[u8]) -> bool
+        ensures { result ≡ is_some (entry_at self.now tag.now) }
+    {
+        self.get_by_bytes(tag).is_some()
     }
 
     /// The pair at a place, for a walk in order.
@@ -120,7 +142,7 @@ impl<V> UnsettledMap<V> {
         ensures kept { OnErr result (self.new ≡ self.old) }
         ensures absent { OnErr result (entry_at self.old tag ≡ None) }
     {
-        let Some(i) = find(&self.pairs, &tag) else {
+        let Some(i) = find(&self.pairs, tag.as_bytes()) else {
             self.pairs.push((tag, value))?;
             return Ok(None);
         };
@@ -143,7 +165,7 @@ impl<V> UnsettledMap<V> {
         ensures removed { self.new ≡ without_entry self.old tag.now }
         ensures len { length self.new + length (option_to_list result) ≡ length self.old }
     {
-        let i = find(&self.pairs, tag)?;
+        let i = find(&self.pairs, tag.as_bytes())?;
         Some(self.pairs.swap_remove(i))
     }
 
@@ -156,7 +178,7 @@ impl<V> UnsettledMap<V> {
         ensures absent { OnErr result (entry_at self.old tag.now ≡ None) }
         ensures kept { OnErr result (self.new ≡ self.old) }
     {
-        let Some(i) = find(&self.pairs, tag) else {
+        let Some(i) = find(&self.pairs, tag.as_bytes()) else {
             return Err(value);
         };
         let pair = &mut self.pairs[i];
@@ -210,7 +232,7 @@ impl<V: KeepsState> UnsettledMap<V> {
     pub fn set_state(&mut self, tag: &DeliveryTag, state: Option<DeliveryState>)
         ensures { self.new ≡ changed_at (λ value. V.with_state value state) (tag.now ∷ []) self.old }
     {
-        let Some(i) = find(&self.pairs, tag) else {
+        let Some(i) = find(&self.pairs, tag.as_bytes()) else {
             drop(state);
             return;
         };
@@ -283,16 +305,16 @@ impl<V: Eq> Eq for UnsettledMap<V> {
         (on_equiv (λ e. e.1) V.Eq.laws)) };
 }
 
-// Where the pair with the tag stands.
-fn find<V>(pairs: &[(DeliveryTag, V)], tag: &DeliveryTag) -> Option<usize>
+// Where the pair stands whose tag has these bytes.
+fn find<V>(pairs: &[(DeliveryTag, V)], tag: &[u8]) -> Option<usize>
     ensures found { IfSome result (FoundAt pairs.now tag.now) }
     ensures missing { IfNone result (IsMissing pairs.now tag.now) }
 {
     first_with(pairs, tag)
 }
 
-fn first_with<V>(pairs: &[(DeliveryTag, V)], tag: &DeliveryTag) -> Option<usize>
+fn first_with<V>(pairs: &[(DeliveryTag, V)], tag: &[u8]) -> Option<usize>
     ensures { result ≡ position (λ pair. bytes_eq tag.now pair.0) pairs.now }
 {
-    pairs.iter().position(|pair| *tag == pair.0)
+    pairs.iter().position(|pair| tag == pair.0.as_bytes())
 }

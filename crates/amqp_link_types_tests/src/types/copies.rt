@@ -1,8 +1,9 @@
 //! Copies, while there is memory.
 use super::samples::{attach, error, fields, source, tag, target, unsettled};
+use amqp_link_types::delivery::{DeliveryOutcome, copy_of_outcome};
 use amqp_link_types::types::{
-    ConnectionStopReason, DeliveryState, Detach, Disposition, Handle, LinkFlow, Outcome, Role,
-    SessionStopReason, TargetArchetype, TerminusDurability, Transfer,
+    ConnectionStopReason, DeliveryState, Detach, Disposition, Handle, LinkFlow, LinkStateError,
+    Outcome, Role, SessionStopReason, TargetArchetype, TerminusDurability, Transfer,
 };
 use std::process::Abort;
 
@@ -176,4 +177,57 @@ fn a_copied_stop_reason_is_equal(rt: HostRuntime) {
     let closed = ConnectionStopReason::Closed;
     let other = SessionStopReason::ConnectionStopped(closed);
     copied(&rt, SessionStopReason::Ended, other, "an ended one");
+}
+
+#[test]
+fn a_copied_refusal_is_equal(rt: HostRuntime) {
+    let plain = [
+        LinkStateError::IllegalState,
+        LinkStateError::RemoteDetached,
+        LinkStateError::RemoteClosed,
+        LinkStateError::ExpectImmediateDetach,
+        LinkStateError::TagPending,
+        LinkStateError::NoRoom,
+    ];
+    for original in plain {
+        copied(
+            &rt,
+            original,
+            LinkStateError::OutOfMemory,
+            "without an error",
+        );
+    }
+    let other = LinkStateError::NoRoom;
+    copied(&rt, LinkStateError::OutOfMemory, other, "out of memory");
+    let original = LinkStateError::RemoteDetachedWithError(error(&rt));
+    let other = LinkStateError::RemoteClosedWithError(error(&rt));
+    copied(&rt, original, other, "detached with an error");
+    let original = LinkStateError::RemoteClosedWithError(error(&rt));
+    copied(
+        &rt,
+        original,
+        LinkStateError::RemoteClosed,
+        "closed with an error",
+    );
+    let original = LinkStateError::SessionStopped(SessionStopReason::Ended);
+    let why = SessionStopReason::ConnectionStopped(closed_with_error(&rt));
+    copied(&rt, original, LinkStateError::SessionStopped(why), "a stop");
+}
+
+// Whether the copy of what became of a delivery is equal to it.
+fn outcome_copied(rt: &impl Abort, original: DeliveryOutcome) -> bool {
+    let copy = copy_of_outcome(&original).expect(rt, "memory");
+    let is_copied = copy == original;
+    drop((copy, original));
+    is_copied
+}
+
+#[test]
+fn a_copied_outcome_is_equal(rt: HostRuntime) {
+    let why = Some(error(&rt));
+    let rejected = DeliveryState::Rejected { error: why };
+    assert!(rt; outcome_copied(&rt, Ok(None)), "no state");
+    assert!(rt; outcome_copied(&rt, Ok(Some(rejected))), "a state");
+    let refusal = LinkStateError::RemoteClosedWithError(error(&rt));
+    assert!(rt; outcome_copied(&rt, Err(refusal)), "a refusal");
 }

@@ -48,6 +48,7 @@ fn holds(rt: &impl Abort, map: &UnsettledMap<u8>, pairs: &[(u8, u8)], when: &str
 fn found(rt: &(impl Abort + AllocGlobal), map: &UnsettledMap<u8>, byte: u8) -> (Option<u8>, bool) {
     let tag = tag(rt, byte);
     let found = (map.get(&tag).copied(), map.contains(&tag));
+    assert_eq!(rt; map.contains_bytes(tag.as_bytes()), found.1, "by its bytes");
     drop(tag);
     found
 }
@@ -63,8 +64,10 @@ fn removed(rt: &(impl Abort + AllocGlobal), map: &mut UnsettledMap<u8>, byte: u8
 fn puts_keep_the_order(rt: HostRuntime) {
     let none = UnsettledMap::new(rt.alloc());
     holds(&rt, &none, &[], "at first");
+    assert!(rt; none.is_empty(), "no deliveries");
     let mut map = three(&rt);
     holds(&rt, &map, &[(1, 10), (2, 20), (3, 30)], "after three puts");
+    assert!(rt; !map.is_empty(), "three deliveries");
     let old = put(&rt, &mut map, 2, 25);
     assert_eq!(rt; old, Some(20), "a put of a tag that is there");
     holds(&rt, &map, &[(1, 10), (2, 25), (3, 30)], "after it");

@@ -26,6 +26,57 @@ fn fields_are_put_one_by_one(rt: HostRuntime) {
     assert!(rt; is_wanted, "a, the newer b, and c");
 }
 
+// Whether the fields are these, in this order.
+fn are_fields(fields: &Fields, wanted: &[(&str, u8)]) -> bool {
+    let mut count = 0usize;
+    for (name, value) in fields.iter() {
+        let Some(want) = wanted.get(count) else {
+            return false;
+        };
+        let number = Value::Ubyte(want.1);
+        let is_wanted = name.as_str() == want.0 && *value == number;
+        drop(number);
+        if !is_wanted {
+            return false;
+        }
+        count = count.wrapping_add(1);
+    }
+    count == wanted.len()
+}
+
+#[test]
+fn fields_are_listed_as_they_were_put(rt: HostRuntime) {
+    let none = Fields::new(rt.alloc());
+    assert!(rt; none.is_empty() && are_fields(&none, &[]), "no fields");
+    let rows = [("b", 1), ("a", 2), ("c", 3)];
+    let fields = named(&rt, &rows);
+    assert!(rt;
+        !fields.is_empty() && are_fields(&fields, &rows),
+        "three fields"
+    );
+    let mut again = Fields::new(rt.alloc());
+    for (name, value) in fields.into_pairs() {
+        drop(again.insert(name, value).expect(&rt, "memory"));
+    }
+    assert!(rt; are_fields(&again, &rows), "the fields that were given up");
+}
+
+#[test]
+fn nothing_is_merged_into_nothing(rt: HostRuntime) {
+    let none = Fields::new(rt.alloc());
+    let some = named(&rt, &[("a", 1)]);
+    for (own, theirs, wanted) in [
+        (&none, &none, &none),
+        (&some, &none, &some),
+        (&none, &some, &some),
+    ] {
+        let both = own.merged(theirs).expect(&rt, "memory");
+        assert!(rt; both == *wanted, "one of the two is empty");
+        drop(both);
+    }
+    drop((none, some));
+}
+
 #[test]
 fn copied_fields_are_equal(rt: HostRuntime) {
     let original = named(&rt, &[("a", 1), ("b", 2)]);

@@ -10,7 +10,7 @@ feed_all-requires c =
     = c.as_slice.ensures ∙ c.piece-item.is in
     omega (
       arith,
-      c.requires,
+      c.in_ok-joined_len.ensures.0,
       c.loop-piece.invariant.length,
       ap length item,
       concat_within c.args.pieces.now c.loop-piece.piece-index c.piece-item.result c.loop-piece-test.true,

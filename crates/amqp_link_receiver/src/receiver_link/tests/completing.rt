@@ -1,13 +1,17 @@
 //! Worked values of deliveries that come whole.
+ghost use Rattle.std.specs.Prelude.{[], Ok, Err};
+
 use crate::receiver_link::ReceiverLink;
 use crate::samples::{count_tag, parts, payload_of};
 use amqp_link_core::endpoint::LinkExt;
+use amqp_link_payloads::Message;
 use amqp_link_state::state::{LinkFlowStateInner, LinkState};
 use amqp_link_types::delivery::{Delivery, DeliveryInfo};
 use amqp_link_types::types::{
     DataBody, DecodeError, DeliveryState, DeliveryTag, FromBody, MessageDecodeError, OutputHandle,
     Payload, ReceiverSettleMode, ReceiverTransferError, SenderSettleMode, Target, Transfer, Whole,
 };
+use std::alloc::Global;
 use std::process::Abort;
 
 // The link "l" in this mode, attached at output handle 7, at the last count and with this credit.
@@ -415,4 +419,82 @@ fn without_handle_the_delivery_is_kept_and_not_given(rt: HostRuntime) {
     };
     let told = told_without_handle(&rt);
     assert_eq!(rt; told, (Told::IllegalState, left));
+}
+
+// A body that refuses all bytes.
+#[derive(Debug, Drop)]
+struct Refusing(u8);
+
+impl FromBody for Refusing {
+    ghost use Rattle.amqp_link_payloads.specs.declared.error.DecodeError.TheVariants.{Refused};
+
+    ghost decoded = { λ bytes. Err Refused };
+
+    ghost memory_aside = { λ bytes e. Prim.cc };
+
+    fn decode_from_pieces(
+        _alloc: Global,
+        _pieces: &[Payload],
+    ) -> Result<Message<Refusing>, DecodeError> {
+        Err(DecodeError::Refused)
+    }
+}
+
+// A body that is always out of memory.
+#[derive(Debug, Drop)]
+struct Starved(u8);
+
+impl FromBody for Starved {
+    ghost decoded = { λ bytes.
+        Ok (record { preamble = []; body = record { 0 = 0 }; footer = [] }) };
+
+    ghost memory_aside = { λ bytes e. Prim.cc };
+
+    fn decode_from_pieces(
+        _alloc: Global,
+        _pieces: &[Payload],
+    ) -> Result<Message<Starved>, DecodeError> {
+        Err(DecodeError::OutOfMemory)
+    }
+}
+
+// Why a body of a user's own was not given, if that is so.
+fn source_of<B: FromBody>(
+    answer: &Result<Delivery<B>, ReceiverTransferError>,
+) -> Option<DecodeError> {
+    match answer {
+        Err(ReceiverTransferError::MessageDecode(refused)) => Some(refused.source),
+        Err(ReceiverTransferError::OutOfMemory) => Some(DecodeError::OutOfMemory),
+        _ => None,
+    }
+}
+
+// Why this body is not given of two bytes, and what is left of a link with credit 1.
+fn source_with<B: FromBody>(rt: &(impl Abort + AllocGlobal)) -> (Option<DecodeError>, Left) {
+    let mut link = link_in(rt, ReceiverSettleMode::First, 1);
+    let pieces = pieces(rt, b"h", b"i");
+    let transfer = third(rt, None);
+    let answer = completed::<B>(&mut link, &transfer, pieces.as_slice(), 2);
+    let source = source_of(&answer);
+    let left = left_of(rt, &link);
+    drop((answer, pieces));
+    drop((transfer, link));
+    (source, left)
+}
+
+// A body's own refusal costs the credit, and the delivery is kept; a body that is out of memory changes
+// nothing.
+#[test]
+fn body_of_a_user_refuses_or_is_out_of_memory(rt: HostRuntime) {
+    let kept = Left {
+        entries: 1,
+        place: Some((0, 2)),
+        ..spent(0)
+    };
+    assert_eq!(rt;
+        source_with::<Refusing>(&rt),
+        (Some(DecodeError::Refused), kept)
+    );
+    let starved = source_with::<Starved>(&rt);
+    assert_eq!(rt; starved, (Some(DecodeError::OutOfMemory), untouched(1)));
 }

@@ -201,7 +201,7 @@ fn named_after(
 }
 
 #[test]
-fn session_is_told_of_deliveries_settled_second(rt: HostRuntime) {
+fn session_is_told_of_unsettled_transfers_in_mode_second(rt: HostRuntime) {
     let first = (ReceiverSettleMode::First, false);
     let second = (ReceiverSettleMode::Second, false);
     let under_way = (ReceiverSettleMode::Second, true);

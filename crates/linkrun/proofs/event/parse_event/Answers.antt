@@ -1,7 +1,7 @@
 use Rattle.std.proofs.Common.{rules, ◌≡◌, ◌++◌}
 use Rattle.std.specs.Prelude.{codes}
 use Rattle.std.specs.Option.{option_map}
-use Rattle.line_text.specs.Hex.{IsHexText, bytes_of}
+use Rattle.line_text.specs.Hex.{IsHexText, hex_bytes}
 use Rattle.linkrun.specs.declared.event.Event.TheVariants.{Arrive}
 use Rattle.linkrun.proofs.LineLemmas.{OnErr-always, arrive_read, send_said, show_said}
 use Rattle.linkrun.proofs.event.parse_event.Goals as goal
@@ -34,5 +34,5 @@ pub returns-in-Some-3-clause-ok : goal.returns-in-Some-3-clause-ok
 returns-in-Some-3-clause-ok c =
     let begins : c.args.line.now ≡ codes "show " ++ c.in-Some-strip_prefix-4.text.now = search rules in
     let digits : IsHexText c.in-Some-strip_prefix-4.text.now = search rules in
-    let value : c.from.result ≡ bytes_of c.in-Some-strip_prefix-4.text.now = search rules in
+    let value : c.from.result ≡ hex_bytes c.in-Some-strip_prefix-4.text.now = search rules in
     (_, begins, record { digits = digits; value = value })

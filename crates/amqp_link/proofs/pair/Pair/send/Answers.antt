@@ -1,4 +1,5 @@
-use Rattle.std.proofs.Common.{◌≡◌, ◌<◌, ◌^◌, rules, arith, length, None, Some}
+use Rattle.std.specs.Prelude.{is_none, true}
+use Rattle.std.proofs.Common.{sym, ◌∙◌, ◌≡◌, ◌<◌, ◌^◌, rules, arith, length, None, Some}
 use Rattle.amqp_link_types.specs.Entries.{entry_at}
 use Rattle.amqp_link.specs.PairViews.{world_of}
 use Rattle.amqp_link.specs.Invariants.{IsKept, IsWorld}
@@ -6,7 +7,7 @@ use Rattle.amqp_link.specs.Steps.{Sends}
 use Rattle.amqp_link.specs.Worlds.{World, frames_of}
 use Rattle.amqp_link.specs.declared.pair.ends.Stage.TheVariants.{Together}
 use Rattle.amqp_link.proofs.AttachLemmas.{IsEnds-sends, stage_together}
-use Rattle.amqp_link.proofs.WorldLemmas.{IsWorld-sends, nothing_there, Good-from_world}
+use Rattle.amqp_link.proofs.WorldLemmas.{IsWorld-sends, nothing_there, Good-from_world, absent-same, none-absent}
 use Rattle.amqp_link.proofs.pair.Pair.send.Goals as goal
 
 -- the world after it
@@ -18,7 +19,10 @@ new c = record (world_of c.self.inside) {
 }
 
 free : (c : goal.After-push) → entry_at c.self.inside.ends.sender.unsettled c.in-Ok.sent ≡ None
-free c = search rules
+free c =
+    let same = absent-same (world_of c.self.inside) c.in-Ok.sent c.self.invariant.world in
+    let gone : is_none (entry_at c.self.inside.deliveries c.in-Ok.sent) ≡ true = search rules in
+    none-absent (entry_at c.self.inside.ends.sender.unsettled c.in-Ok.sent) (sym same ∙ gone)
 
 did : (c : goal.After-push) → Sends (world_of c.self.inside) c.args.payload.now c.in-Ok.sent c.len-count.result (new c)
 did c =

@@ -1,21 +1,11 @@
-use Rattle.std.proofs.Common.{rules, arith}
-use Rattle.amqp_link_core.proofs.CountLemmas.{IsPushed-long, IsPushed-counted, IsPushed-taken}
+use Rattle.std.proofs.Common.{◌≡◌, ◌++◌, ◌∷◌, [], sym, subst, rules}
+use Rattle.std.specs.List.{concat}
+use Rattle.amqp_link_core.specs.Held.{IsCountable}
+use Rattle.amqp_link_core.proofs.CountLemmas.{pushed_counted}
 use Rattle.amqp_link_core.proofs.incomplete_transfer.pieces.push_piece.Goals as goal
-
-pub returns-then-is_none-clause-refused : goal.returns-then-is_none-clause-refused
-returns-then-is_none-clause-refused c =
-    IsPushed-long c.args.pieces.now.items c.push.new.self.items c.args.piece c.in-Some.size c.position_of.result
-    (record { items = search rules; size = search rules; fits = omega arith; scanned = search rules })
-    (search rules)
 
 pub returns-clause-countable : goal.returns-clause-countable
 returns-clause-countable c =
-    IsPushed-counted c.args.pieces.now.items c.push.new.self.items c.args.piece c.in-Some.size c.position_of.result
-    (record { items = search rules; size = search rules; fits = omega arith; scanned = search rules })
-    (search rules)
-
-pub returns-clause-refused : goal.returns-clause-refused
-returns-clause-refused c =
-    IsPushed-taken c.args.pieces.now.items c.push.new.self.items c.args.piece c.in-Some.size c.position_of.result
-    (record { items = search rules; size = search rules; fits = omega arith; scanned = search rules })
-    (search rules)
+    let items : c.push.new.self.items ≡ c.args.pieces.now.items ++ c.args.piece ∷ [] = search rules in
+    let counted : IsCountable (concat c.args.pieces.now.items ++ c.args.piece) c.in-Some.size = search rules in
+    subst (λ pieces. IsCountable (concat pieces) c.in-Some.size) (sym items) (pushed_counted c.args.pieces.now.items c.args.piece c.in-Some.size counted)

@@ -1,6 +1,6 @@
 use Rattle.std.proofs.Common.{◌≡◌, sym, subst, inl, inr, OnOk, OnErr}
 use Rattle.amqp_link.specs.Exchange.{MayStop, ends_at, answered}
-use Rattle.amqp_link_core.specs.Attaching.{Fits}
+use Rattle.amqp_link_core.specs.Attaching.{FitsFrame}
 use Rattle.amqp_link.specs.declared.pair.ends.Stage.TheVariants.{Asked, Together}
 use Rattle.amqp_link.proofs.AttachLemmas.{own_limit, at_own_limit, on_err, on_any}
 use Rattle.amqp_link.proofs.pair.ends.Ends.ask.Goals as goal
@@ -13,7 +13,7 @@ go_on_asked-requires c =
     let done = c.in_ok-send_asked.ensures.done c.requires.0 c.requires.1 in (
       c.requires.0,
       at_own_limit Asked c.requires.0 c.args.limit c.send_asked.new.self done,
-      subst (λ l. Fits (answered c.requires.0) l) (sym (own_limit Asked c.requires.0 c.args.limit c.send_asked.new.self done)) c.requires.3,
+      subst (λ l. FitsFrame (answered c.requires.0) l) (sym (own_limit Asked c.requires.0 c.args.limit c.send_asked.new.self done)) c.requires.3,
     )
 
 pub returns-clause-done : goal.returns-clause-done

@@ -1,6 +1,0 @@
-use Rattle.amqp_link.specs.Runs.{Follows}
-use Rattle.amqp_link.specs.Worlds.{Good}
-use Rattle.amqp_link.proofs.pair.runs.run.Given as goal
-
-abbrev pub invariant-loop-event : goal.invariant-loop-event
-invariant-loop-event l = record { follows : Follows l.fn.pair l.pair; good : Good l.pair }

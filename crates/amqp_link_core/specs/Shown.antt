@@ -1,0 +1,121 @@
+-- What a link endpoint shows of itself, and how an attach follows from it (OASIS AMQP 1.0 core, 2.6.3,
+-- 2.6.4 and 2.7.3).
+use Rattle.std.specs.Prelude.{ℕ, false, List, Option, None, Some, option_map, unwrap_or}
+use Rattle.amqp_link_state.specs.declared.state.LinkFlowStateInner.{LinkFlowStateInner}
+use Rattle.amqp_link_state.specs.declared.state.LinkState.{LinkState}
+use Rattle.amqp_link_state.specs.declared.state.LinkState.TheVariants.{Unattached}
+use Rattle.amqp_link_types.specs.declared.types.attach.Attach.{Attach}
+use Rattle.amqp_link_types.specs.declared.types.definitions.OutputHandle.{OutputHandle}
+use Rattle.amqp_link_types.specs.declared.types.definitions.ReceiverSettleMode.{ReceiverSettleMode}
+use Rattle.amqp_link_types.specs.declared.types.definitions.Role.{Role}
+use Rattle.amqp_link_types.specs.declared.types.definitions.Role.TheVariants as role
+use Rattle.amqp_link_types.specs.declared.types.definitions.SenderSettleMode.{SenderSettleMode}
+use Rattle.amqp_link_types.specs.declared.types.delivery_state.DeliveryState.{DeliveryState}
+use Rattle.amqp_link_types.specs.declared.types.terminus.Source.{Source}
+use Rattle.amqp_link_types.specs.declared.types.terminus.TargetArchetype.{TargetArchetype}
+use Rattle.amqp_link_types.specs.Deliveries.{Ended}
+use Rattle.amqp_link_types.specs.Entries.{Entries}
+use Rattle.amqp_link_core.specs.AttachFields.{message_limit, smaller_limit, merged_properties, next_of}
+
+-- What an endpoint shows. D is what it keeps of its unsettled deliveries.
+pub record Shown (D : Type 0) : Type 0 where
+  pub role : Role
+  pub local_state : LinkState
+  pub output_handle : Option OutputHandle
+  pub name : List ℕ
+  pub snd_settle_mode : SenderSettleMode
+  pub rcv_settle_mode : ReceiverSettleMode
+  pub source : Option Source
+  -- as it is sent
+  pub target : Option TargetArchetype
+  -- the bytes that a message may have, 0 for no limit, and those of a frame: its header and its body
+  pub max_message_size : ℕ
+  pub max_frame_size : ℕ
+  pub offered_capabilities : Option (List (List ℕ))
+  pub desired_capabilities : Option (List (List ℕ))
+  -- the counts, the credit, and the properties
+  pub flow_state : LinkFlowStateInner
+  -- its unsettled deliveries, what an attach states of them, and how each ends if the link is attached
+  -- anew without them
+  pub unsettled : D
+  pub entries : Entries (Option DeliveryState)
+  pub ended : List Ended
+
+-- The delivery-count that an attach states: a receiver's the initial one; a sender's first attach the
+-- initial one, each later one the present one.
+abbrev pub stated_count : Role → LinkState → LinkFlowStateInner → ℕ
+stated_count role.Sender Unattached flow = flow.initial_delivery_count
+stated_count role.Sender _ flow = flow.delivery_count
+stated_count role.Receiver _ flow = flow.initial_delivery_count
+
+-- of two values of a field that the sender decides: the own one at a sender, the peer's at a receiver
+abbrev pub decided_by_sender : {A : Type 0} → Role → A → A → A
+decided_by_sender role.Sender own theirs = own
+decided_by_sender role.Receiver own theirs = theirs
+
+-- of one that the receiver decides
+abbrev pub decided_by_receiver : {A : Type 0} → Role → A → A → A
+decided_by_receiver role.Sender own theirs = theirs
+decided_by_receiver role.Receiver own theirs = own
+
+module _ {D : Type 0} where
+  abbrev pub count_stated : Shown D → ℕ
+  count_stated s = stated_count s.role s.local_state s.flow_state
+
+  -- the attach with this count at an output handle, without deliveries
+  abbrev pub counted_attach : Shown D → ℕ → OutputHandle → Attach
+  counted_attach s count handle = record {
+    name = s.name;
+    handle = record { 0 = handle.0 };
+    role = s.role;
+    snd_settle_mode = s.snd_settle_mode;
+    rcv_settle_mode = s.rcv_settle_mode;
+    source = s.source;
+    target = s.target;
+    unsettled = None;
+    incomplete_unsettled = false;
+    initial_delivery_count = Some count;
+    max_message_size = message_limit s.max_message_size;
+    offered_capabilities = s.offered_capabilities;
+    desired_capabilities = s.desired_capabilities;
+    properties = s.flow_state.properties;
+  }
+
+  -- the attach that the endpoint sends, without its deliveries
+  abbrev pub attach_stated : Shown D → OutputHandle → Attach
+  attach_stated s handle = counted_attach s (count_stated s) handle
+
+  -- it was sent, and led to this state: the count that it stated is the initial one
+  abbrev pub shown_attached : Shown D → LinkState → Shown D
+  shown_attached s state = record s {
+    local_state = state;
+    flow_state = record s.flow_state { initial_delivery_count = count_stated s };
+  }
+
+  -- An attach arrived and was taken, with this target: the sender decides its settle mode, the source and
+  -- the counts, the receiver its settle mode and the target.
+  abbrev pub shown_taken : Shown D → Option TargetArchetype → Attach → Shown D
+  shown_taken s target attach = record s {
+    local_state = unwrap_or (next_of s.local_state attach) s.local_state;
+    snd_settle_mode = decided_by_sender s.role s.snd_settle_mode attach.snd_settle_mode;
+    rcv_settle_mode = decided_by_receiver s.role s.rcv_settle_mode attach.rcv_settle_mode;
+    source = decided_by_sender s.role s.source attach.source;
+    target = target;
+    max_message_size = smaller_limit s.max_message_size attach.max_message_size;
+    flow_state = record s.flow_state {
+      initial_delivery_count = decided_by_sender s.role s.flow_state.initial_delivery_count (unwrap_or attach.initial_delivery_count 0);
+      delivery_count = decided_by_sender s.role s.flow_state.delivery_count (unwrap_or attach.initial_delivery_count 0);
+      properties = merged_properties s.flow_state.properties attach.properties;
+    };
+  }
+
+  -- the first with the state, the settle modes and the termini of the second: what an attach that is
+  -- refused may change
+  abbrev pub with_terms_of : Shown D → Shown D → Shown D
+  with_terms_of s t = record s {
+    local_state = t.local_state;
+    snd_settle_mode = t.snd_settle_mode;
+    rcv_settle_mode = t.rcv_settle_mode;
+    source = t.source;
+    target = t.target;
+  }

@@ -1,0 +1,8 @@
+//! Tests of a pair, by what it makes public: worked values, and any sends, grants and arrivals by the
+//! contracts of the calls alone.
+#![tactic(auto)]
+
+#[cfg(test)]
+mod pair;
+#[cfg(test)]
+mod runs;
