@@ -1,6 +1,6 @@
 //! Worked values of a receiver's attaches and detaches.
-use crate::receiver_link::{ReceiverAttachExchange, ReceiverLink, get_max_message_size};
-use crate::samples::{attach_of, coming, count_tag, fields, parts};
+use crate::receiver_link::{ReceiverAttachExchange, ReceiverLink};
+use crate::samples::{attach_of, coming, count_tag, parts};
 use amqp_link_core::endpoint::{LinkAttach, LinkDetach, LinkExt};
 use amqp_link_samples::nowhere::parts_to_nowhere;
 use amqp_link_samples::table::{
@@ -16,9 +16,7 @@ use amqp_link_types::types::{
 use amqp_link_values::length::EncodedLen;
 use std::process::Abort;
 
-mod completing;
 mod deliveries;
-mod flows;
 
 // The link "l" with output handle 0 in this state. One delivery is unsettled, which an attach names
 // only where the limit is more than 30.
@@ -152,24 +150,6 @@ fn refused_detaches_name_the_state(rt: HostRuntime) {
     assert!(rt; refused_unattached(&rt));
 }
 
-#[test]
-fn smaller_limit_of_a_message_stands(rt: HostRuntime) {
-    for (own, theirs, wanted) in [
-        (0u64, Some(5u64), 5u64),
-        (7, None, 7),
-        (7, Some(5), 5),
-        (5, Some(7), 5),
-        (7, Some(0), 7),
-        (0, None, 0),
-    ] {
-        assert_eq!(rt;
-            get_max_message_size(own, theirs),
-            wanted,
-            "{own} and {theirs:?}"
-        );
-    }
-}
-
 // What a link shows after an attach came.
 #[derive(Clone, Copy, Debug, PartialEq, Eq)]
 struct Left {
@@ -250,21 +230,6 @@ fn incoming_attach_is_taken_as_far_as_it_goes(rt: HostRuntime) {
     }
 }
 
-// A property that comes becomes the link's.
-#[test]
-fn properties_that_come_are_taken(rt: HostRuntime) {
-    let mut link = link_in(&rt, LinkState::Unattached, 512);
-    let mut attach = attach_of(&rt, Role::Sender, SenderSettleMode::Mixed);
-    attach.properties = Some(fields(&rt, "k"));
-    let answer = link.on_incoming_attach(attach);
-    let wanted = Some(fields(&rt, "k"));
-    let is_taken = *link.properties() == wanted;
-    drop(wanted);
-    drop(link);
-    assert_eq!(rt; answer, Ok(ReceiverAttachExchange::Complete));
-    assert!(rt; is_taken, "the property is the link's");
-}
-
 // Without its delivery, but with an empty map and the mark, an attach has 26 bytes: it fits a frame of
 // 30 and none of 29, and a link that is refused stays as it was.
 #[test]
@@ -341,12 +306,6 @@ fn named_deliveries_are_resumed(rt: HostRuntime) {
             "{incomplete} in {state:?}"
         );
     }
-}
-
-#[test]
-fn unfinished_exchanges_are_errors(rt: HostRuntime) {
-    assert_eq!(rt; ReceiverAttachExchange::Complete.complete_or(7u8), Ok(()));
-    assert_eq!(rt; ReceiverAttachExchange::Resume.complete_or(7u8), Err(7));
 }
 
 // What an attach says: its length, and whether it has a map.

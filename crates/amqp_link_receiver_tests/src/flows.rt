@@ -1,6 +1,7 @@
 //! Worked values of a receiver's flows (2.6.7).
-use crate::receiver_link::ReceiverLink;
 use crate::samples::{fields, parts};
+use amqp_link_core::endpoint::LinkExt;
+use amqp_link_receiver::ReceiverLink;
 use amqp_link_samples::links::{FlowTold, told, told_back};
 use amqp_link_state::state::LinkFlowStateInner;
 use amqp_link_types::frame::LinkFrame;
@@ -122,9 +123,9 @@ fn left_by(
         ..LinkFlow::default()
     };
     let told = told_back(link.on_incoming_flow(flow));
-    let count = link.flow_state.delivery_count();
-    let credit = link.flow_state.link_credit();
-    let drain = link.flow_state.drain();
+    let count = link.flow_state().delivery_count();
+    let credit = link.flow_state().link_credit();
+    let drain = link.flow_state().drain();
     drop(link);
     (told, count, credit, drain)
 }
@@ -237,7 +238,7 @@ fn without_handle(
         ..LinkFlow::default()
     };
     let back = told_back(link.on_incoming_flow(flow));
-    let state = &link.flow_state;
+    let state = link.flow_state();
     let left = (state.delivery_count(), state.link_credit(), state.drain());
     drop(link);
     (out, back, left)

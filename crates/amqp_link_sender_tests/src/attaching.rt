@@ -1,10 +1,10 @@
 //! Worked values of a sender's attaches.
-use crate::samples::{attach_of, count_tag, fields, parts, payload_of};
-use crate::sender_link::tests::{Told, link, new_link, send_flagged, told_by, told_by_error};
-use crate::sender_link::{SenderAttachExchange, SenderLink};
+use crate::samples::{attach_of, fields, parts, payload_of};
+use crate::sending::{Told, attached, new_link, send_flagged, told_by, told_by_error};
 use amqp_link_core::endpoint::target::LinkTarget;
 use amqp_link_core::endpoint::{LinkAttach, LinkDetach, LinkExt};
 use amqp_link_samples::nowhere::parts_to_nowhere;
+use amqp_link_sender::{SenderAttachExchange, SenderLink};
 use amqp_link_state::state::LinkState;
 use amqp_link_types::delivery::{Outcomes, UnsettledMessage};
 use amqp_link_types::frame::LinkFrame;
@@ -61,11 +61,7 @@ fn sent_at(
     pending: u8,
     limit: u32,
 ) -> Result<Option<Shown>, SenderAttachError> {
-    let mut link = new_link(rt, SenderSettleMode::Mixed);
-    for count in 0..pending {
-        let entry = UnsettledMessage::new(payload_of(rt, &[7]), None, 0);
-        drop(link.unsettled.put(count_tag(rt, count), entry));
-    }
+    let mut link = detached_after(rt, pending, 0u32.wrapping_sub(u32::from(pending)), false);
     link.set_max_frame_size(limit);
     let shown = shown_in(link.send_attach(false));
     drop(link);
@@ -154,15 +150,24 @@ fn reply(closed: bool) -> Detach {
     }
 }
 
-// A link at 29 that has sent three deliveries of one byte and is detached, with its handle again.
-fn detached_after_three(rt: &(impl Abort + AllocGlobal)) -> SenderLink<Target> {
-    let mut link = link(rt, SenderSettleMode::Mixed, 29, 3);
-    for _ in 0..3 {
+// A link that began at this count, has sent so many deliveries of one byte, and is detached or closed,
+// with its handle again.
+fn detached_after(
+    rt: &(impl Abort + AllocGlobal),
+    pending: u8,
+    delivery_count: u32,
+    closed: bool,
+) -> SenderLink<Target> {
+    let mut parts = parts(rt, SenderSettleMode::Mixed, 29);
+    parts.flow_state.delivery_count = delivery_count;
+    let link = SenderLink::new(rt.alloc(), parts).with_output_handle(OutputHandle(0));
+    let mut link = attached(rt, link, SenderSettleMode::Mixed, 4);
+    for _ in 0..pending {
         let told = told_by(send_flagged(&mut link, &payload_of(rt, &[7]), None));
         assert_eq!(rt; told, Told::Unsettled);
     }
-    drop(link.send_detach(false, None));
-    drop(link.on_detach_reply(reply(false)));
+    drop(link.send_detach(closed, None));
+    drop(link.on_detach_reply(reply(closed)));
     *link.output_handle_mut() = Some(OutputHandle(0));
     link
 }
@@ -171,7 +176,7 @@ fn detached_after_three(rt: &(impl Abort + AllocGlobal)) -> SenderLink<Target> {
 // up in order.
 #[test]
 fn reattach_gives_pending_deliveries_up(rt: HostRuntime) {
-    let mut link = detached_after_three(&rt);
+    let mut link = detached_after(&rt, 3, 0, false);
     let sent = link.send_attach(true);
     let ends = ends_in(&sent);
     let shown = shown_in(sent);
@@ -195,8 +200,8 @@ fn reattach_gives_pending_deliveries_up(rt: HostRuntime) {
 // Where the state has no row, a reattach gives nothing up.
 #[test]
 fn refused_reattach_keeps_what_is_pending(rt: HostRuntime) {
-    let mut link = detached_after_three(&rt);
-    link.local_state = LinkState::Closed;
+    let mut link = detached_after(&rt, 3, 0, true);
+    assert_eq!(rt; *link.local_state(), LinkState::Closed);
     let refused = link.send_attach(true).err();
     assert_eq!(rt; refused, Some(SenderAttachError::IllegalState));
     assert_eq!(rt; link.unsettled().len(), 3);
@@ -208,7 +213,6 @@ fn refused_reattach_keeps_what_is_pending(rt: HostRuntime) {
 struct Left {
     refused: Option<SenderAttachError>,
     state: LinkState,
-    has_handle: bool,
     rcv_settle_mode: ReceiverSettleMode,
     max_message_size: Option<u64>,
 }
@@ -219,7 +223,6 @@ fn left_by<T: LinkTarget>(mut link: SenderLink<T>, attach: Attach) -> Left {
     let left = Left {
         refused,
         state: *link.local_state(),
-        has_handle: link.input_handle.is_some(),
         rcv_settle_mode: *link.rcv_settle_mode(),
         max_message_size: link.max_message_size(),
     };
@@ -246,7 +249,6 @@ fn incoming_attach_is_taken_as_far_as_it_goes(rt: HostRuntime) {
     let taken = Left {
         refused: None,
         state: LinkState::AttachReceived,
-        has_handle: true,
         rcv_settle_mode: ReceiverSettleMode::Second,
         max_message_size: Some(5),
     };
@@ -310,7 +312,6 @@ fn target_of_another_kind_is_refused(rt: HostRuntime) {
     let wanted = Left {
         refused: Some(SenderAttachError::CoordinatorIsNotImplemented),
         state: LinkState::AttachReceived,
-        has_handle: true,
         rcv_settle_mode: ReceiverSettleMode::First,
         max_message_size: Some(7),
     };

@@ -1,8 +1,8 @@
 //! What waits as a payload is to be sent.
 use crate::samples::{attach_of, payload_of, text};
-use crate::sender_link::Waiting;
-use crate::sender_link::tests::{Told, link, told_by};
+use crate::sending::{Told, link, told_by};
 use amqp_link_core::endpoint::LinkExt;
+use amqp_link_sender::Waiting;
 use amqp_link_state::state::LinkState;
 use amqp_link_types::frame::LinkFrame;
 use amqp_link_types::types::{
@@ -26,7 +26,7 @@ fn left_by(rt: &(impl Abort + AllocGlobal), waiting: Waiting) -> Left {
     let left = Left {
         told: told_by(sending),
         state: *link.local_state(),
-        has_handle: link.output_handle.is_some(),
+        has_handle: link.output_handle_mut().is_some(),
         credit: link.flow_state().link_credit(),
     };
     drop((payload, link));

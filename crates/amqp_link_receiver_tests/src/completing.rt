@@ -1,21 +1,24 @@
 //! Worked values of deliveries that come whole.
 ghost use Rattle.std.specs.Prelude.{[], Ok, Err};
 
-use crate::receiver_link::ReceiverLink;
-use crate::samples::{count_tag, parts, payload_of};
-use amqp_link_core::endpoint::LinkExt;
+use crate::samples::{coming, count_tag, parts, payload_of};
+use amqp_link_core::endpoint::{LinkAttach, LinkDetach, LinkExt};
 use amqp_link_payloads::Message;
+use amqp_link_receiver::ReceiverLink;
+use amqp_link_samples::table::detach;
 use amqp_link_state::state::{LinkFlowStateInner, LinkState};
 use amqp_link_types::delivery::{Delivery, DeliveryInfo};
 use amqp_link_types::types::{
     DataBody, DecodeError, DeliveryState, DeliveryTag, FromBody, MessageDecodeError, OutputHandle,
-    Payload, ReceiverSettleMode, ReceiverTransferError, SenderSettleMode, Target, Transfer, Whole,
+    Payload, ReceiverSettleMode, ReceiverTransferError, Role, SenderSettleMode, Target, Transfer,
+    Whole,
 };
 use std::alloc::Global;
 use std::process::Abort;
 
-// The link "l" in this mode, attached at output handle 7, at the last count and with this credit.
-fn link_in(
+// The link "l" in this mode, with output handle 7, at the last count and with this credit, that is not
+// attached.
+fn unattached(
     rt: &(impl Abort + AllocGlobal),
     mode: ReceiverSettleMode,
     link_credit: u32,
@@ -27,9 +30,81 @@ fn link_in(
         link_credit,
         ..LinkFlowStateInner::default()
     };
-    let mut link = ReceiverLink::new(rt.alloc(), parts);
-    link.local_state = LinkState::Attached;
+    let link = ReceiverLink::new(rt.alloc(), parts);
     link.with_output_handle(OutputHandle(7))
+}
+
+// The sender's attach at the last count, with a map that is whole or not, comes.
+fn attach_comes(
+    rt: &(impl Abort + AllocGlobal),
+    link: &mut ReceiverLink<Target>,
+    incomplete: bool,
+) {
+    let mut attach = coming(rt, Role::Sender, incomplete);
+    attach.initial_delivery_count = Some(u32::MAX);
+    drop(link.on_incoming_attach(attach));
+}
+
+// Leads a link that is not attached to where it is, but for a detach.
+fn attach_up_to(
+    rt: &(impl Abort + AllocGlobal),
+    link: &mut ReceiverLink<Target>,
+    state: LinkState,
+) {
+    match state {
+        LinkState::Unattached => {}
+        LinkState::AttachSent => drop(link.send_attach(false)),
+        LinkState::IncompleteAttachSent => {
+            drop(link.on_incomplete_transfer(&count_tag(rt, 9), 0, 1));
+            link.set_max_frame_size(31);
+            drop(link.send_attach(false));
+        }
+        LinkState::AttachReceived => attach_comes(rt, link, false),
+        LinkState::IncompleteAttachReceived => attach_comes(rt, link, true),
+        LinkState::IncompleteAttachExchanged => {
+            drop(link.send_attach(false));
+            attach_comes(rt, link, true);
+        }
+        _ => {
+            drop(link.send_attach(false));
+            attach_comes(rt, link, false);
+        }
+    }
+}
+
+// The link "l" in this mode and state, at the last count and with this credit.
+fn link_at(
+    rt: &(impl Abort + AllocGlobal),
+    mode: ReceiverSettleMode,
+    link_credit: u32,
+    state: LinkState,
+) -> ReceiverLink<Target> {
+    let mut link = unattached(rt, mode, link_credit);
+    attach_up_to(rt, &mut link, state);
+    match state {
+        LinkState::DetachSent => drop(link.send_detach(false, None)),
+        LinkState::CloseSent => drop(link.send_detach(true, None)),
+        LinkState::Detached => {
+            drop(link.send_detach(false, None));
+            drop(link.on_detach_reply(detach(false)));
+        }
+        LinkState::Closed => {
+            drop(link.send_detach(true, None));
+            drop(link.on_detach_reply(detach(true)));
+        }
+        _ => {}
+    }
+    assert_eq!(rt; *link.local_state(), state);
+    link
+}
+
+// The same that is attached.
+fn link_in(
+    rt: &(impl Abort + AllocGlobal),
+    mode: ReceiverSettleMode,
+    link_credit: u32,
+) -> ReceiverLink<Target> {
+    link_at(rt, mode, link_credit, LinkState::Attached)
 }
 
 // The transfer of delivery 3, with tag 1, format 5 and this flag.
@@ -378,8 +453,7 @@ fn wrong_transfers_cost_the_credit(rt: HostRuntime) {
 
 // A transfer ends a delivery in this state.
 fn told_in(rt: &(impl Abort + AllocGlobal), state: LinkState) -> (Told, Left) {
-    let mut link = link_in(rt, ReceiverSettleMode::First, 2);
-    link.local_state = state;
+    let link = link_at(rt, ReceiverSettleMode::First, 2, state);
     told_once(rt, link, third(rt, None))
 }
 
@@ -388,7 +462,6 @@ fn link_that_is_not_attached_takes_nothing(rt: HostRuntime) {
     for state in [
         LinkState::Unattached,
         LinkState::AttachSent,
-        LinkState::IncompleteAttachSent,
         LinkState::AttachReceived,
         LinkState::IncompleteAttachReceived,
         LinkState::DetachSent,
@@ -399,6 +472,12 @@ fn link_that_is_not_attached_takes_nothing(rt: HostRuntime) {
         let told = told_in(&rt, state);
         assert_eq!(rt; told, (Told::IllegalState, untouched(2)), "in {state:?}");
     }
+    let left = Left {
+        entries: 1,
+        ..untouched(2)
+    };
+    let told = told_in(&rt, LinkState::IncompleteAttachSent);
+    assert_eq!(rt; told, (Told::IllegalState, left));
     let (told, _) = told_in(&rt, LinkState::IncompleteAttachExchanged);
     assert_eq!(rt; told, Told::Given);
 }
@@ -406,7 +485,7 @@ fn link_that_is_not_attached_takes_nothing(rt: HostRuntime) {
 // A transfer ends a delivery on a link without output handle.
 fn told_without_handle(rt: &(impl Abort + AllocGlobal)) -> (Told, Left) {
     let mut link = link_in(rt, ReceiverSettleMode::First, 2);
-    link.output_handle = None;
+    *link.output_handle_mut() = None;
     told_once(rt, link, third(rt, None))
 }
 

@@ -1,7 +1,8 @@
 //! Worked values of flows that come to a sender (2.6.7).
 use crate::samples::{fields, parts, payload_of};
-use crate::sender_link::SenderLink;
+use amqp_link_core::endpoint::LinkExt;
 use amqp_link_samples::links::{FlowTold, told_back};
+use amqp_link_sender::SenderLink;
 use amqp_link_state::state::LinkFlowStateInner;
 use amqp_link_types::types::{
     LinkFlow, LinkRelayError, OutputHandle, SenderSettleMode, Target, Transfer,
@@ -40,9 +41,9 @@ fn left_of(link: &mut SenderLink<Target>, flow: LinkFlow) -> Left {
     let told = told_back(link.on_incoming_flow(flow));
     Left {
         told,
-        count: link.flow_state.delivery_count(),
-        credit: link.flow_state.link_credit(),
-        drain: link.flow_state.drain(),
+        count: link.flow_state().delivery_count(),
+        credit: link.flow_state().link_credit(),
+        drain: link.flow_state().drain(),
     }
 }
 

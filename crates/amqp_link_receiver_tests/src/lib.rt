@@ -1,0 +1,11 @@
+//! Tests of the receiver's end of a link, by what it makes public: worked values.
+#![tactic(auto)]
+
+#[cfg(test)]
+mod attaching;
+#[cfg(test)]
+mod completing;
+#[cfg(test)]
+mod flows;
+#[cfg(test)]
+mod samples;

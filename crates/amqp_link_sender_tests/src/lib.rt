@@ -1,0 +1,13 @@
+//! Tests of the sender's end of a link, by what it makes public: worked values.
+#![tactic(auto)]
+
+#[cfg(test)]
+mod attaching;
+#[cfg(test)]
+mod flows;
+#[cfg(test)]
+mod samples;
+#[cfg(test)]
+mod sending;
+#[cfg(test)]
+mod waiting;
