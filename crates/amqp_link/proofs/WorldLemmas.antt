@@ -11,7 +11,7 @@ use Rattle.amqp_link_receiver.specs.Receivers.{Receiver}
 use Rattle.amqp_link_sender.specs.Senders.{Sender, next_tag, new_entry}
 use Rattle.amqp_link_types.specs.declared.types.terminus.Target.{Target}
 use Rattle.amqp_link.specs.Steps.{Attaches, StopsAt, AttachStop, Asked, Taken, Answered, receiver_at, Grants, with_credit, Sends, Arrives, received, begun, after_sending}
-use Rattle.amqp_link.specs.Wires.{OnWire, under, first_of}
+use Rattle.amqp_link.specs.Wires.{OnWire, under, next_on_wire}
 use Rattle.amqp_link.specs.Worlds.{World, Phase, Apart, Halfway, Together, Good, frames_of}
 use Rattle.amqp_link_types.specs.declared.delivery.UnsettledMessage.{UnsettledMessage}
 use Rattle.amqp_link_types.specs.declared.frame.LinkFrame.{LinkFrame}
@@ -74,17 +74,17 @@ IsWorld-receives w s rest k taken =
     (subst (IsKept (entry_at w.sender.unsettled s.tag) (entry_at w.deliveries s.tag)) (ap (frames_of s.tag) taken ∙ frames_first s rest) (k.each s.tag))
 
 -- the same, by what the wire lends
-first-some : (wire : List OnWire) (s : OnWire) → first_of wire ≡ Some s → wire ≡ s ∷ drop 1 wire
+first-some : (wire : List OnWire) (s : OnWire) → next_on_wire wire ≡ Some s → wire ≡ s ∷ drop 1 wire
 first-some [] s h = absurd (cc)
 first-some (t ∷ wire) s h = let is : t ≡ s = cc in ap (λ x. x ∷ wire) is
 
-pub IsWorld-receives_first : (w : World) (tag : List ℕ) (s : OnWire) → IsWorld w → first_of w.wire ≡ Some s → tag ≡ s.tag → IsSomeAnd (entry_at w.deliveries tag) (λ p. CanReceive p.held s.frame)
+pub IsWorld-receives_first : (w : World) (tag : List ℕ) (s : OnWire) → IsWorld w → next_on_wire w.wire ≡ Some s → tag ≡ s.tag → IsSomeAnd (entry_at w.deliveries tag) (λ p. CanReceive p.held s.frame)
 IsWorld-receives_first w tag s k first same =
     subst (λ t. IsSomeAnd (entry_at w.deliveries t) (λ p. CanReceive p.held s.frame)) (sym same) (IsWorld-receives w s (drop 1 w.wire) k (first-some w.wire s first))
 
 -- what an arrival does, by what its parts do
 pub arrives : (w : World) (s : OnWire) (id : ℕ) (tag : List ℕ) (place : ℕ × ℕ) (whole : Bool) (deliveries : Entries Progress) (wire : List OnWire)
-    → first_of w.wire ≡ Some s → tag ≡ s.tag → IsReceived w.deliveries tag id s.frame place whole deliveries → wire ≡ drop 1 w.wire
+    → next_on_wire w.wire ≡ Some s → tag ≡ s.tag → IsReceived w.deliveries tag id s.frame place whole deliveries → wire ≡ drop 1 w.wire
     → Arrives w id tag place whole (record w { deliveries = deliveries; wire = wire })
 arrives w s id tag place whole deliveries wire first same r off =
     record {

@@ -15,9 +15,9 @@ abbrev pub under : Tag → List LinkFrame → List OnWire
 under tag frames = map (λ frame. record { tag = tag; frame = frame }) frames
 
 -- the next to arrive
-abbrev pub first_of : List OnWire → Option OnWire
-first_of [] = None
-first_of (next ∷ wire) = Some next
+abbrev pub next_on_wire : List OnWire → Option OnWire
+next_on_wire [] = None
+next_on_wire (next ∷ wire) = Some next
 
 -- what is lent of it
 abbrev pub lent : Bor Tag × Bor LinkFrame → OnWire

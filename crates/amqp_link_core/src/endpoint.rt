@@ -99,11 +99,9 @@ pub trait LinkDetach {
             (self.new ≡ self.old)
             (λ next. self.new ≡ moved self.old next None) };
 
-    // A moved endpoint is in that state and has that handle, and only the last of two moves stays.
+    // A moved endpoint is in that state and has that handle.
     ghost shown_moved: { (l : Self) (s : TheState) (h : Option TheHandle)
         → shown (moved l s h) ≡ record (shown l) { local_state = s; output_handle = h } };
-
-    ghost moved_twice: { (l : Self) (s t : TheState) (h k : Option TheHandle) → moved (moved l s h) t k ≡ moved l t k };
 }
 
 /// A link endpoint that can be attached (2.6.3, 2.6.4).

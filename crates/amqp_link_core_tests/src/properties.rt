@@ -1,11 +1,11 @@
-//! What an end says in its attach, and the properties of a link once one has come, while there is
-//! memory (2.7.3).
+//! What an endpoint states in its attach, and the properties of a link once one has arrived (2.7.3).
 use amqp_link_core::endpoint::attached::{
-    archetype_of, capabilities_of, name_and_properties_of, termini_of, with_properties,
+    archetype_of, merged_with, name_and_properties_of, termini_of,
 };
 use amqp_link_types::types::{
     Fields, Source, Symbol, Symbols, Target, TargetArchetype, Text, Value,
 };
+use amqp_link_values::copy::copies_of;
 use std::process::Abort;
 
 // These numbers under these names.
@@ -19,29 +19,35 @@ fn named(rt: &(impl Abort + AllocGlobal), pairs: &[(&str, u8)]) -> Option<Fields
     Some(fields)
 }
 
-// Whether these properties, with those that come, are the wanted ones then.
+// Whether these properties, with those that arrive, are the wanted ones then.
 fn is_joined(
     rt: &(impl Abort + AllocGlobal),
     own: Option<Fields>,
     theirs: Option<Fields>,
     wanted: Option<Fields>,
 ) -> bool {
-    let both = with_properties(rt.alloc(), &own, theirs).expect(rt, "memory");
+    let changed = merged_with(&own, theirs).expect(rt, "memory");
+    let both = changed.or(own);
     let is_wanted = both == wanted;
     drop((both, wanted));
-    drop(own);
     is_wanted
 }
 
 #[test]
-fn properties_that_come_are_put_one_by_one(rt: HostRuntime) {
+fn properties_that_arrive_are_put_one_by_one(rt: HostRuntime) {
     let own = named(&rt, &[("a", 1), ("b", 2)]);
     let theirs = named(&rt, &[("b", 3), ("c", 4)]);
     let wanted = named(&rt, &[("a", 1), ("b", 3), ("c", 4)]);
     let joined = is_joined(&rt, own, theirs, wanted);
     let taken = is_joined(&rt, None, named(&rt, &[("b", 3)]), named(&rt, &[("b", 3)]));
     let kept = is_joined(&rt, named(&rt, &[("a", 1)]), None, named(&rt, &[("a", 1)]));
-    assert_eq!(rt; (joined, taken, kept), (true, true, true));
+    let unchanged = is_joined(
+        &rt,
+        named(&rt, &[("a", 1)]),
+        named(&rt, &[]),
+        named(&rt, &[("a", 1)]),
+    );
+    assert_eq!(rt; (joined, taken, kept, unchanged), (true, true, true, true));
 }
 
 fn string(rt: &(impl Abort + AllocGlobal), words: &str) -> String {
@@ -95,7 +101,7 @@ fn symbols(rt: &(impl Abort + AllocGlobal), name: &str) -> Option<Symbols> {
 #[test]
 fn capabilities_are_said_as_they_are(rt: HostRuntime) {
     let (offered, desired) = (symbols(&rt, "a"), symbols(&rt, "b"));
-    let said = capabilities_of(&offered, &desired).expect(&rt, "memory");
+    let said = copies_of(&offered, &desired).expect(&rt, "memory");
     let is_wanted = said.0 == offered && said.1 == desired;
     drop((offered, desired));
     drop(said);

@@ -1,13 +1,14 @@
 //! What a caller of either endpoint can rest on: the contracts of the traits alone.
-ghost use Rattle.std.specs.Prelude.{◌≡◌, ◌⊎◌, Bool, Some, IfOk, OnOk, OnErr};
+ghost use Rattle.std.specs.Prelude.{◌≡◌, ◌⊎◌, Bool, None, Some, MatchOption, IsSomeAnd, IfOk, OnOk, OnErr};
 ghost use Rattle.amqp_link_state.specs.declared.state.LinkState.TheVariants.{Attached, Detached};
 ghost use Rattle.amqp_link_types.specs.declared.types.attach.Attach.{Attach as TheAttach};
 ghost use Rattle.amqp_link_core.specs.AttachFields.{next_of};
+ghost use Rattle.amqp_link_core.specs.Detaching.{detach_frame};
 ghost use Rattle.amqp_link_core.specs.LinkStates.{Call, next_state};
 ghost use Rattle.amqp_link_ends.specs.Stated.{IsStatedBy, Keeps};
 
 use crate::samples::{coming, parts};
-use amqp_link_core::endpoint::{LinkAttach, LinkExt};
+use amqp_link_core::endpoint::{LinkAttach, LinkDetach, LinkExt};
 use amqp_link_receiver::receiver_link::ReceiverLink;
 use amqp_link_samples::links::went;
 use amqp_link_sender::sender_link::SenderLink;
@@ -53,15 +54,29 @@ fn take<L: LinkAttach>(link: &mut L, attach: Attach) -> Result<L::AttachExchange
     }
 }
 
+// Sends a detach, which closes or does not: the state moves, also without output handle, and the handle
+// is released.
+fn detach<L: LinkDetach>(link: &mut L, closed: bool) -> Result<LinkFrame, L::DetachError>
+    ensures state { MatchOption (next_state Call.SendDetach closed (L.shown link.old).local_state)
+        (link.new ≡ link.old)
+        (λ next. ((L.shown link.new).local_state ≡ next) × ((L.shown link.new).output_handle ≡ None)) }
+    ensures sent { IfOk result (λ frame. IsSomeAnd (L.shown link.old).output_handle (λ handle.
+        frame ≡ detach_frame handle closed None)) }
+    ensures kept { Keeps (L.shown link.old) (L.shown link.new) }
+    ensures flow { (L.shown link.new).flow_state ≡ (L.shown link.old).flow_state }
+{
+    link.send_detach(closed, None)
+}
+
 // Detaches a link and gives it an output handle again.
 fn cut<L: LinkExt>(link: &mut L, handle: OutputHandle) -> Result<(), L::DetachError>
     ensures state { (L.shown link.old).local_state ≡ Attached
         → OnOk result ((L.shown link.new).local_state ≡ Detached) }
     ensures again { OnOk result ((L.shown link.new).output_handle ≡ Some handle) }
-    ensures kept { OnOk result (Keeps (L.shown link.old) (L.shown link.new)) }
-    ensures flow { OnOk result ((L.shown link.new).flow_state ≡ (L.shown link.old).flow_state) }
+    ensures kept { Keeps (L.shown link.old) (L.shown link.new) }
+    ensures flow { (L.shown link.new).flow_state ≡ (L.shown link.old).flow_state }
 {
-    drop(link.send_detach(false, None)?);
+    drop(detach(link, false)?);
     link.on_detach_reply(Detach {
         handle: Handle(0),
         closed: false,

@@ -338,7 +338,7 @@ impl<T: LinkTarget> SenderLink<T> {
             payload,
         )?;
         // All tests are behind, and all memory is taken.
-        let _ = self.flow_state.consume(1);
+        self.flow_state.spend_one();
         Ok(Sending::Sent { settlement, frames })
     }
 

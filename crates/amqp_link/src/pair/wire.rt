@@ -3,7 +3,7 @@
 //! A continuation does not name its delivery (2.7.5), so the wire keeps the tag beside the frames of
 //! each send. The frames of one send stand together, and are moved in and out without memory.
 ghost use Rattle.std.specs.Prelude.{◌≡◌, ◌++◌, ◌∷◌, ◌<◌, [], length, drop, OnOk, option_map};
-ghost use Rattle.amqp_link.specs.Wires.{under, first_of, lent};
+ghost use Rattle.amqp_link.specs.Wires.{under, next_on_wire, lent};
 
 use amqp_link_types::frame::LinkFrame;
 use amqp_link_types::types::DeliveryTag;
@@ -56,7 +56,7 @@ impl Wire {
 
     // The next transfer to arrive, and the tag of its delivery.
     pub(crate) fn first(&self) -> Option<(&DeliveryTag, &LinkFrame)>
-        ensures { option_map lent result ≡ first_of self.now.transfers }
+        ensures { option_map lent result ≡ next_on_wire self.now.transfers }
     {
         let batch = self.batches.front()?;
         let frame = batch.frames.front()?;

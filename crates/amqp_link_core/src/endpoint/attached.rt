@@ -1,5 +1,5 @@
 //! What an endpoint states in the attach that it sends, and what it takes of one that arrives (2.7.3).
-ghost use Rattle.std.specs.Prelude.{◌≡◌, ◌&&◌, ◌||◌, true, IfOk, OnErr, is_some};
+ghost use Rattle.std.specs.Prelude.{◌≡◌, ◌≢◌, ◌&&◌, ◌||◌, [], true, Some, IfOk, OnErr, is_some};
 ghost use Rattle.std.specs.Option.{option_map, option_or};
 ghost use Rattle.amqp_link_core.specs.AttachFields.{message_limit, smaller_limit, merged_properties, is_foreign as is_foreign_to};
 
@@ -94,17 +94,22 @@ pub fn is_foreign<T: LinkTarget>(target: Option<TargetArchetype>) -> bool
 /// own ones with the peer's put one by one, or the peer's where there are no own ones. None if the own
 /// ones stay, since the attach has none.
 ///
-/// Allocates only where both have properties.
+/// Allocates only where both have properties, and the peer's are not empty.
 pub fn merged_with(
     own: &Option<Fields>,
     theirs: Option<Fields>,
 ) -> Result<Option<Fields>, AllocError>
     ensures merged { IfOk result (λ changed. option_or changed own.now ≡ merged_properties own.now theirs) }
     ensures memory { OnErr result ((is_some own.now && is_some theirs) ≡ true) }
+    ensures empty { OnErr result (theirs ≢ Some []) }
 {
     match (own, theirs) {
         (_, None) => Ok(None),
         (None, Some(theirs)) => Ok(Some(theirs)),
+        (Some(_), Some(theirs)) if theirs.is_empty() => {
+            drop(theirs);
+            Ok(None)
+        }
         (Some(own), Some(theirs)) => Ok(Some(own.merged(&theirs)?)),
     }
 }

@@ -101,7 +101,7 @@ impl<T: LinkTarget> ReceiverLink<T> {
             };
             self.keep(tag, state)?;
         }
-        let _ = self.flow_state.consume(1);
+        self.flow_state.spend_one();
         Ok(())
     }
 

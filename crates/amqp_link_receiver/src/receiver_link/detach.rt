@@ -41,8 +41,6 @@ impl<T: LinkTarget> LinkDetach for ReceiverLink<T> {
 
     ghost shown_moved = { λ link s h. refl };
 
-    ghost moved_twice = { λ link s t h k. refl };
-
     fn on_detach_reply(&mut self, detach: Detach) -> Result<(), DetachError> {
         let Some(next) = after_detach_reply(self.local_state, detach.closed) else {
             drop(detach);

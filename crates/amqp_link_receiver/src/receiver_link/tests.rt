@@ -243,6 +243,10 @@ fn attach_that_fits_no_frame_is_refused(rt: HostRuntime) {
         };
         assert_eq!(rt; told, (fits, state), "at {limit}");
     }
+    let mut link = link_in(&rt, LinkState::Detached, 29);
+    let refused = link.send_attach(false).err();
+    drop(link);
+    assert_eq!(rt; refused, Some(ReceiverAttachError::AttachTooLarge));
 }
 
 // A target of another kind is refused once the source and the sender's mode are taken.

@@ -42,8 +42,6 @@ impl<T: LinkTarget> LinkDetach for SenderLink<T> {
 
     ghost shown_moved = { λ link s h. refl };
 
-    ghost moved_twice = { λ link s t h k. refl };
-
     fn on_detach_reply(&mut self, detach: Detach) -> Result<(), DetachError> {
         let Some(next) = after_detach_reply(self.local_state, detach.closed) else {
             drop(detach);

@@ -80,6 +80,18 @@ impl LinkFlowStateInner {
     }
 }
 
+impl<R> LinkFlowState<R> {
+    /// Moves one credit to the count, which wraps: for a caller that has seen that there is credit.
+    /// Does not allocate.
+    pub fn spend_one(&mut self)
+        requires { 0 < self.old.link_credit }
+        ensures spent { self.new ≡ after_consuming 1 self.old }
+        ensures limit { count_limit self.new ≡ count_limit self.old }
+    {
+        self.inner.spend(1);
+    }
+}
+
 impl LinkFlowState<SenderMarker> {
     /// Moves `n` credits to the count, which wraps, and answers the count before as four bytes, the
     /// highest first: the tag of the delivery that spends them. Takes no memory.
