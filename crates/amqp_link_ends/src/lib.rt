@@ -6,6 +6,8 @@ mod dispositions;
 #[cfg(test)]
 mod generic;
 #[cfg(test)]
+mod runs;
+#[cfg(test)]
 mod samples;
 
 pub use amqp_link_core::link_parts::LinkParts;

@@ -6,8 +6,6 @@ ghost use Rattle.amqp_link_runs.specs.Order.{sorted_by};
 ghost use Rattle.amqp_link_runs.specs.Runs.{AreRuns};
 
 pub mod laws;
-#[cfg(test)]
-mod tests;
 
 use std::alloc::{AllocError, Global};
 

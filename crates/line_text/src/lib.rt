@@ -5,5 +5,4 @@ mod digits;
 pub mod hex;
 pub mod line;
 pub mod number;
-#[cfg(test)]
-mod tests;
+pub mod streams;

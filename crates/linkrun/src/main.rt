@@ -12,16 +12,14 @@ mod hex;
 mod number;
 mod script;
 
+use line_text::streams::buffered;
 pub use script::run_script;
-use std::io::{BufReader, BufWriter, Lock};
+use std::io::Lock;
 use std::process::ExitCode;
 
 fn main(rt: HostRuntime) -> ExitCode {
     let alloc = rt.alloc();
-    let (Ok(mut input), Ok(mut output)) = (
-        BufReader::new(alloc, rt.reader()),
-        BufWriter::new(alloc, rt.stdout().lock()),
-    ) else {
+    let Ok((mut input, mut output)) = buffered(alloc, rt.reader(), rt.stdout().lock()) else {
         return ExitCode::FAILURE;
     };
     let mut faults = rt.stderr().lock();

@@ -17,16 +17,14 @@ mod tally;
 mod terminus;
 mod value;
 
+use line_text::streams::buffered;
 pub use replay::replay;
-use std::io::{BufReader, BufWriter, Lock};
+use std::io::Lock;
 use std::process::ExitCode;
 
 fn main(rt: HostRuntime) -> ExitCode {
     let alloc = rt.alloc();
-    let (Ok(mut input), Ok(mut output)) = (
-        BufReader::new(alloc, rt.reader()),
-        BufWriter::new(alloc, rt.stdout().lock()),
-    ) else {
+    let Ok((mut input, mut output)) = buffered(alloc, rt.reader(), rt.stdout().lock()) else {
         return ExitCode::from(3);
     };
     ExitCode::from(replay(alloc, &mut input, &mut output))

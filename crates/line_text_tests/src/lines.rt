@@ -1,7 +1,7 @@
 //! What lines and words say, at values from outside.
-use crate::hex::parse_bytes;
-use crate::line::read_line;
-use crate::number::{parse_signed, parse_unsigned};
+use line_text::hex::parse_bytes;
+use line_text::line::read_line;
+use line_text::number::{parse_signed, parse_unsigned};
 use std::test::Fail;
 
 #[test]

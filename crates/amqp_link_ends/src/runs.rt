@@ -1,5 +1,5 @@
-//! Worked values.
-use crate::{Run, runs_of, sort_by_id};
+//! Worked values of ids in order, and of the runs in which dispositions name them.
+use amqp_link_runs::{Run, runs_of, sort_by_id};
 use std::process::Abort;
 
 // The runs of these ids, as pairs of a first and a last one.
