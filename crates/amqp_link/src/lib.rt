@@ -25,8 +25,11 @@ pub use amqp_link_state::state::{
 };
 pub use amqp_link_types::delivery::{
     Delivery, DeliveryInfo, DeliveryOutcome, Outcomes, Settlement, UnsettledMessage,
+    copy_of_outcome,
 };
-pub use amqp_link_types::frame::{LinkFrame, LinkTransfer, clear_continuation_fields};
+pub use amqp_link_types::frame::{
+    LinkFrame, LinkTransfer, clear_continuation_fields, continuation_of,
+};
 pub use amqp_link_types::types::{
     ApplyRemoteDetachError, Attach, ConnectionStopReason, DataBody, DecodeError, DeliveryNumber,
     DeliveryState, DeliveryTag, Descriptor, Detach, DetachError, Disposition, DispositionError,
