@@ -2,10 +2,10 @@
 use Rattle.std.proofs.Common.{◌≡◌, ◌≢◌, ◌∙◌, sym, ap, subst, List, [], ◌++◌, refl, append_assoc, ℕ, Bool, Option, Some, None}
 use Rattle.std.specs.Prelude.{option_and_then, Result, Ok, Err, IfOk, OnErr}
 use Rattle.std.proofs.lemmas.List.{append-nil}
-use Rattle.amqp_link_types.specs.Entries.{Tag, entry_at}
-use Rattle.amqp_link_types.specs.Frames.{payload_of}
+use Rattle.amqp_link.specs.Entries.{Tag, entry_at}
+use Rattle.amqp_link.specs.Frames.{payload_of}
 use Rattle.amqp_link_tests.specs.Runs.{Follows}
-use Rattle.amqp_link_sender.specs.Senders.{next_tag, new_entry}
+use Rattle.amqp_link.specs.Senders.{next_tag, new_entry}
 use Rattle.amqp_link.specs.Steps.{Sends, Arrives, begun, received}
 use Rattle.amqp_link.specs.Worlds.{World, IsFront, bytes_in, held_at}
 use Rattle.amqp_link_types.specs.declared.delivery.UnsettledMessage.{UnsettledMessage}

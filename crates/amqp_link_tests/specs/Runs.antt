@@ -1,6 +1,6 @@
 -- What any sends, grants and arrivals keep of a pair's deliveries.
 use Rattle.std.specs.Prelude.{◌≡◌, Some}
-use Rattle.amqp_link_types.specs.Entries.{Tag, entry_at}
+use Rattle.amqp_link.specs.Entries.{Tag, entry_at}
 use Rattle.amqp_link.specs.Worlds.{World, IsFront, bytes_in, held_at}
 use Rattle.amqp_link_types.specs.declared.delivery.UnsettledMessage.{UnsettledMessage}
 

@@ -1,6 +1,5 @@
 //! Worked values of a pair.
-use amqp_link::pair::{Arrived, Pair, PairError, Sent};
-use amqp_link_types::types::{DeliveryTag, Payload};
+use amqp_link::{Arrived, DeliveryTag, Pair, PairError, Payload, Sent};
 use std::alloc::{AllocError, Global};
 
 const TWELVE: [u8; 12] = [1, 2, 3, 4, 5, 6, 7, 8, 9, 10, 11, 12];

@@ -2,8 +2,7 @@
 ghost use Rattle.amqp_link_tests.specs.Runs.{Follows};
 ghost use Rattle.amqp_link.specs.Worlds.{Good};
 
-use amqp_link::pair::{Pair, PairError};
-use amqp_link_types::types::Payload;
+use amqp_link::{Pair, PairError, Payload};
 use std::alloc::{AllocError, Global};
 
 // What is done with a pair.
