@@ -1,12 +1,11 @@
 -- Why a new delivery is refused, and why its transfer is.
 use Rattle.std.proofs.Common.{◌≡◌, ◌∙◌, sym, ap, ℕ, Bool, true, false, not, ◌&&◌, List, [], ◌∷◌, refl, Option, Some, None, Result, Ok, Err, option_map, arith, inl, inr, ◌⊎◌, ◌==◌}
 use Rattle.std.proofs.lemmas.Bool.Decides.{nat_tests}
-use Rattle.std.specs.Prelude.{IsErrAnd, IsSomeAnd, is_none, unwrap_or}
+use Rattle.std.specs.Prelude.{IsErrAnd, is_none, unwrap_or}
 use Rattle.amqp_link_types.specs.Refusals.{refusal}
 use Rattle.amqp_link_types.specs.declared.types.definitions.OutputHandle.{OutputHandle}
 use Rattle.amqp_link_types.specs.declared.types.errors.LinkStateError.{LinkStateError}
 use Rattle.amqp_link_types.specs.declared.types.errors.LinkStateError.TheVariants as error
-use Rattle.amqp_link_types.specs.declared.types.transfer.Transfer.{Transfer}
 use Rattle.amqp_link_sender.specs.declared.sender_link.Sending.{Sending}
 use Rattle.amqp_link_sender.specs.Room.{has_room}
 use Rattle.amqp_link_sender.specs.Senders.{Sender, Delivery, SendStop, refused, missing_credit, payload_tests, delivery_tests, new_transfer, next_tag, settled_by_mode, is_pending, SendAnswersThenOutOfMemory}
