@@ -6,12 +6,12 @@ use Rattle.amqp_link_types.specs.Entries.{Tag, entry_at, with_entry}
 use Rattle.amqp_link_state.specs.Counts.{after_consuming}
 use Rattle.amqp_link_values.specs.Length.{text_len}
 use Rattle.amqp_link_types.specs.Refusals.{refusal}
-use Rattle.amqp_link_sender.specs.Room.{worst, has_room, payload_limit}
+use Rattle.amqp_link_split.specs.Room.{worst, has_room, payload_limit}
 use Rattle.amqp_link.specs.Sendable.{CanSend}
 use Rattle.amqp_link_sender.specs.Senders.{Sender, Delivery, SendsOrLacksCredit, SendsPayload, SendsFewest, IsSent, SendAnswersThenOutOfMemory, SendStop, missing_credit, payload_tests, next_tag, new_transfer, new_entry, settled_by_mode, settlement_of}
 use Rattle.amqp_link_types.specs.declared.types.terminus.Target.{Target}
 use Rattle.amqp_link_types.specs.Size.{transfer_len, before, list_of, content}
-use Rattle.amqp_link_sender.specs.Split.{IsFewestPieces}
+use Rattle.amqp_link_split.specs.Split.{IsFewestPieces}
 use Rattle.amqp_link.specs.Steps.{delivery_transfer, after_sending}
 use Rattle.amqp_link_types.specs.declared.delivery.Settlement.{Settlement}
 use Rattle.amqp_link_types.specs.declared.delivery.Settlement.TheVariants as settlement

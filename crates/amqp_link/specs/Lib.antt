@@ -25,11 +25,11 @@ pub use Rattle.amqp_link_receiver.specs.ReceiverDeliveries
 pub use Rattle.amqp_link_receiver.specs.Receivers
 pub use Rattle.amqp_link_runs.specs.Order
 pub use Rattle.amqp_link_runs.specs.Runs
-pub use Rattle.amqp_link_sender.specs.Room
+pub use Rattle.amqp_link_split.specs.Room
 pub use Rattle.amqp_link_sender.specs.SenderAttaches
 pub use Rattle.amqp_link_sender.specs.SenderDisposes
 pub use Rattle.amqp_link_sender.specs.Senders
-pub use Rattle.amqp_link_sender.specs.Split
+pub use Rattle.amqp_link_split.specs.Split
 pub use Rattle.amqp_link_sender.specs.Waits
 pub use Rattle.amqp_link_state.specs.Counts
 pub use Rattle.amqp_link_types.specs.Deliveries

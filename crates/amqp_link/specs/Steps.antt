@@ -21,8 +21,8 @@ use Rattle.amqp_link_types.specs.declared.types.terminus.Target.{Target}
 use Rattle.amqp_link_types.specs.declared.types.terminus.Source.{Source}
 use Rattle.amqp_link_types.specs.declared.types.terminus.TerminusDurability.TheVariants as durable
 use Rattle.amqp_link_types.specs.declared.types.terminus.TerminusExpiryPolicy.TheVariants.{SessionEnd}
-use Rattle.amqp_link_sender.specs.Split.{IsFewestPieces}
-use Rattle.amqp_link_sender.specs.Room.{payload_limit}
+use Rattle.amqp_link_split.specs.Split.{IsFewestPieces}
+use Rattle.amqp_link_split.specs.Room.{payload_limit}
 use Rattle.amqp_link.specs.Wires.{OnWire, under}
 use Rattle.amqp_link.specs.Worlds.{World, Phase, Apart, Halfway, Together, bytes_in, frames_of}
 use Rattle.amqp_link_types.specs.declared.frame.LinkFrame.{LinkFrame}

@@ -1,12 +1,13 @@
 -- Fields of an attach: how an endpoint states its own, and what it takes of those that arrive (OASIS
 -- AMQP 1.0 core, 2.7.3).
-use Rattle.std.specs.Prelude.{ℕ, Bool, false, List, Option, None, Some, is_none, ◌==◌, min, if◌then◌else◌}
+use Rattle.std.specs.Prelude.{ℕ, Bool, false, List, Option, None, Some, is_none, ◌==◌, min, [], unwrap_or, if◌then◌else◌}
 use Rattle.std.specs.Str.{bytes_eq}
 use Rattle.indexmap.specs.IndexMap.{insert_all}
 use Rattle.amqp_link_state.specs.declared.state.LinkState.{LinkState}
 use Rattle.amqp_link_types.specs.declared.types.attach.Attach.{Attach}
 use Rattle.amqp_link_types.specs.declared.types.terminus.TargetArchetype.{TargetArchetype}
 use Rattle.amqp_link_values.specs.Data.{Data}
+use Rattle.amqp_link_core.specs.Attaching.{States}
 use Rattle.amqp_link_core.specs.LinkStates.{Call, next_state}
 
 -- a max-message-size of 0 is no limit, and an attach leaves that out
@@ -33,3 +34,7 @@ is_foreign admitted (Some archetype) = is_none (admitted archetype)
 -- the state after an attach arrived, where there is a transition
 abbrev pub next_of : LinkState → Attach → Option LinkState
 next_of state attach = next_state Call.IncomingAttach attach.incomplete_unsettled state
+
+-- the unsettled deliveries that an attach states: none if it has no map
+abbrev pub remote_entries : Attach → States
+remote_entries attach = unwrap_or attach.unsettled []

@@ -1,37 +1,39 @@
 -- What becomes of an unsettled delivery as its link is attached again (OASIS AMQP 1.0 core, 2.6.13).
-use Rattle.std.specs.Prelude.{ℕ, Bool, true, false, List, drop, ◌&&◌, ◌||◌, ◌==◌, nat_lt, option_map, unwrap_or, Option, Some, None, Ok, if◌then◌else◌}
+use Rattle.std.specs.Prelude.{◌≡◌, ℕ, Bool, true, false, List, drop, ◌&&◌, ◌||◌, ◌==◌, nat_lt, option_map, unwrap_or, Option, Some, None, IsSome, Result, Ok, if◌then◌else◌}
 use Rattle.amqp_link_types.specs.Entries.{Tag}
 use Rattle.amqp_link_payloads.specs.Position.{place}
 use Rattle.amqp_link_types.specs.declared.delivery.UnsettledMessage.{UnsettledMessage}
 use Rattle.amqp_link_types.specs.declared.types.delivery_state.DeliveryState.{DeliveryState}
 use Rattle.amqp_link_types.specs.declared.types.delivery_state.DeliveryState.TheVariants.{Accepted, Rejected, Released, Modified, Received}
+use Rattle.amqp_link_types.specs.declared.types.errors.LinkStateError.{LinkStateError}
+use Rattle.amqp_link_core.specs.declared.resumption.PlannedResolution.{PlannedResolution}
+use Rattle.amqp_link_core.specs.declared.resumption.PlannedResolution.TheVariants as plan
 use Rattle.amqp_link_core.specs.declared.resumption.Resolution.{Resolution}
 use Rattle.amqp_link_core.specs.declared.resumption.Resolution.TheVariants.{Resuming, Outcome}
 use Rattle.amqp_link_core.specs.declared.resumption.ResumingDelivery.TheVariants.{Abort, Resend, Resume, RestateOutcome}
 
--- what one end says of a delivery: nothing, that a front of it came, which ends at this offset in this
--- section, or how it ended
-pub data Said : Type 0 where
-  nothing : Said
-  front : ℕ → ℕ → Said
-  ended : DeliveryState → Said
+-- what an endpoint reports of a delivery: nothing, a front of it that ends at this offset in this section,
+-- or how it ended
+pub data Report : Type 0 where
+  nothing : Report
+  front : ℕ → ℕ → Report
+  ended : DeliveryState → Report
 
--- a state, as what it says
-abbrev pub said : DeliveryState → Said
-said (Received section offset) = front section offset
-said state = ended state
+-- what a state reports
+abbrev pub report_of : DeliveryState → Report
+report_of (Received section offset) = front section offset
+report_of state = ended state
 
--- what the sender says: the state that it keeps, if any
-abbrev pub local_said : Option DeliveryState → Said
-local_said None = nothing
-local_said (Some state) = said state
+-- what the sender reports: the state in its entry, if any
+abbrev pub sender_report : Option DeliveryState → Report
+sender_report None = nothing
+sender_report (Some state) = report_of state
 
--- what the receiver says: nothing where it does not name the delivery; a null state is a front of no
--- bytes
-abbrev pub remote_said : Option (Option DeliveryState) → Said
-remote_said None = nothing
-remote_said (Some None) = front 0 0
-remote_said (Some (Some state)) = said state
+-- what the receiver reports: nothing if its map has no entry; a null state is a front of no bytes
+abbrev pub receiver_report : Option (Option DeliveryState) → Report
+receiver_report None = nothing
+receiver_report (Some None) = front 0 0
+receiver_report (Some (Some state)) = report_of state
 
 -- what is still to be sent: all from the place on where the receiver's front ends, or the whole
 -- payload where that names no place in it
@@ -44,8 +46,8 @@ abbrev pub is_beyond : ℕ → ℕ → ℕ → ℕ → Bool
 is_beyond section offset section' offset' =
     nat_lt section' section || (section' == section && nat_lt offset' offset)
 
--- what the sender says is past a front: a front beyond it, or an end
-abbrev pub is_past : Said → ℕ → ℕ → Bool
+-- what the sender reports is past a front: a front beyond it, or an outcome
+abbrev pub is_past : Report → ℕ → ℕ → Bool
 is_past nothing section' offset' = false
 is_past (front section offset) section' offset' = is_beyond section offset section' offset'
 is_past (ended state) section' offset' = true
@@ -58,9 +60,9 @@ is_same_outcome Released Released = true
 is_same_outcome (Modified failed undeliverable annotations) (Modified failed' undeliverable' annotations') = true
 is_same_outcome _ _ = false
 
--- The table: what the sender says of the delivery, what the receiver says of it, and what follows. An
--- entry that is sent again or resumed is kept as it is, with its whole payload.
-abbrev pub row : Tag → UnsettledMessage → Said → Said → Resolution
+-- The table: what the sender reports of the delivery, what the receiver reports of it, and how it is
+-- resolved. An entry that is sent again or resumed keeps its whole payload.
+abbrev pub row : Tag → UnsettledMessage → Report → Report → Resolution
 row tag entry nothing nothing = Resuming (Resend entry)
 row tag entry nothing (front section offset) =
     Resuming (Resume entry (rest_from entry.payload section offset))
@@ -81,9 +83,53 @@ row tag entry (ended local) (ended remote) =
 -- what becomes of the delivery with this tag: an entry at its sender, and what the receiver's unsettled
 -- map has at the tag
 abbrev pub resolution : Tag → UnsettledMessage → Option (Option DeliveryState) → Resolution
-resolution tag entry remote = row tag entry (local_said entry.state) (remote_said remote)
+resolution tag entry remote = row tag entry (sender_report entry.state) (receiver_report remote)
 
--- only a delivery that is resumed takes memory, for its rest
+-- only a delivery that is resumed allocates, for its rest
 abbrev pub is_resumed : Resolution → Bool
 is_resumed (Resuming (Resume entry rest)) = true
 is_resumed _ = false
+
+-- ---- a resolution that is decided before the entry is moved
+
+-- what is made of a delivery by a plan
+abbrev pub resolution_by : PlannedResolution → Tag → UnsettledMessage → Resolution
+resolution_by plan.Resend tag entry = Resuming (Resend entry)
+resolution_by (plan.Resume rest) tag entry = Resuming (Resume entry rest)
+resolution_by plan.Abort tag entry = Resuming (Abort entry.message_format (Some tag))
+resolution_by plan.LocalOutcome tag entry = Outcome (Ok entry.state)
+resolution_by (plan.RemoteOutcome state) tag entry = Outcome (Ok (Some state))
+resolution_by plan.RestateOutcome tag entry =
+    Resuming (RestateOutcome tag entry.payload (unwrap_or entry.state Accepted) entry.message_format)
+
+-- what is sent carries the tag
+abbrev pub does_carry_tag : PlannedResolution → Bool
+does_carry_tag plan.Abort = true
+does_carry_tag plan.RestateOutcome = true
+does_carry_tag _ = false
+
+-- the sender's outcome is stated once more
+abbrev pub is_restated : PlannedResolution → Bool
+is_restated plan.RestateOutcome = true
+is_restated _ = false
+
+-- the outcome of a delivery that has ended
+abbrev pub outcome_by : PlannedResolution → UnsettledMessage → Option (Result (Option DeliveryState) LinkStateError)
+outcome_by plan.LocalOutcome entry = Some (Ok entry.state)
+outcome_by (plan.RemoteOutcome state) entry = Some (Ok (Some state))
+outcome_by _ entry = None
+
+abbrev pub is_ended_by : PlannedResolution → Bool
+is_ended_by plan.LocalOutcome = true
+is_ended_by (plan.RemoteOutcome state) = true
+is_ended_by _ = false
+
+-- A plan for a delivery with this entry at the sender and this report of the receiver is the row of the
+-- table; an outcome that is stated once more is known.
+pub record IsPlannedOf (plan : PlannedResolution) (entry : UnsettledMessage) (report : Report) : Type 0 where
+  pub answers : (tag : Tag) → resolution_by plan tag entry ≡ row tag entry (sender_report entry.state) report
+  pub known : is_restated plan ≡ true → IsSome entry.state
+
+-- the same, by the entry of the receiver's unsettled map
+abbrev pub IsPlannedFor : PlannedResolution → UnsettledMessage → Option (Option DeliveryState) → Type 0
+IsPlannedFor plan entry remote = IsPlannedOf plan entry (receiver_report remote)

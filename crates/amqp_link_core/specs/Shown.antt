@@ -1,6 +1,6 @@
 -- What a link endpoint shows of itself, and how an attach follows from it (OASIS AMQP 1.0 core, 2.6.3,
 -- 2.6.4 and 2.7.3).
-use Rattle.std.specs.Prelude.{ℕ, false, List, Option, None, Some, option_map, unwrap_or}
+use Rattle.std.specs.Prelude.{ℕ, false, List, [], Option, None, Some, option_map, unwrap_or}
 use Rattle.amqp_link_state.specs.declared.state.LinkFlowStateInner.{LinkFlowStateInner}
 use Rattle.amqp_link_state.specs.declared.state.LinkState.{LinkState}
 use Rattle.amqp_link_state.specs.declared.state.LinkState.TheVariants.{Unattached}
@@ -58,6 +58,11 @@ abbrev pub decided_by_receiver : {A : Type 0} → Role → A → A → A
 decided_by_receiver role.Sender own theirs = theirs
 decided_by_receiver role.Receiver own theirs = own
 
+-- of the unsettled deliveries: the exchange resolves those of a sender, and a receiver's stay
+abbrev pub after_exchange : {A : Type 0} → Role → A → A → A
+after_exchange role.Sender own nothing = nothing
+after_exchange role.Receiver own nothing = own
+
 module _ {D : Type 0} where
   abbrev pub count_stated : Shown D → ℕ
   count_stated s = stated_count s.role s.local_state s.flow_state
@@ -93,9 +98,10 @@ module _ {D : Type 0} where
   }
 
   -- An attach arrived and was taken, with this target: the sender decides its settle mode, the source and
-  -- the counts, the receiver its settle mode and the target.
-  abbrev pub shown_taken : Shown D → Option TargetArchetype → Attach → Shown D
-  shown_taken s target attach = record s {
+  -- the counts, the receiver its settle mode and the target. The exchange resolves a sender's deliveries;
+  -- what an endpoint without any keeps of them is nothing.
+  abbrev pub shown_taken : D → Shown D → Option TargetArchetype → Attach → Shown D
+  shown_taken nothing s target attach = record s {
     local_state = unwrap_or (next_of s.local_state attach) s.local_state;
     snd_settle_mode = decided_by_sender s.role s.snd_settle_mode attach.snd_settle_mode;
     rcv_settle_mode = decided_by_receiver s.role s.rcv_settle_mode attach.rcv_settle_mode;
@@ -107,6 +113,9 @@ module _ {D : Type 0} where
       delivery_count = decided_by_sender s.role s.flow_state.delivery_count (unwrap_or attach.initial_delivery_count 0);
       properties = merged_properties s.flow_state.properties attach.properties;
     };
+    unsettled = after_exchange s.role s.unsettled nothing;
+    entries = after_exchange s.role s.entries [];
+    ended = after_exchange s.role s.ended [];
   }
 
   -- the first with the state, the settle modes and the termini of the second: what an attach that is

@@ -16,7 +16,8 @@ ghost use Rattle.amqp_link_types.specs.declared.types.definitions.OutputHandle.{
 ghost use Rattle.amqp_link_types.specs.declared.types.definitions.Error.{Error as TheError};
 ghost use Rattle.amqp_link_types.specs.declared.types.attach.Attach.{Attach as TheAttach};
 ghost use Rattle.amqp_link_types.specs.declared.types.terminus.TargetArchetype.{TargetArchetype as Archetype};
-ghost use Rattle.amqp_link_core.specs.AttachFields.{message_limit, next_of};
+ghost use Rattle.amqp_link_core.specs.AttachFields.{message_limit, next_of, remote_entries};
+ghost use Rattle.amqp_link_core.specs.Attaching.{States};
 ghost use Rattle.amqp_link_core.specs.AttachSent.{SendsAttach, IsTooLarge};
 ghost use Rattle.amqp_link_core.specs.LinkStates.{Call, next_state};
 ghost use Rattle.amqp_link_core.specs.Detaching.{detach_frame, recorded, remote_error};
@@ -165,26 +166,29 @@ pub trait LinkAttach: LinkDetach {
     // The first reason for which it is refused, out of memory aside.
     ghost refusal_of: { Self → TheAttach → Option Self.AttachError };
 
-    // The endpoint once it has taken the attach, the target that it has then, as it is sent, and what is
-    // returned.
+    // The endpoint once it has taken the attach, and the target that it has then, as it is sent.
     ghost taken: { Self → TheAttach → Self };
 
     ghost target_taken: { Self → TheAttach → Option Archetype };
 
-    ghost exchanged: { Self → TheAttach → Self.AttachExchange → Type 0 };
+    // What is returned of the exchange of its own unsettled deliveries and those that the attach states, in
+    // the state after the attach.
+    ghost exchanged: { Self.Unsettled → States → TheState → Self.AttachExchange → Type 0 };
 
     // What stays of it in the endpoint after each refusal.
     ghost left: { Self.AttachError → Self → TheAttach → Self };
 
-    /// Takes the peer's attach. Illegal state, with nothing changed, if there is no transition from this
-    /// state; else the state moves, also if the attach is refused: what more of it stays then is stated
-    /// at each endpoint. Out of memory comes after all refusals, with nothing changed.
+    /// Takes the peer's attach, and exchanges the unsettled deliveries of both endpoints (2.6.13): a
+    /// sender's are resolved, a receiver's stay. Illegal state, with nothing changed, if there is no
+    /// transition from this state; else the state moves, also if the attach is refused: what more of it
+    /// stays then is stated at each endpoint. Out of memory comes after all refusals, with nothing changed.
     fn on_incoming_attach(
         &mut self,
         attach: Attach,
     ) -> Result<Self::AttachExchange, Self::AttachError>
         ensures taken { IfOk result (λ exchange. (self.new ≡ taken self.old attach)
-            × exchanged self.old attach exchange) }
+            × exchanged (Self.shown self.old).unsettled (remote_entries attach)
+            (Self.shown self.new).local_state exchange) }
         ensures refused { MatchResult result
             (λ _. refusal_of self.old attach ≡ None)
             (λ error. (error ≡ out_of_memory) ⊎ (refusal_of self.old attach ≡ Some error)) }
@@ -212,7 +216,8 @@ pub trait LinkAttach: LinkDetach {
         ≡ record (Self.shown l) { unsettled = nothing_unsettled; entries = []; ended = [] } };
 
     ghost shown_after_taking: { (l : Self) (a : TheAttach)
-        → Self.shown (taken l a) ≡ shown_taken (Self.shown l) (target_taken l a) a };
+        → Self.shown (taken l a)
+        ≡ shown_taken nothing_unsettled (Self.shown l) (target_taken l a) a };
 
     ghost shown_after_refusal: { (e : Self.AttachError) (l : Self) (a : TheAttach)
         → Self.shown (left e l a) ≡ with_terms_of (Self.shown l) (Self.shown (left e l a)) };

@@ -1,48 +1,47 @@
 //! What becomes of an unsettled delivery as its link is attached again (2.6.13).
 //!
-//! Both ends say in their attaches what they know of it. The sender resumes what the receiver has a
-//! front of, sends again what it has nothing of, and ends or gives up what is past that.
-ghost use Rattle.std.specs.Prelude.{◌≡◌, Some, IsSome, IsTrue, IfOk, IfErr, OnErr};
-ghost use Rattle.amqp_link_types.specs.declared.types.delivery_state.DeliveryState.{DeliveryState as State};
-ghost use Rattle.amqp_link_core.specs.declared.resumption.Resolution.TheVariants.{Resuming};
-ghost use Rattle.amqp_link_core.specs.declared.resumption.ResumingDelivery.TheVariants.{RestateOutcome};
+//! Both endpoints state in their attaches what they know of it. The sender resumes a delivery of which the
+//! receiver has a front, sends one again that the receiver does not know, and settles or aborts the others.
+ghost use Rattle.std.specs.Prelude.{◌≡◌, true, None, Some, IsSome, IsTrue, IfOk, IfErr, OnErr};
 ghost use Rattle.amqp_link_types.specs.Entries.{Tag};
-ghost use Rattle.amqp_link_core.specs.Resuming.{front, ended, nothing, local_said};
-ghost use Rattle.amqp_link_core.specs.Resuming.{is_resumed, row, resolution};
+ghost use Rattle.amqp_link_core.specs.Resuming.{front, ended, sender_report, IsPlannedOf, IsPlannedFor};
+ghost use Rattle.amqp_link_core.specs.Resuming.{is_resumed, row, resolution, resolution_by, outcome_by};
+ghost use Rattle.amqp_link_core.specs.Resuming.{does_carry_tag, is_restated, is_ended_by};
 
 pub(crate) mod states;
 
 use crate::resumption::states::{has_ended, has_ended_as, is_past, rest_of};
 use amqp_link_types::delivery::{DeliveryOutcome, UnsettledMessage};
 use amqp_link_types::types::{DeliveryState, DeliveryTag, MessageFormat, Payload};
+use amqp_link_values::copy::copy_of;
 use std::alloc::AllocError;
 
 /// What a sender sends of a delivery as its link is attached again (2.6.13).
 #[derive(Debug, PartialEq, Eq, Drop)]
 pub enum ResumingDelivery {
-    /// An aborted transfer: the delivery is given up at both ends.
+    /// An aborted transfer: the delivery is given up at both endpoints.
     Abort {
-        /// The format of the message; 0 where the delivery is known at the receiver alone.
+        /// The format of the message; 0 if only the receiver knows the delivery.
         message_format: MessageFormat,
-        /// The delivery's tag; none where it is known at the receiver alone.
+        /// The delivery's tag; none if only the receiver knows it.
         tag: Option<DeliveryTag>,
     },
     /// The whole delivery, as a new one.
     Resend(UnsettledMessage),
-    /// What the receiver has not of it.
+    /// The bytes that the receiver does not have.
     Resume {
         /// The delivery, with its whole payload.
         entry: UnsettledMessage,
         /// The bytes that are still to be sent.
         rest: Payload,
     },
-    /// How it ended at the sender, once more: it ended otherwise at the receiver.
+    /// The sender's outcome once more: the receiver has another one.
     RestateOutcome {
         /// The delivery's tag.
         tag: DeliveryTag,
         /// Its whole payload.
         payload: Payload,
-        /// How it ended at the sender.
+        /// The outcome at the sender.
         local_state: DeliveryState,
         /// The format of the message.
         message_format: MessageFormat,
@@ -52,19 +51,137 @@ pub enum ResumingDelivery {
 /// What becomes of a delivery as its link is attached again.
 #[derive(Debug, PartialEq, Eq, Drop)]
 pub enum Resolution {
-    /// It goes on.
+    /// It is resumed, sent again or aborted.
     Resuming(ResumingDelivery),
-    /// It has ended, in this way.
+    /// It has ended with this outcome.
     Outcome(DeliveryOutcome),
 }
 
-/// What becomes of the delivery of this tag, whose entry at the sender is `local`, where the receiver's
-/// unsettled map has `remote` at the tag: no entry, a null state, or a state (2.6.13).
+/// How an unsettled delivery is resolved, decided while its entry is still in the sender's unsettled map:
+/// all that allocates is in it, so that the entry can be moved afterwards without an allocation.
+#[derive(Debug, PartialEq, Eq, Drop)]
+pub enum PlannedResolution {
+    /// The whole delivery is sent again.
+    Resend,
+    /// The delivery is resumed with these bytes.
+    Resume(Payload),
+    /// The delivery is aborted.
+    Abort,
+    /// The delivery ended as the sender's entry states.
+    LocalOutcome,
+    /// The delivery ended as the receiver states.
+    RemoteOutcome(DeliveryState),
+    /// The sender states its outcome once more.
+    RestateOutcome,
+}
+
+impl PlannedResolution {
+    /// Whether what is sent of the delivery carries its tag.
+    pub fn carries_tag(&self) -> bool
+        ensures { result ≡ does_carry_tag self.now }
+    {
+        matches!(
+            self,
+            PlannedResolution::Abort | PlannedResolution::RestateOutcome
+        )
+    }
+
+    /// Whether the delivery has ended, so that nothing is sent of it.
+    pub fn is_outcome(&self) -> bool
+        ensures { result ≡ is_ended_by self.now }
+    {
+        matches!(
+            self,
+            PlannedResolution::LocalOutcome | PlannedResolution::RemoteOutcome(_)
+        )
+    }
+
+    /// A copy of the outcome with which a delivery ends that has this entry, none if it has not ended.
+    /// Only a state that carries an error or fields allocates.
+    pub fn copy_of_outcome(
+        &self,
+        local: &UnsettledMessage,
+    ) -> Result<Option<DeliveryOutcome>, AllocError>
+        ensures { IfOk result (λ copy. copy ≡ outcome_by self.now local.now) }
+    {
+        match self {
+            PlannedResolution::LocalOutcome => Ok(Some(Ok(copy_of(&local.state)?))),
+            PlannedResolution::RemoteOutcome(state) => Ok(Some(Ok(Some(state.clone()?)))),
+            _ => Ok(None),
+        }
+    }
+
+    /// Resolves the delivery of this entry as planned. The tag is there if what is sent carries it.
+    /// Does not allocate.
+    pub fn resolve(self, tag: Option<DeliveryTag>, local: UnsettledMessage) -> Resolution
+        requires tag { does_carry_tag self ≡ true → IsSome tag }
+        requires state { is_restated self ≡ true → IsSome local.state }
+        ensures { (name : Tag) → (does_carry_tag self ≡ true → tag ≡ Some name)
+            → result ≡ resolution_by self name local }
+    {
+        match self {
+            PlannedResolution::Resend => {
+                drop(tag);
+                Resolution::Resuming(ResumingDelivery::Resend(local))
+            }
+            PlannedResolution::Resume(rest) => {
+                drop(tag);
+                Resolution::Resuming(ResumingDelivery::Resume { entry: local, rest })
+            }
+            PlannedResolution::Abort => {
+                let message_format = local.message_format;
+                drop(local);
+                Resolution::Resuming(ResumingDelivery::Abort {
+                    message_format,
+                    tag,
+                })
+            }
+            PlannedResolution::LocalOutcome => {
+                drop(tag);
+                Resolution::Outcome(local.settle())
+            }
+            PlannedResolution::RemoteOutcome(state) => {
+                drop(tag);
+                Resolution::Outcome(local.settle_with_state(Some(state)))
+            }
+            PlannedResolution::RestateOutcome => restated(tag, local),
+        }
+    }
+}
+
+/// Decides what becomes of the delivery with this entry at the sender, where the receiver's unsettled
+/// map has `remote` at its tag: no entry, a null state, or a state (2.6.13). A null state counts as
+/// received up to section 0, offset 0.
 ///
-/// A null state counts as received up to section 0, offset 0. What is resumed is sent from the place
-/// on where the receiver's front ends, and whole where that names no place in the payload; the entry
-/// keeps the whole payload. Only a delivery that is resumed takes memory; where it is refused the
-/// entry comes back.
+/// Only a delivery that is resumed allocates, for the bytes that are still to be sent: those after the
+/// receiver's position, or the whole payload if that names no place in it.
+pub fn plan_resumption(
+    local: &UnsettledMessage,
+    remote: Option<Option<DeliveryState>>,
+) -> Result<PlannedResolution, AllocError>
+    ensures planned { IfOk result (λ plan. IsPlannedFor plan local.now remote) }
+    ensures memory { OnErr result ((tag : Tag) → is_resumed (resolution tag local.now remote) ≡ true) }
+{
+    match remote {
+        None => Ok(plan_unreported(local)),
+        Some(None) => plan_front(local, 0, 0),
+        Some(
+            Some(
+                DeliveryState::Received {
+                    section_number,
+                    section_offset,
+                },
+            ),
+        ) => plan_front(local, section_number, section_offset),
+        Some(Some(remote)) => Ok(plan_end(local, remote)),
+    }
+}
+
+/// Resolves the delivery of this tag, whose entry at the sender is `local`, where the receiver's
+/// unsettled map has `remote` at the tag, by `plan_resumption` (2.6.13). An entry that is sent again or
+/// resumed keeps its whole payload.
+///
+/// Only a delivery that is resumed allocates; out of memory returns the entry.
 pub fn resume_delivery(
     tag: DeliveryTag,
     local: UnsettledMessage,
@@ -74,102 +191,82 @@ pub fn resume_delivery(
     ensures memory { OnErr result (IsTrue (is_resumed (resolution tag local remote))) }
     ensures err { IfErr result (λ error. error.1 ≡ local) }
 {
-    match remote {
-        None => {
+    match plan_resumption(&local, remote) {
+        Ok(plan) => Ok(plan.resolve(Some(tag), local)),
+        Err(error) => {
             drop(tag);
-            Ok(unreported(local))
+            Err((error, local))
         }
-        Some(None) => reported_front(tag, local, 0, 0),
-        Some(
-            Some(
-                DeliveryState::Received {
-                    section_number,
-                    section_offset,
-                },
-            ),
-        ) => reported_front(tag, local, section_number, section_offset),
-        Some(Some(remote)) => Ok(reported_end(tag, local, remote)),
     }
 }
 
-// The receiver says nothing of the delivery.
+// The receiver does not know the delivery.
 #[tactic(auto, using(crate::proofs::ResumingLemmas::unreported_rows))]
-fn unreported(local: UnsettledMessage) -> Resolution
-    ensures { (tag : Tag) → result ≡ row tag local (local_said local.state) nothing }
+fn plan_unreported(local: &UnsettledMessage) -> PlannedResolution
+    ensures { IsPlannedFor result local.now None }
 {
     if has_ended(&local.state) {
-        Resolution::Outcome(local.settle())
+        PlannedResolution::LocalOutcome
     } else {
-        Resolution::Resuming(ResumingDelivery::Resend(local))
+        PlannedResolution::Resend
     }
 }
 
 // The receiver has a front that ends at this offset in this section.
 #[tactic(auto, using(crate::proofs::ResumingLemmas::front_rows))]
-fn reported_front(
-    tag: DeliveryTag,
-    local: UnsettledMessage,
+fn plan_front(
+    local: &UnsettledMessage,
     section_number: u32,
     section_offset: u64,
-) -> Result<Resolution, (AllocError, UnsettledMessage)>
-    ensures ok { IfOk result (λ answer. answer
-        ≡ row tag local (local_said local.state) (front section_number section_offset)) }
-    ensures memory { OnErr result (IsTrue (is_resumed
-        (row tag local (local_said local.state) (front section_number section_offset)))) }
-    ensures err { IfErr result (λ error. error.1 ≡ local) }
+) -> Result<PlannedResolution, AllocError>
+    ensures planned { IfOk result (λ plan.
+        IsPlannedOf plan local.now (front section_number section_offset)) }
+    ensures memory { OnErr result ((tag : Tag) → is_resumed
+        (row tag local.now (sender_report local.now.state) (front section_number section_offset)) ≡ true) }
 {
     if is_past(&local.state, section_number, section_offset) {
-        let message_format = local.message_format;
-        drop(local);
-        let tag = Some(tag);
-        return Ok(Resolution::Resuming(ResumingDelivery::Abort {
-            message_format,
-            tag,
-        }));
+        return Ok(PlannedResolution::Abort);
     }
-    drop(tag);
-    match rest_of(&local.payload, section_number, section_offset) {
-        Ok(rest) => Ok(Resolution::Resuming(ResumingDelivery::Resume { entry: local, rest })),
-        Err(error) => Err((error, local)),
-    }
+    let rest = rest_of(&local.payload, section_number, section_offset)?;
+    Ok(PlannedResolution::Resume(rest))
 }
 
-// The receiver says how the delivery ended.
+// The receiver states how the delivery ended.
 #[tactic(auto, using(crate::proofs::ResumingLemmas::end_rows))]
-fn reported_end(tag: DeliveryTag, local: UnsettledMessage, remote: DeliveryState) -> Resolution
-    ensures { result ≡ row tag local (local_said local.state) (ended remote) }
+fn plan_end(local: &UnsettledMessage, remote: DeliveryState) -> PlannedResolution
+    ensures { IsPlannedOf result local.now (ended remote) }
 {
     if !has_ended(&local.state) {
-        drop(tag);
-        return Resolution::Outcome(local.settle_with_state(Some(remote)));
+        return PlannedResolution::RemoteOutcome(remote);
     }
-    if has_ended_as(&local.state, &remote) {
-        drop(tag);
-        drop(remote);
-        return Resolution::Outcome(local.settle());
-    }
+    let is_same = has_ended_as(&local.state, &remote);
     drop(remote);
-    restated(tag, local)
+    if is_same {
+        PlannedResolution::LocalOutcome
+    } else {
+        PlannedResolution::RestateOutcome
+    }
 }
 
-// Its end is to be told once more.
-fn restated(tag: DeliveryTag, local: UnsettledMessage) -> Resolution
-    requires { IsSome local.state }
-    ensures { (state : State) → local.state ≡ Some state → result
-        ≡ Resuming (RestateOutcome tag local.payload state local.message_format) }
+// The sender's outcome is stated once more.
+fn restated(tag: Option<DeliveryTag>, local: UnsettledMessage) -> Resolution
+    requires tag { IsSome tag }
+    requires state { IsSome local.state }
+    ensures { (name : Tag) → tag ≡ Some name → result
+        ≡ resolution_by PlannedResolution.RestateOutcome name local }
 {
     let UnsettledMessage {
         payload,
         state,
         message_format,
     } = local;
-    match state {
-        Some(local_state) => Resolution::Resuming(ResumingDelivery::RestateOutcome {
-            tag,
-            payload,
-            local_state,
-            message_format,
-        }),
-        None => unreachable!(),
-    }
+    let (Some(tag), Some(local_state)) = (tag, state) else {
+        unreachable!()
+    };
+    Resolution::Resuming(ResumingDelivery::RestateOutcome {
+        tag,
+        payload,
+        local_state,
+        message_format,
+    })
 }

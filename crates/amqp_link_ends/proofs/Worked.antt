@@ -8,7 +8,7 @@ use Rattle.amqp_link_state.specs.declared.state.LinkState.TheVariants.{Attached}
 use Rattle.amqp_link_types.specs.declared.types.definitions.ReceiverSettleMode.TheVariants.{First, Second}
 use Rattle.amqp_link_types.specs.declared.types.definitions.SenderSettleMode.TheVariants as mode
 use Rattle.amqp_link_types.specs.declared.types.errors.LinkStateError.TheVariants.{IllegalState, NoRoom}
-use Rattle.amqp_link_sender.specs.Room.{worst, has_room, payload_limit}
+use Rattle.amqp_link_split.specs.Room.{worst, has_room, payload_limit}
 use Rattle.amqp_link_types.specs.declared.types.terminus.Target.{Target}
 use Rattle.amqp_link_payloads.specs.declared.error.DecodeError.{DecodeError}
 use Rattle.amqp_link_types.specs.declared.types.errors.ReceiverTransferError.TheVariants.{DeliveryIdIsNone, TransferLimitExceeded}

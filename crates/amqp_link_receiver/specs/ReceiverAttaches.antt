@@ -12,18 +12,18 @@ use Rattle.amqp_link_types.specs.declared.types.terminus.TargetArchetype.{Target
 use Rattle.amqp_link_types.specs.Entries.{Entries}
 use Rattle.amqp_link_types.specs.Refusals.{refusal}
 use Rattle.amqp_link_core.specs.AttachFields.{smaller_limit, merged_properties, is_foreign, next_of}
+use Rattle.amqp_link_core.specs.Attaching.{States}
 use Rattle.amqp_link_core.specs.Shown.{Shown, with_terms_of}
 use Rattle.amqp_link_receiver.specs.declared.receiver_link.attach.ReceiverAttachExchange.{ReceiverAttachExchange}
 use Rattle.amqp_link_receiver.specs.declared.receiver_link.attach.ReceiverAttachExchange.TheVariants as exchange
 use Rattle.amqp_link_receiver.specs.Receivers.{Receiver}
 
--- whether an attach names a delivery: no map and an empty one name none
-abbrev pub has_entries : Option (Entries (Option DeliveryState)) → Bool
-has_entries None = false
-has_entries (Some []) = false
-has_entries (Some (entry ∷ entries)) = true
+-- whether an attach states an unsettled delivery
+abbrev pub has_entries : States → Bool
+has_entries [] = false
+has_entries (entry ∷ entries) = true
 
--- what follows in this state, where the sender has named a delivery or not
+-- what follows in this state, if the sender has stated a delivery or not
 abbrev pub exchange_in : LinkState → Bool → ReceiverAttachExchange
 exchange_in state false = exchange.Complete
 exchange_in IncompleteAttachSent true = exchange.IncompleteUnsettled
@@ -95,10 +95,6 @@ module _ {T : Type 0} where
   receiver_left error.InitialDeliveryCountIsNone r attach = receiver_sourced r attach
   receiver_left error.CoordinatorIsNotImplemented r attach = receiver_sourced r attach
   receiver_left _ r attach = r
-
-  -- what is answered
-  abbrev pub exchanged_with : Receiver T → Attach → ReceiverAttachExchange
-  exchanged_with r attach = exchange_in (receiver_came r attach).local_state (has_entries attach.unsettled)
 
   -- ---- what a receiver shows then
 

@@ -1,3 +1,1 @@
-pub mod FrameLemmas
 pub mod SendRefusals
-pub mod SplitLemmas

@@ -7,7 +7,7 @@ use Rattle.amqp_link_types.specs.declared.types.definitions.OutputHandle.{Output
 use Rattle.amqp_link_types.specs.declared.types.errors.LinkStateError.{LinkStateError}
 use Rattle.amqp_link_types.specs.declared.types.errors.LinkStateError.TheVariants as error
 use Rattle.amqp_link_sender.specs.declared.sender_link.Sending.{Sending}
-use Rattle.amqp_link_sender.specs.Room.{has_room}
+use Rattle.amqp_link_split.specs.Room.{has_room}
 use Rattle.amqp_link_sender.specs.Senders.{Sender, Delivery, SendStop, refused, missing_credit, payload_tests, delivery_tests, new_transfer, next_tag, settled_by_mode, is_pending, SendAnswersThenOutOfMemory}
 
 skip : {E : Type 0} (a : Bool) (e : E) (rest : List (Bool × E)) → a ≡ false → refusal ((a, e) ∷ rest) ≡ refusal rest

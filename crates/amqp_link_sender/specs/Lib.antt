@@ -8,6 +8,10 @@ pub use Rattle.amqp_link_core.specs.Targets
 pub use Rattle.amqp_link_dispositions.specs.Ending
 pub use Rattle.amqp_link_dispositions.specs.Listed
 pub use Rattle.amqp_link_dispositions.specs.Said
+pub use Rattle.amqp_link_exchange.specs.Exchanges
+pub use Rattle.amqp_link_exchange.specs.Plans
+pub use Rattle.amqp_link_split.specs.Room
+pub use Rattle.amqp_link_split.specs.Split
 pub use Rattle.amqp_link_state.specs.Counts
 pub use Rattle.amqp_link_types.specs.Deliveries
 pub use Rattle.amqp_link_types.specs.DeliveryStates
@@ -17,9 +21,7 @@ pub use Rattle.amqp_link_values.specs.Length
 pub use Rattle.amqp_link_types.specs.Refusals
 pub use Rattle.amqp_link_types.specs.Size
 pub use Rattle.amqp_link_types.specs.Unsettled
-pub mod Room
 pub mod SenderAttaches
 pub mod SenderDisposes
 pub mod Senders
-pub mod Split
 pub mod Waits

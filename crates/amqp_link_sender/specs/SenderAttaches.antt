@@ -1,8 +1,10 @@
 -- The attach that a sender's end sends, and the one that comes to it (OASIS AMQP 1.0 core, 2.6.3 and
 -- 2.7.3).
-use Rattle.std.specs.Prelude.{◌≡◌, ℕ, Bool, true, false, List, [], ◌∷◌, map, Option, Some, None, is_some, is_none, option_map, unwrap_or, if◌then◌else◌, Err, refl}
+use Rattle.std.specs.Prelude.{◌≡◌, ℕ, Bool, true, false, List, [], ◌∷◌, ◌==◌, ◌&&◌, length, map, Option, Some, None, is_some, is_none, option_map, unwrap_or, if◌then◌else◌, Err, refl}
+use Rattle.std.specs.Option.{option_or}
 use Rattle.amqp_link_types.specs.declared.delivery.UnsettledMessage.{UnsettledMessage}
 use Rattle.amqp_link_state.specs.declared.state.LinkState.{LinkState}
+use Rattle.amqp_link_state.specs.declared.state.LinkState.TheVariants.{IncompleteAttachSent, IncompleteAttachReceived, IncompleteAttachExchanged}
 use Rattle.amqp_link_types.specs.declared.types.attach.Attach.{Attach}
 use Rattle.amqp_link_types.specs.declared.types.definitions.Role.TheVariants as role
 use Rattle.amqp_link_types.specs.declared.types.definitions.SenderSettleMode.{SenderSettleMode}
@@ -15,13 +17,36 @@ use Rattle.amqp_link_types.specs.Entries.{Entries}
 use Rattle.amqp_link_types.specs.Refusals.{refusal}
 use Rattle.amqp_link_types.specs.Deliveries.{Ended}
 use Rattle.amqp_link_types.specs.Unsettled.{states_of}
-use Rattle.amqp_link_core.specs.AttachFields.{smaller_limit, merged_properties, is_foreign, next_of}
+use Rattle.amqp_link_core.specs.AttachFields.{smaller_limit, merged_properties, is_foreign, next_of, remote_entries}
+use Rattle.amqp_link_core.specs.Attaching.{States}
+use Rattle.amqp_link_core.specs.declared.resumption.ResumingDelivery.{ResumingDelivery}
+use Rattle.amqp_link_exchange.specs.Exchanges.{deliveries_to_resume}
+use Rattle.amqp_link_exchange.specs.Plans.{IsPlanOf}
 use Rattle.amqp_link_core.specs.Shown.{Shown, stated_count, with_terms_of}
+use Rattle.amqp_link_sender.specs.declared.sender_link.incoming.AttachPlan.{AttachPlan}
+use Rattle.amqp_link_sender.specs.declared.sender_link.incoming.SenderAttachExchange.{SenderAttachExchange}
+use Rattle.amqp_link_sender.specs.declared.sender_link.incoming.SenderAttachExchange.TheVariants as exchange
 use Rattle.amqp_link_sender.specs.Senders.{Sender}
 
 -- what becomes of each delivery as the link is attached anew
 abbrev pub all_illegal : Entries UnsettledMessage → List Ended
 all_illegal entries = map (λ entry. (entry.0, Err link_error.IllegalState)) entries
+
+-- whether neither endpoint has an unsettled delivery
+abbrev pub is_nothing : Entries UnsettledMessage → States → Bool
+is_nothing own remote = length own == 0 && length remote == 0
+
+-- the deliveries to resume in this state: not all of them if an attach was incomplete
+abbrev pub resumption_in : LinkState → Entries ResumingDelivery → SenderAttachExchange
+resumption_in IncompleteAttachSent list = exchange.IncompleteUnsettled list
+resumption_in IncompleteAttachReceived list = exchange.IncompleteUnsettled list
+resumption_in IncompleteAttachExchanged list = exchange.IncompleteUnsettled list
+resumption_in _ list = exchange.Resume list
+
+-- what follows in this state from the sender's unsettled deliveries and the receiver's
+abbrev pub exchange_in : LinkState → Entries UnsettledMessage → States → SenderAttachExchange
+exchange_in state own remote =
+    if is_nothing own remote then exchange.Complete else resumption_in state (deliveries_to_resume own remote)
 
 -- whether one end settles what the other leaves unsettled
 abbrev pub disagree : SenderSettleMode → SenderSettleMode → Bool
@@ -94,12 +119,24 @@ module _ {T : Type 0} where
     rcv_settle_mode = attach.rcv_settle_mode;
   }
 
-  -- and all the rest
+  -- and all the rest; the exchange leaves no unsettled delivery
   abbrev pub sender_taken : (TargetArchetype → Option T) → Sender T → Attach → Sender T
   sender_taken admitted s attach = record (sender_targeted admitted s attach) {
     max_message_size = smaller_limit s.max_message_size attach.max_message_size;
     flow_state = record s.flow_state { properties = merged_properties s.flow_state.properties attach.properties };
+    unsettled = [];
   }
+
+  -- A plan to take an attach that no test refuses: what is made of it, and of the unsettled deliveries.
+  pub record IsAttachPlan (admitted : TargetArchetype → Option T) (s : Sender T) (attach : Attach) (plan : AttachPlan T) : Type 0 where
+    pub next : next_of s.local_state attach ≡ Some plan.next
+    pub handle : plan.handle ≡ attach.handle
+    pub target : target_of admitted attach.target ≡ Some plan.target
+    pub mode : plan.rcv_settle_mode ≡ attach.rcv_settle_mode
+    pub limit : plan.max_message_size ≡ smaller_limit s.max_message_size attach.max_message_size
+    pub properties : option_or plan.properties s.flow_state.properties ≡ merged_properties s.flow_state.properties attach.properties
+    pub nothing : plan.is_nothing ≡ is_nothing s.unsettled (remote_entries attach)
+    pub exchange : IsPlanOf plan.exchange s.unsettled (remote_entries attach)
 
   -- what stays of it after a refusal
   abbrev pub sender_left : (TargetArchetype → Option T) → SenderAttachError → Sender T → Attach → Sender T

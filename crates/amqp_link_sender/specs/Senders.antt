@@ -25,8 +25,8 @@ use Rattle.amqp_link_state.specs.Counts.{after_consuming}
 use Rattle.amqp_link_types.specs.Entries.{Tag, Entries, with_entry, entry_at}
 use Rattle.amqp_link_types.specs.Frames.{payload_of, AreFramesOf}
 use Rattle.amqp_link_types.specs.Refusals.{refusal}
-use Rattle.amqp_link_sender.specs.Room.{has_room, payload_limit}
-use Rattle.amqp_link_sender.specs.Split.{IsSplit, IsFewestPieces}
+use Rattle.amqp_link_split.specs.Room.{has_room, payload_limit}
+use Rattle.amqp_link_split.specs.Split.{IsSplit, IsFewestPieces}
 
 -- what a caller sees of a sender's link endpoint with a target of type T
 pub record Sender (T : Type 0) : Type 0 where
@@ -104,6 +104,10 @@ abbrev pub untagged : {T : Type 0} → Sender T → OutputHandle → Delivery �
 untagged s handle d =
     let t = new_transfer s handle [] d in
     record t { delivery_tag = None }
+
+-- the transfer that resumes a delivery: unsettled, whatever the link's mode
+abbrev pub resuming_transfer : {T : Type 0} → Sender T → OutputHandle → Tag → Delivery → Transfer
+resuming_transfer s handle tag d = record (new_transfer s handle tag d) { settled = Some false; resume = true }
 
 -- what is kept of it until it is settled: its whole payload, and no state yet
 abbrev pub new_entry : ℕ → List ℕ → UnsettledMessage
@@ -191,6 +195,21 @@ tagged_transfer_tests s t payload =
     ∷ (not (settled_on_send s t) && option_map_or (is_pending s) t.delivery_tag false, error.TagPending)
     ∷ (not (has_room t s.max_frame_size payload), error.NoRoom)
     ∷ []
+
+-- a delivery that is registered under this tag is free, and a frame has room beside its transfer
+abbrev pub unsettled_transfer_tests : {T : Type 0} → Sender T → Transfer → Tag → List ℕ → List (Bool × LinkStateError)
+unsettled_transfer_tests s t tag payload =
+    (is_none s.input_handle, error.IllegalState)
+    ∷ (is_pending s tag, error.TagPending)
+    ∷ (not (has_room t s.max_frame_size payload), error.NoRoom)
+    ∷ []
+
+-- A call that hands an entry back where it is refused, by the first test that holds; out of memory comes
+-- only where none does.
+abbrev pub HandsBackThenOutOfMemory : {A : Type 0} → Result A (LinkStateError × UnsettledMessage) → UnsettledMessage → List (Bool × LinkStateError) → Type 0
+HandsBackThenOutOfMemory (Ok a) entry tests = refusal tests ≡ None
+HandsBackThenOutOfMemory (Err e) entry tests =
+    (e.1 ≡ entry) × (((e.0 ≡ error.OutOfMemory) × (refusal tests ≡ None)) ⊎ (refusal tests ≡ Some e.0))
 
 -- what a send of a payload answers where it sends nothing
 pub data SendStop : Type 0 where

@@ -1,7 +1,6 @@
 //! The sender's end of a link of AMQP 1.0 (OASIS AMQP 1.0 core, 2.6).
 #![tactic(auto)]
 
-pub mod laws;
 #[cfg(test)]
 mod samples;
 pub mod sender_link;

@@ -4,24 +4,24 @@
 //! attached first, then the receiver grants credit, then payloads go out, one credit for each
 //! delivery.
 ghost use Rattle.std.specs.Prelude.{◌≡◌, ◌<◌, [], length, true, None, Some, IfOk, IsSomeAnd, OnOk, OnErr, MatchOption};
-ghost use Rattle.amqp_link_sender.specs.Room.{has_room, payload_limit as limit_of_payload};
-ghost use Rattle.amqp_link_sender.specs.Split.{IsFewestPieces};
+ghost use Rattle.amqp_link_split.specs.Room.{has_room, payload_limit as limit_of_payload};
+ghost use Rattle.amqp_link_split.specs.Split.{IsFewestPieces};
 
 mod attach;
 mod detach;
 mod disposing;
 mod flow;
-mod room;
+pub mod incoming;
+mod resending;
 mod shown;
-mod split;
 #[cfg(test)]
 mod tests;
 mod waits;
 
-use crate::sender_link::room::{payload_limit, payload_limit_with_tag};
-use crate::sender_link::split::frames;
 use amqp_link_core::endpoint::target::LinkTarget;
 use amqp_link_core::link_parts::LinkParts;
+use amqp_link_split::room::{payload_limit, payload_limit_with_tag};
+use amqp_link_split::split::frames;
 use amqp_link_state::role::SenderMarker;
 use amqp_link_state::state::{LinkFlowState, LinkState};
 use amqp_link_types::delivery::{Settlement, UnsettledMessage};
@@ -31,7 +31,7 @@ use amqp_link_types::types::{
     DeliveryState, DeliveryTag, InputHandle, LinkStateError, MessageFormat, OutputHandle, Payload,
     ReceiverSettleMode, SenderSettleMode, SessionStopReason, Source, Symbols, Text, Transfer,
 };
-pub use attach::SenderAttachExchange;
+pub use incoming::SenderAttachExchange;
 use std::alloc::{AllocError, Global};
 use std::marker::Model;
 

@@ -13,6 +13,7 @@ use Rattle.indexmap.specs.IndexMap.{set_value_at}
 use Rattle.indexmap.proofs.MapLemmas.{Found-position, Missing-position, insert_entry-first, insert_entry-absent, swap_remove_entry-found, swap_remove_entry-missing, distinct-take}
 use Rattle.std.proofs.lemmas.Slice.Eq.{bytes_eq-Decides}
 use Rattle.std.proofs.lemmas.List.Quantifiers.{position-Some}
+use Rattle.std.proofs.lemmas.Option.{slice_get-get_or}
 use Rattle.amqp_link_types.specs.Entries.{Tag, Entries, entry_at, with_entry, changed_at, IsMap}
 use Rattle.amqp_link_types.specs.Found.{FoundAt, IsMissing}
 
@@ -81,6 +82,7 @@ found_from_position es t i p =
       within = f.within;
       tag = λ e at. ap (λ y. y.0) at ∙ sym ((bytes_eq-Decides t (slice_index_or es i e).0).0 (there e).1);
       value = λ e at. f.value ∙ value_there es i e f.within at;
+      pair = λ e at. slice_get-get_or es i e f.within ∙ ap Some (sym at) ∙ ap (λ t. Some (t, e.1)) (ap (λ y. y.0) at ∙ sym ((bytes_eq-Decides t (slice_index_or es i e).0).0 (there e).1));
       put = λ e v at. insert_entry-first bytes_eq t v es i f.first ∙ set_there es i e v f.within at;
       removed = λ e. swap_remove_entry-found (bytes_eq t) es i e k;
       changed = λ e g v m at is. changed-first g t es i e m (there e).1 (there e).2 f.within at ∙ ap (λ w. slice_set es i (e.0, w)) (sym is);

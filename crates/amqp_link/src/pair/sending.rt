@@ -1,10 +1,10 @@
 //! The sender's end of a pair.
 ghost use Rattle.std.specs.Prelude.{◌≡◌, length, IfOk, OnOk, OnErr};
 ghost use Rattle.std.specs.Int.{w32, to_be_bytes};
-ghost use Rattle.amqp_link_sender.specs.Room.{payload_limit};
+ghost use Rattle.amqp_link_split.specs.Room.{payload_limit};
 ghost use Rattle.amqp_link.specs.Sendable.{CanSend};
 ghost use Rattle.amqp_link_sender.specs.Senders.{IsSent, next_tag as tag_of_next};
-ghost use Rattle.amqp_link_sender.specs.Split.{IsFewestPieces};
+ghost use Rattle.amqp_link_split.specs.Split.{IsFewestPieces};
 ghost use Rattle.amqp_link.specs.Steps.{after_sending, delivery_transfer};
 
 use amqp_link_core::endpoint::LinkExt;

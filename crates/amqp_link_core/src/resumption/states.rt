@@ -2,7 +2,7 @@
 ghost use Rattle.std.specs.Prelude.{◌≡◌, false, IfOk};
 ghost use Rattle.std.specs.Option.{option_map_or};
 ghost use Rattle.amqp_link_types.specs.DeliveryStates.{is_terminal};
-ghost use Rattle.amqp_link_core.specs.Resuming.{local_said, rest_from, is_past, is_same_outcome};
+ghost use Rattle.amqp_link_core.specs.Resuming.{sender_report, rest_from, is_past, is_same_outcome};
 
 use amqp_link_payloads::position::place_of;
 use amqp_link_types::types::{DeliveryState, Payload};
@@ -23,7 +23,7 @@ pub(crate) fn is_past(
     section_number: u32,
     section_offset: u64,
 ) -> bool
-    ensures { result ≡ is_past (local_said state.now) section_number section_offset }
+    ensures { result ≡ is_past (sender_report state.now) section_number section_offset }
 {
     match state {
         Some(

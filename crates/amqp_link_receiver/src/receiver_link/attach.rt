@@ -3,6 +3,7 @@ ghost use Rattle.std.specs.Prelude.{◌≡◌, ◌↔◌, ◌⊎◌, true, false
 ghost use Rattle.std.specs.Prelude.{None, Some, Ok, Err, IfOk, IfErr, IsErrOf, IsTrue, is_none, unwrap_or};
 ghost use Rattle.std.specs.Option.{option_or};
 ghost use Rattle.amqp_link_types.specs.declared.frame.LinkFrame.TheVariants as frame;
+ghost use Rattle.amqp_link_core.specs.AttachFields.{remote_entries};
 ghost use Rattle.amqp_link_core.specs.AttachSent.{SendsAttach, IsTooLarge};
 ghost use Rattle.amqp_link_core.specs.Shown.{counted_attach};
 ghost use Rattle.amqp_link_core.specs.Attaching.{FitsFrame, with_entries};
@@ -168,7 +169,7 @@ struct Incoming {
 }
 
 fn has_entries(unsettled: &Option<UnsettledMap<Option<DeliveryState>>>) -> bool
-    ensures { result ≡ names_any unsettled.now }
+    ensures { result ≡ names_any (unwrap_or unsettled.now []) }
 {
     match unsettled {
         Some(entries) => entries.len() != 0,
@@ -183,7 +184,7 @@ fn read(attach: Attach) -> Incoming
       source = attach.source;
       target = attach.target;
       incomplete = attach.incomplete_unsettled;
-      has_entries = names_any attach.unsettled;
+      has_entries = names_any (remote_entries attach);
       count = attach.initial_delivery_count;
       max_message_size = attach.max_message_size;
       properties = attach.properties;
@@ -271,7 +272,7 @@ impl<T: LinkTarget> ReceiverLink<T> {
 impl<T: LinkTarget> LinkAttach for ReceiverLink<T> {
     ghost use Rattle.std.specs.Prelude.{◌≡◌, [], option_map, refl};
     ghost use Rattle.amqp_link_types.specs.declared.types.errors.ReceiverAttachError.TheVariants.{IllegalState, AttachTooLarge, OutOfMemory};
-    ghost use Rattle.amqp_link_receiver.specs.ReceiverAttaches.{receiver_refusal, receiver_taken, receiver_left, exchanged_with};
+    ghost use Rattle.amqp_link_receiver.specs.ReceiverAttaches.{receiver_refusal, receiver_taken, receiver_left, has_entries, exchange_in};
     ghost use Rattle.amqp_link_receiver.specs.ReceiverAttaches.{receiver_shown_after_refusal};
 
     type AttachExchange = ReceiverAttachExchange;
@@ -298,7 +299,7 @@ impl<T: LinkTarget> LinkAttach for ReceiverLink<T> {
 
     ghost target_taken = { λ link attach. option_map T.sent_as link.target };
 
-    ghost exchanged = { λ link attach answer. answer ≡ exchanged_with link attach };
+    ghost exchanged = { λ _ remote state answer. answer ≡ exchange_in state (has_entries remote) };
 
     ghost left = { receiver_left };
 

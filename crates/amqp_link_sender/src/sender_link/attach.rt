@@ -1,6 +1,5 @@
 //! A sender's end is attached (2.6.3, 2.6.4).
 ghost use Rattle.std.specs.Prelude.{◌≡◌, ◌≤◌, ◌++◌, ◌↔◌, ◌⊎◌, ◌+◌, true, false, List, [], if◌then◌else◌};
-ghost use Rattle.std.specs.Option.{option_or};
 ghost use Rattle.std.specs.Prelude.{None, Some, Ok, IfOk, IfErr, IsErrOf, IsTrue, is_none, length, vec_len, vec_capacity, unwrap_or};
 ghost use Rattle.amqp_link_types.specs.declared.frame.LinkFrame.TheVariants as frame;
 ghost use Rattle.amqp_link_types.specs.Unsettled.{states_of};
@@ -10,45 +9,25 @@ ghost use Rattle.amqp_link_core.specs.LinkStates.{Call, next_state};
 ghost use Rattle.amqp_link_core.specs.Shown.{stated_count, counted_attach};
 ghost use Rattle.amqp_link_state.specs.declared.state.LinkFlowStateInner.{LinkFlowStateInner as Flow};
 ghost use Rattle.amqp_link_types.specs.declared.types.definitions.Role.TheVariants as role;
-ghost use Rattle.amqp_link_sender.specs.SenderAttaches.{all_illegal, disagree as do_disagree};
+ghost use Rattle.amqp_link_sender.specs.SenderAttaches.{all_illegal};
 ghost use Rattle.amqp_link_sender.specs.SenderAttaches.{sender_shown, sent_count, sender_attached};
 
-use crate::sender_link::SenderLink;
+use crate::sender_link::{SenderAttachExchange, SenderLink};
 use amqp_link_core::endpoint::LinkAttach;
-use amqp_link_core::endpoint::attached::{
-    get_max_message_size, merged_with, name_and_properties_of, sent_limit, termini_of,
-};
+use amqp_link_core::endpoint::attached::{name_and_properties_of, sent_limit, termini_of};
 use amqp_link_core::endpoint::dividing::{divided, fits_whole};
 use amqp_link_core::endpoint::steps::{handle_or_zero, step_of};
-use amqp_link_core::endpoint::table::{after_incoming_attach, after_sent_attach};
+use amqp_link_core::endpoint::table::after_sent_attach;
 use amqp_link_core::endpoint::target::LinkTarget;
 use amqp_link_state::state::LinkState;
 use amqp_link_types::delivery::{Outcomes, UnsettledMessage};
 use amqp_link_types::frame::LinkFrame;
 use amqp_link_types::types::unsettled_map::UnsettledMap;
 use amqp_link_types::types::{
-    Attach, DeliveryState, Fields, Handle, InputHandle, LinkStateError, OutputHandle,
-    ReceiverSettleMode, Role, SenderAttachError, SenderSettleMode, SequenceNo, TargetArchetype,
+    Attach, DeliveryState, LinkStateError, OutputHandle, Role, SenderAttachError, SequenceNo,
 };
 use amqp_link_values::copy::copies_of;
 use std::alloc::{AllocError, Global};
-
-/// What follows once a sender's end has exchanged attaches.
-#[derive(Clone, Copy, Debug, PartialEq, Eq)]
-pub enum SenderAttachExchange {
-    /// There is nothing to resume.
-    Complete,
-}
-
-impl SenderAttachExchange {
-    /// Whether all is complete: else this error.
-    pub fn complete_or<E: Drop>(self, _error: E) -> Result<(), E>
-        ensures { result ≡ Ok tt }
-    {
-        let SenderAttachExchange::Complete = self;
-        Ok(())
-    }
-}
 
 // The delivery-count that an attach states: the first attach of a link the initial one, each later one
 // the present one, as the deliveries before it are not sent again (2.6.4).
@@ -215,108 +194,11 @@ impl<T: LinkTarget> SenderLink<T> {
     }
 }
 
-// What a sender reads of an attach that comes.
-#[derive(Drop)]
-struct Incoming {
-    handle: Handle,
-    snd_settle_mode: SenderSettleMode,
-    rcv_settle_mode: ReceiverSettleMode,
-    target: Option<TargetArchetype>,
-    incomplete: bool,
-    max_message_size: Option<u64>,
-    properties: Option<Fields>,
-}
-
-fn read(attach: Attach) -> Incoming
-    ensures { result ≡ record {
-      handle = attach.handle;
-      snd_settle_mode = attach.snd_settle_mode;
-      rcv_settle_mode = attach.rcv_settle_mode;
-      target = attach.target;
-      incomplete = attach.incomplete_unsettled;
-      max_message_size = attach.max_message_size;
-      properties = attach.properties;
-    } }
-{
-    let Attach {
-        name,
-        handle,
-        snd_settle_mode,
-        rcv_settle_mode,
-        source,
-        target,
-        unsettled,
-        incomplete_unsettled,
-        max_message_size,
-        offered_capabilities,
-        desired_capabilities,
-        properties,
-        ..
-    } = attach;
-    drop((
-        name,
-        source,
-        unsettled,
-        offered_capabilities,
-        desired_capabilities,
-    ));
-    Incoming {
-        handle,
-        snd_settle_mode,
-        rcv_settle_mode,
-        target,
-        incomplete: incomplete_unsettled,
-        max_message_size,
-        properties,
-    }
-}
-
-// Whether one end settles what the other leaves unsettled.
-fn disagree(own: SenderSettleMode, theirs: SenderSettleMode) -> bool
-    ensures { result ≡ do_disagree own theirs }
-{
-    matches!(
-        (own, theirs),
-        (SenderSettleMode::Settled, SenderSettleMode::Unsettled)
-            | (SenderSettleMode::Unsettled, SenderSettleMode::Settled)
-    )
-}
-
-impl<T: LinkTarget> SenderLink<T> {
-    // An attach has moved the link, which answers at its handle.
-    fn come(&mut self, handle: Handle, next: LinkState)
-        ensures { self.new ≡ record self.old { local_state = next; input_handle = Some (record { 0 = handle.0 }) } }
-    {
-        self.local_state = next;
-        self.input_handle = Some(InputHandle(handle.0));
-    }
-
-    fn take_target(&mut self, target: T, mode: ReceiverSettleMode)
-        ensures { self.new ≡ record self.old { target = Some target; rcv_settle_mode = mode } }
-    {
-        self.target = Some(target);
-        self.rcv_settle_mode = mode;
-    }
-
-    // Other properties take the place of the own ones, if there are any.
-    fn take_properties(&mut self, properties: Option<Fields>)
-        ensures { self.new ≡ record self.old {
-          flow_state = record self.old.flow_state {
-            properties = option_or properties self.old.flow_state.properties;
-          };
-        } }
-    {
-        if let Some(properties) = properties {
-            drop(self.flow_state.properties_mut().replace(properties));
-        }
-    }
-}
-
 impl<T: LinkTarget> LinkAttach for SenderLink<T> {
     ghost use Rattle.std.specs.Prelude.{◌≡◌, [], refl};
     ghost use Rattle.amqp_link_types.specs.declared.types.errors.SenderAttachError.TheVariants.{IllegalState, AttachTooLarge, OutOfMemory};
-    ghost use Rattle.amqp_link_sender.specs.declared.sender_link.attach.SenderAttachExchange.TheVariants.{Complete};
-    ghost use Rattle.amqp_link_sender.specs.SenderAttaches.{sender_attached, sender_refusal, sender_taken, sender_left};
+    ghost use Rattle.amqp_link_exchange.specs.Exchanges.{outcomes_returned};
+    ghost use Rattle.amqp_link_sender.specs.SenderAttaches.{sender_attached, sender_refusal, sender_taken, sender_left, exchange_in};
     ghost use Rattle.amqp_link_sender.specs.SenderAttaches.{sender_target_taken, sender_shown_after_refusal};
 
     type AttachExchange = (SenderAttachExchange, Outcomes);
@@ -343,7 +225,8 @@ impl<T: LinkTarget> LinkAttach for SenderLink<T> {
 
     ghost target_taken = { λ link attach. sender_target_taken T.sent_as T.admitted attach };
 
-    ghost exchanged = { λ link attach answer. (answer.0 ≡ Complete) × (answer.1.items ≡ []) };
+    ghost exchanged = { λ own remote state answer. (answer.0 ≡ exchange_in state own remote)
+        × (answer.1.items ≡ outcomes_returned own remote) };
 
     ghost left = { sender_left T.admitted };
 
@@ -372,52 +255,25 @@ impl<T: LinkTarget> LinkAttach for SenderLink<T> {
         Ok((LinkFrame::Attach(attach), outcomes))
     }
 
-    /// Takes the receiver's attach. Want of memory comes after all tests, and leaves all as it was.
+    /// Takes the receiver's attach, and resolves each delivery of both unsettled maps (2.6.13): the list of
+    /// those to be resumed, sent again, aborted or stated once more is in the exchange, the outcomes of those
+    /// that have ended are beside it, and no delivery is left in the link's map.
     ///
-    /// Refused in this order: illegal state, with nothing changed, where the state has no row for it.
-    /// From here on the state has moved, and the other's handle is known: no coordinator here, where
-    /// the target is not of the link's kind; no target. Past these the target and the receiver's mode
-    /// are taken: the settle mode, where one end settles what the other leaves unsettled.
+    /// Refused in this order: `IllegalState`, with nothing changed, if there is no transition from this
+    /// state. In the refusals below the state has moved and the peer's handle is known:
+    /// `CoordinatorIsNotImplemented` if the target is not of the link's kind; `IncomingTargetIsNone`. Then
+    /// the target and the receiver's settle mode are taken: `SndSettleModeNotSupported` if one endpoint
+    /// settles what the other leaves unsettled. No refusal resolves a delivery. `OutOfMemory` comes after
+    /// all of these, with nothing changed.
+    ///
+    /// Each entry of the attach's map is looked up once in the link's.
     fn on_incoming_attach(
         &mut self,
         attach: Attach,
     ) -> Result<(SenderAttachExchange, Outcomes), SenderAttachError> {
-        let Incoming {
-            handle,
-            snd_settle_mode,
-            rcv_settle_mode,
-            target,
-            incomplete,
-            max_message_size,
-            properties,
-        } = read(attach);
-        let Some(next) = after_incoming_attach(self.local_state, incomplete) else {
-            drop((target, properties));
-            return Err(SenderAttachError::IllegalState);
-        };
-        let Some(target) = target else {
-            self.come(handle, next);
-            drop(properties);
-            return Err(SenderAttachError::IncomingTargetIsNone);
-        };
-        let Some(target) = T::from_archetype(target) else {
-            self.come(handle, next);
-            drop(properties);
-            return Err(SenderAttachError::CoordinatorIsNotImplemented);
-        };
-        if disagree(self.snd_settle_mode, snd_settle_mode) {
-            self.come(handle, next);
-            self.take_target(target, rcv_settle_mode);
-            drop(properties);
-            let refused = SenderAttachError::SndSettleModeNotSupported;
-            return Err(refused);
+        match self.plan_remote_attach(attach) {
+            Ok(plan) => Ok(self.take_remote_attach(plan)),
+            Err(refused) => Err(refused),
         }
-        let properties = merged_with(self.flow_state.properties(), properties)?;
-        // All tests are behind, and all growths: from here on nothing can fail.
-        self.come(handle, next);
-        self.take_target(target, rcv_settle_mode);
-        self.take_properties(properties);
-        self.max_message_size = get_max_message_size(self.max_message_size, max_message_size);
-        Ok((SenderAttachExchange::Complete, Vec::new(self.alloc)))
     }
 }

@@ -93,6 +93,16 @@ impl<V> UnsettledMap<V> {
         self.get_by_bytes(tag).is_some()
     }
 
+    /// Where the delivery stands in the order of the map, and what is kept of it. Does not allocate. Its
+    /// cost grows with the number of deliveries.
+    pub fn get_full(&self, tag: &DeliveryTag) -> Option<(usize, &V)>
+        ensures found { IfSome result (λ found. slice_get self.now found.0 ≡ Some (tag.now, found.1.now)) }
+        ensures missing { IfNone result (entry_at self.now tag.now ≡ None) }
+    {
+        let i = find(&self.pairs, tag.as_bytes())?;
+        Some((i, &self.pairs[i].1))
+    }
+
     /// The pair at a place, for a walk in order.
     pub fn pair_at(&self, index: usize) -> Option<(&DeliveryTag, &V)>
         ensures { option_map deref_pair result ≡ slice_get self.now index }

@@ -1,0 +1,373 @@
+//! The attach that arrives at a sender (2.6.3, 2.6.4), and the exchange of unsettled deliveries (2.6.13).
+//!
+//! It is taken in two halves: a plan, which tests and allocates, and the change itself, which does neither.
+//! A caller that keeps records of outcomes makes room for them between the two.
+ghost use Rattle.std.specs.Prelude.{◌≡◌, ◌⊎◌, ◌&&◌, None, Some, Ok, Err, IfOk, IfErr, OnOk, IsErrOf, IsErrAnd, IfNone, MatchOption, MatchResult, [], unwrap_or, if◌then◌else◌};
+ghost use Rattle.std.specs.Option.{option_or};
+ghost use Rattle.amqp_link_types.specs.declared.types.attach.Attach.{Attach as TheAttach};
+ghost use Rattle.amqp_link_core.specs.AttachFields.{remote_entries, merged_properties, next_of};
+ghost use Rattle.amqp_link_exchange.specs.Exchanges.{outcomes_returned};
+ghost use Rattle.amqp_link_exchange.specs.Plans.{IsPlanOf};
+ghost use Rattle.amqp_link_sender.specs.SenderAttaches.{disagree as do_disagree, is_nothing, resumption_in, exchange_in};
+ghost use Rattle.amqp_link_sender.specs.SenderAttaches.{sender_refusal, sender_taken, sender_left, IsAttachPlan};
+
+use crate::sender_link::SenderLink;
+use amqp_link_core::endpoint::attached::{get_max_message_size, merged_with};
+use amqp_link_core::endpoint::table::after_incoming_attach;
+use amqp_link_core::endpoint::target::LinkTarget;
+use amqp_link_exchange::{ExchangePlan, ResumingDeliveries, exchange, plan_exchange};
+use amqp_link_state::state::LinkState;
+use amqp_link_types::delivery::{Outcomes, UnsettledMessage};
+use amqp_link_types::types::unsettled_map::UnsettledMap;
+use amqp_link_types::types::{
+    Attach, DeliveryState, Fields, Handle, InputHandle, ReceiverSettleMode, SenderAttachError,
+    SenderSettleMode, TargetArchetype,
+};
+use std::alloc::{AllocError, Global};
+
+/// What follows once a sender has exchanged attaches.
+#[derive(Debug, Drop)]
+pub enum SenderAttachExchange {
+    /// Neither endpoint has an unsettled delivery.
+    Complete,
+    /// An attach did not state all deliveries. These are resumed first, then the link is detached and
+    /// attached again for the others.
+    IncompleteUnsettled(ResumingDeliveries),
+    /// These deliveries are to be resumed.
+    Resume(ResumingDeliveries),
+}
+
+impl SenderAttachExchange {
+    ghost use Rattle.amqp_link_sender.specs.declared.sender_link.incoming.SenderAttachExchange.TheVariants.{Complete};
+
+    /// Whether all is complete: else this error.
+    pub fn complete_or<E: Drop>(self, error: E) -> Result<(), E>
+        ensures complete { self ≡ Complete → result ≡ Ok tt }
+        ensures incomplete { (self ≡ Complete → ⊥) → result ≡ Err error }
+    {
+        match self {
+            SenderAttachExchange::Complete => Ok(()),
+            other => {
+                drop(other);
+                Err(error)
+            }
+        }
+    }
+}
+
+/// An attach that has passed all tests of a sender, and what is made of it: all that allocates.
+#[derive(Drop)]
+pub struct AttachPlan<T: LinkTarget> {
+    /// The state after it.
+    pub next: LinkState,
+    /// The peer's handle.
+    pub handle: Handle,
+    /// The link's target after it.
+    pub target: T,
+    /// When the receiver settles.
+    pub rcv_settle_mode: ReceiverSettleMode,
+    /// The bytes that a message may have after it; 0 is no limit.
+    pub max_message_size: u64,
+    /// The link's properties after it, if it changes them.
+    pub properties: Option<Fields>,
+    /// Whether neither endpoint has an unsettled delivery.
+    pub is_nothing: bool,
+    /// How the unsettled deliveries are resolved.
+    pub exchange: ExchangePlan,
+}
+
+/// The first half of `on_incoming_attach`: tests the attach, with the refusals of that call and what they
+/// leave, and plans it. A link whose attach is planned is as it was.
+pub fn plan_incoming_attach<T: LinkTarget>(
+    link: &mut SenderLink<T>,
+    attach: Attach,
+) -> Result<AttachPlan<T>, SenderAttachError>
+    ensures planned { IfOk result (λ plan. IsAttachPlan T.admitted link.old attach plan) }
+    ensures kept { OnOk result (link.new ≡ link.old) }
+    ensures refused { MatchResult result
+        (λ _. sender_refusal T.admitted link.old attach ≡ None)
+        (λ error. (error ≡ SenderAttachError.OutOfMemory)
+        ⊎ (sender_refusal T.admitted link.old attach ≡ Some error)) }
+    ensures memory { IsErrOf result SenderAttachError.OutOfMemory
+        → sender_refusal T.admitted link.old attach ≡ None }
+    ensures left { IfErr result (λ error. link.new ≡ sender_left T.admitted error link.old attach) }
+{
+    link.plan_remote_attach(attach)
+}
+
+/// The second half: takes the attach as planned. Does not allocate.
+pub fn commit_incoming_attach<T: LinkTarget>(
+    link: &mut SenderLink<T>,
+    plan: AttachPlan<T>,
+) -> (SenderAttachExchange, Outcomes)
+    requires { (attach : TheAttach) × IsAttachPlan T.admitted link.old attach plan }
+    ensures taken { (attach : TheAttach) → IsAttachPlan T.admitted link.old attach plan
+        → link.new ≡ sender_taken T.admitted link.old attach }
+    ensures exchange { (attach : TheAttach) → IsAttachPlan T.admitted link.old attach plan
+        → result.0 ≡ exchange_in plan.next link.old.unsettled (remote_entries attach) }
+    ensures outcomes { (attach : TheAttach) → IsAttachPlan T.admitted link.old attach plan
+        → result.1.items ≡ outcomes_returned link.old.unsettled (remote_entries attach) }
+{
+    link.take_remote_attach(plan)
+}
+
+// What a sender reads of an attach that arrives.
+#[derive(Drop)]
+struct Incoming {
+    handle: Handle,
+    snd_settle_mode: SenderSettleMode,
+    rcv_settle_mode: ReceiverSettleMode,
+    target: Option<TargetArchetype>,
+    incomplete: bool,
+    unsettled: Option<UnsettledMap<Option<DeliveryState>>>,
+    max_message_size: Option<u64>,
+    properties: Option<Fields>,
+}
+
+fn read(attach: Attach) -> Incoming
+    ensures { result ≡ record {
+      handle = attach.handle;
+      snd_settle_mode = attach.snd_settle_mode;
+      rcv_settle_mode = attach.rcv_settle_mode;
+      target = attach.target;
+      incomplete = attach.incomplete_unsettled;
+      unsettled = attach.unsettled;
+      max_message_size = attach.max_message_size;
+      properties = attach.properties;
+    } }
+{
+    let Attach {
+        name,
+        handle,
+        snd_settle_mode,
+        rcv_settle_mode,
+        source,
+        target,
+        unsettled,
+        incomplete_unsettled,
+        max_message_size,
+        offered_capabilities,
+        desired_capabilities,
+        properties,
+        ..
+    } = attach;
+    drop((name, source, offered_capabilities, desired_capabilities));
+    Incoming {
+        handle,
+        snd_settle_mode,
+        rcv_settle_mode,
+        target,
+        incomplete: incomplete_unsettled,
+        unsettled,
+        max_message_size,
+        properties,
+    }
+}
+
+// Whether one end settles what the other leaves unsettled.
+fn disagree(own: SenderSettleMode, theirs: SenderSettleMode) -> bool
+    ensures { result ≡ do_disagree own theirs }
+{
+    matches!(
+        (own, theirs),
+        (SenderSettleMode::Settled, SenderSettleMode::Unsettled)
+            | (SenderSettleMode::Unsettled, SenderSettleMode::Settled)
+    )
+}
+
+impl<T: LinkTarget> SenderLink<T> {
+    // Records that an attach has moved the link, and the peer's handle.
+    fn record_remote_attach(&mut self, handle: Handle, next: LinkState)
+        ensures { self.new ≡ record self.old { local_state = next; input_handle = Some (record { 0 = handle.0 }) } }
+    {
+        self.local_state = next;
+        self.input_handle = Some(InputHandle(handle.0));
+    }
+
+    fn take_target(&mut self, target: T, mode: ReceiverSettleMode)
+        ensures { self.new ≡ record self.old { target = Some target; rcv_settle_mode = mode } }
+    {
+        self.target = Some(target);
+        self.rcv_settle_mode = mode;
+    }
+
+    // Other properties take the place of the own ones, if there are any.
+    fn take_properties(&mut self, properties: Option<Fields>)
+        ensures { self.new ≡ record self.old {
+          flow_state = record self.old.flow_state {
+            properties = option_or properties self.old.flow_state.properties;
+          };
+        } }
+    {
+        if let Some(properties) = properties {
+            drop(self.flow_state.properties_mut().replace(properties));
+        }
+    }
+
+    // The first half of `on_incoming_attach`.
+    pub(super) fn plan_remote_attach(
+        &mut self,
+        attach: Attach,
+    ) -> Result<AttachPlan<T>, SenderAttachError>
+        ensures planned { IfOk result (λ plan. IsAttachPlan T.admitted self.old attach plan) }
+        ensures kept { OnOk result (self.new ≡ self.old) }
+        ensures refused { MatchResult result
+            (λ _. sender_refusal T.admitted self.old attach ≡ None)
+            (λ error. (error ≡ SenderAttachError.OutOfMemory)
+            ⊎ (sender_refusal T.admitted self.old attach ≡ Some error)) }
+        ensures memory { IsErrOf result SenderAttachError.OutOfMemory
+            → sender_refusal T.admitted self.old attach ≡ None }
+        ensures left { IfErr result (λ error. self.new ≡ sender_left T.admitted error self.old attach) }
+        ensures step { MatchOption (next_of self.old.local_state attach)
+            (IsErrAnd result (λ error. error ≡ SenderAttachError.IllegalState))
+            (λ next. IfErr result (λ error. (error ≡ SenderAttachError.OutOfMemory)
+            ⊎ (self.new.local_state ≡ next))) }
+        ensures same { IfNone (next_of self.old.local_state attach) (self.new ≡ self.old) }
+    {
+        let Incoming {
+            handle,
+            snd_settle_mode,
+            rcv_settle_mode,
+            target,
+            incomplete,
+            unsettled,
+            max_message_size,
+            properties,
+        } = read(attach);
+        let Some(next) = after_incoming_attach(self.local_state, incomplete) else {
+            drop((target, unsettled, properties));
+            return Err(SenderAttachError::IllegalState);
+        };
+        let Some(target) = target else {
+            self.record_remote_attach(handle, next);
+            drop((unsettled, properties));
+            return Err(SenderAttachError::IncomingTargetIsNone);
+        };
+        let Some(target) = T::from_archetype(target) else {
+            self.record_remote_attach(handle, next);
+            drop((unsettled, properties));
+            return Err(SenderAttachError::CoordinatorIsNotImplemented);
+        };
+        if disagree(self.snd_settle_mode, snd_settle_mode) {
+            self.record_remote_attach(handle, next);
+            self.take_target(target, rcv_settle_mode);
+            drop((unsettled, properties));
+            let refused = SenderAttachError::SndSettleModeNotSupported;
+            return Err(refused);
+        }
+        let Ok((is_nothing, exchange, properties)) = self.plan_rest(unsettled, properties) else {
+            drop(target);
+            return Err(SenderAttachError::OutOfMemory);
+        };
+        Ok(AttachPlan {
+            next,
+            handle,
+            target,
+            rcv_settle_mode,
+            max_message_size: get_max_message_size(self.max_message_size, max_message_size),
+            properties,
+            is_nothing,
+            exchange,
+        })
+    }
+
+    // What is made of the unsettled deliveries and the properties of an attach that has passed all tests:
+    // all that allocates.
+    fn plan_rest(
+        &self,
+        unsettled: Option<UnsettledMap<Option<DeliveryState>>>,
+        properties: Option<Fields>,
+    ) -> Result<(bool, ExchangePlan, Option<Fields>), AllocError>
+        ensures nothing { IfOk result (λ plan. plan.0 ≡ is_nothing self.now.unsettled (unwrap_or unsettled [])) }
+        ensures exchange { IfOk result (λ plan. IsPlanOf plan.1 self.now.unsettled (unwrap_or unsettled [])) }
+        ensures properties { IfOk result (λ plan. option_or plan.2 self.now.flow_state.properties
+            ≡ merged_properties self.now.flow_state.properties properties) }
+    {
+        let remote = entries_of(self.alloc, unsettled);
+        let is_nothing = are_empty(&self.unsettled, &remote);
+        let properties = match merged_with(self.flow_state.properties(), properties) {
+            Ok(properties) => properties,
+            Err(refused) => {
+                drop(remote);
+                return Err(refused);
+            }
+        };
+        match plan_exchange(self.alloc, &self.unsettled, remote) {
+            Ok(exchange) => Ok((is_nothing, exchange, properties)),
+            Err(refused) => {
+                drop(properties);
+                Err(refused)
+            }
+        }
+    }
+
+    // The second half of `on_incoming_attach`.
+    pub(super) fn take_remote_attach(
+        &mut self,
+        plan: AttachPlan<T>,
+    ) -> (SenderAttachExchange, Outcomes)
+        requires { (attach : TheAttach) × IsAttachPlan T.admitted self.old attach plan }
+        ensures taken { (attach : TheAttach) → IsAttachPlan T.admitted self.old attach plan
+            → self.new ≡ sender_taken T.admitted self.old attach }
+        ensures exchange { (attach : TheAttach) → IsAttachPlan T.admitted self.old attach plan
+            → result.0 ≡ exchange_in plan.next self.old.unsettled (remote_entries attach) }
+        ensures outcomes { (attach : TheAttach) → IsAttachPlan T.admitted self.old attach plan
+            → result.1.items ≡ outcomes_returned self.old.unsettled (remote_entries attach) }
+    {
+        let AttachPlan {
+            next,
+            handle,
+            target,
+            rcv_settle_mode,
+            max_message_size,
+            properties,
+            is_nothing,
+            exchange: planned,
+        } = plan;
+        self.record_remote_attach(handle, next);
+        self.take_target(target, rcv_settle_mode);
+        self.take_properties(properties);
+        self.max_message_size = max_message_size;
+        let (list, outcomes) = exchange(self.unsettled.take_all(), planned);
+        (exchange_of(next, is_nothing, list), outcomes)
+    }
+}
+
+// Whether neither endpoint has an unsettled delivery.
+fn are_empty(
+    own: &UnsettledMap<UnsettledMessage>,
+    remote: &UnsettledMap<Option<DeliveryState>>,
+) -> bool
+    ensures { result ≡ is_nothing own.now remote.now }
+{
+    own.is_empty() && remote.is_empty()
+}
+
+// The unsettled deliveries that an attach states: none if it has no map.
+fn entries_of(
+    alloc: Global,
+    unsettled: Option<UnsettledMap<Option<DeliveryState>>>,
+) -> UnsettledMap<Option<DeliveryState>>
+    ensures { result ≡ unwrap_or unsettled [] }
+{
+    match unsettled {
+        Some(entries) => entries,
+        None => UnsettledMap::new(alloc),
+    }
+}
+
+// What follows in this state, with these deliveries to resume.
+fn exchange_of(state: LinkState, is_nothing: bool, list: ResumingDeliveries) -> SenderAttachExchange
+    ensures { result ≡ (if is_nothing then SenderAttachExchange.Complete else resumption_in state list) }
+{
+    if is_nothing {
+        drop(list);
+        return SenderAttachExchange::Complete;
+    }
+    match state {
+        LinkState::IncompleteAttachExchanged
+        | LinkState::IncompleteAttachReceived
+        | LinkState::IncompleteAttachSent => SenderAttachExchange::IncompleteUnsettled(list),
+        _ => SenderAttachExchange::Resume(list),
+    }
+}

@@ -1,0 +1,4 @@
+pub use Rattle.amqp_link_types.specs.Frames
+pub use Rattle.amqp_link_types.specs.Size
+pub mod Room
+pub mod Split
