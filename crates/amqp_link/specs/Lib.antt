@@ -14,6 +14,7 @@ pub use Rattle.amqp_link_dispositions.specs.Groups
 pub use Rattle.amqp_link_dispositions.specs.Keeping
 pub use Rattle.amqp_link_dispositions.specs.Listed
 pub use Rattle.amqp_link_dispositions.specs.Said
+pub use Rattle.amqp_link_exchange.specs.Exchanges
 pub use Rattle.amqp_link_payloads.specs.Bodies
 pub use Rattle.amqp_link_payloads.specs.Header
 pub use Rattle.amqp_link_payloads.specs.Pieces

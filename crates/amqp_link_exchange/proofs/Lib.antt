@@ -1,2 +1,3 @@
 pub mod OnceLemmas
 pub mod PlanLemmas
+pub mod Worked
