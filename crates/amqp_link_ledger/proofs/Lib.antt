@@ -1,0 +1,7 @@
+pub mod CountLemmas
+pub mod FateLemmas
+pub mod ListSteps
+pub mod LoopLemmas
+pub mod MoveLemmas
+pub mod NumberLemmas
+pub mod RecordLemmas

@@ -1,0 +1,97 @@
+-- What became of each registration of a sender's deliveries (OASIS AMQP 1.0 core, 2.6.12 and 2.6.13).
+use Rattle.std.specs.Prelude.{◌≡◌, ◌≢◌, ℕ, Bool, true, false, List, [], ◌∷◌, ◌++◌, map, filter, fold, Option, Some, None, slice_get, if◌then◌else◌, is_some, nat_lt, ◌&&◌}
+use Rattle.std.specs.List.{last_or, count_by}
+use Rattle.std.specs.Str.{bytes_eq}
+use Rattle.amqp_link_types.specs.Entries.{Tag, Entries, entry_at, IsMap}
+use Rattle.amqp_link_types.specs.Deliveries.{Ended}
+use Rattle.amqp_link_core.specs.declared.resumption.ResumingDelivery.{ResumingDelivery}
+use Rattle.amqp_link_ledger.specs.declared.fate.Fate.{Fate}
+use Rattle.amqp_link_ledger.specs.declared.fate.Fate.TheVariants.{Pending, Withdrawn, HandedOut, Resolved}
+
+abbrev pub is_pending : Fate → Bool
+is_pending Pending = true
+is_pending Withdrawn = false
+is_pending HandedOut = false
+is_pending (Resolved outcome) = false
+
+-- the registrations by number: the tag of each, and its fate
+abbrev pub Records : Type 0
+Records = List (Tag × Fate)
+
+-- the fates of the registrations of one tag, in order
+abbrev pub fates_of : Tag → Records → List Fate
+fates_of tag records = map (λ r. r.1) (filter (λ r. bytes_eq tag r.0) records)
+
+-- that of the last
+abbrev pub latest : List Fate → Option Fate
+latest fates = last_or None fates
+
+-- how many registrations of the tag are pending
+abbrev pub pending_count : Tag → Records → ℕ
+pending_count tag records = count_by is_pending (fates_of tag records)
+
+-- The map has each tag once, and a tag is pending as often as it stands there.
+pub record IsRecorded {V : Type 0} (unsettled : Entries V) (records : Records) : Type 0 where
+  pub distinct : IsMap unsettled
+  pub pending : (tag : Tag) → pending_count tag records ≡ (if is_some (entry_at unsettled tag) then 1 else 0)
+
+-- ---- what a call does to the records
+
+-- only a pending registration moves
+abbrev pub moved : Option Fate → Fate → Fate
+moved (Some fate) Pending = fate
+moved _ fate = fate
+
+-- the pending registrations of these tags take these fates
+abbrev pub with_fates : Entries Fate → Records → Records
+with_fates given records = map (λ r. (r.0, moved (entry_at given r.0) r.1)) records
+
+-- an entry gets the next number
+abbrev pub registered : Tag → Records → Records
+registered tag records = records ++ (tag, Pending) ∷ []
+
+abbrev pub handed_out : Entries ResumingDelivery → Records → Records
+handed_out list records = with_fates (map (λ d. (d.0, HandedOut)) list) records
+
+abbrev pub resolved : List Ended → Records → Records
+resolved outcomes records = with_fates (map (λ o. (o.0, Resolved o.1)) outcomes) records
+
+-- what a call may do: an entry enters, one is withdrawn, an exchange hands out its list, outcomes are
+-- returned
+pub data Change : Type 0 where
+  Enters : Tag → Change
+  Withdraws : Tag → Change
+  HandsOut : Entries ResumingDelivery → Change
+  Resolves : List Ended → Change
+
+abbrev pub after : Change → Records → Records
+after (Enters tag) records = registered tag records
+after (Withdraws tag) records = with_fates ((tag, Withdrawn) ∷ []) records
+after (HandsOut list) records = handed_out list records
+after (Resolves outcomes) records = resolved outcomes records
+
+-- the records after these changes, one after the other
+abbrev pub after_all : List Change → Records → Records
+after_all changes records = fold (λ now change. after change now) records changes
+
+-- Each registration keeps its number and its tag, and a fate that has moved stays.
+abbrev pub MovesOnce : Records → Records → Type 0
+MovesOnce old new = (n : ℕ) (r : Tag × Fate) → slice_get old n ≡ Some r
+    → (fate : Fate) × (slice_get new n ≡ Some (r.0, fate)) × (r.1 ≢ Pending → fate ≡ r.1)
+
+-- ---- the registrations as a caller sees them
+
+-- the records, and whether the next registration allocates nothing
+pub record RecordsAndRoom : Type 0 where
+  pub records : Records
+  pub has_room : Bool
+
+-- The index of the code: a tag has a number there exactly if the record of this number is the tag's,
+-- and pending.
+pub record IsNumbered (records : Records) (numbers : Entries ℕ) : Type 0 where
+  pub stands : (tag : Tag) (n : ℕ) → entry_at numbers tag ≡ Some n → slice_get records n ≡ Some (tag, Pending)
+  pub found : (tag : Tag) (n : ℕ) → slice_get records n ≡ Some (tag, Pending) → entry_at numbers tag ≡ Some n
+
+-- whether a vector of this length and capacity, and a map with this spare room, take one more each
+abbrev pub takes_one : ℕ → ℕ → ℕ → Bool
+takes_one len capacity spare = nat_lt len capacity && nat_lt 0 spare

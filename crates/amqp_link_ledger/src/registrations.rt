@@ -1,0 +1,212 @@
+//! The registrations of a sender's unsettled deliveries, by number.
+ghost use Rattle.std.specs.Prelude.{◌≡◌, ◌<◌, [], ◌∷◌, map, length, slice_get, IsTrue, IfOk, OnOk, false, if◌then◌else◌, ◌==◌};
+ghost use Rattle.std.specs.Prelude.{Err, All};
+ghost use Rattle.std.specs.Option.{option_map, option_copied};
+ghost use Rattle.amqp_link_ledger.specs.Fates.{Change, after, is_pending, pending_count, registered, with_fates};
+
+use crate::fate::Fate;
+use crate::numbers::{has_number, push_pending, put_number, set_fate_at, take_number};
+use amqp_link_core::resumption::ResumingDelivery;
+use amqp_link_types::delivery::DeliveryOutcome;
+use amqp_link_types::types::{DeliveryTag, LinkStateError};
+use indexmap::IndexMap;
+use std::alloc::{AllocError, Global};
+use std::marker::Model;
+
+/// What one registration needs, allocated before it is made: two copies of its tag.
+///
+/// A contract sees the tag. `Registrations::reserve` makes it, and `Registrations::register` takes it.
+#[derive(Debug, Drop)]
+pub struct Reserved {
+    key: DeliveryTag,
+    tag: DeliveryTag,
+}
+
+impl Model for Reserved {
+    ghost use Rattle.std.specs.Prelude.{◌≡◌, ℕ, List};
+
+    ghost Value = { List ℕ };
+
+    ghost view = { λ reserved. reserved.tag };
+
+    ghost invariant = { λ reserved. reserved.key ≡ reserved.tag };
+}
+
+/// The registrations of a sender's unsettled deliveries. They are numbered from 0; each keeps its
+/// number and its tag, and its fate changes at most once.
+///
+/// A contract sees the list of the tags with their fates, and whether there is room for the next
+/// registration. The memory grows with the number of all registrations. A call finds the pending
+/// registration of a tag by a hash, so its cost does not grow with that number.
+#[derive(Drop)]
+pub struct Registrations {
+    records: Vec<(DeliveryTag, Fate)>,
+    numbers: IndexMap<DeliveryTag, usize>,
+}
+
+impl Model for Registrations {
+    ghost use Rattle.std.specs.Coded.{codes};
+    ghost use Rattle.std.specs.Prelude.{vec_len, vec_capacity};
+    ghost use Rattle.indexmap.specs.IndexMap.{spare};
+    ghost use Rattle.amqp_link_values.specs.contracts.fields.Fields as fields;
+    ghost use Rattle.amqp_link_ledger.specs.Fates.{IsNumbered, RecordsAndRoom, takes_one};
+
+    ghost Value = { RecordsAndRoom };
+
+    ghost coded = { Prim.hlevel (codes, fields.the_row.coded) };
+
+    ghost view = { λ all. record {
+      records = all.records.items;
+      has_room = takes_one (vec_len all.records) (vec_capacity all.records) (spare all.numbers);
+    } };
+
+    ghost invariant = { λ all. IsNumbered all.records.items all.numbers.entries };
+}
+
+impl Registrations {
+    /// No registrations. Does not allocate.
+    pub fn new(alloc: Global) -> Self
+        ensures { result.records ≡ [] }
+    {
+        Registrations {
+            records: Vec::new(alloc),
+            numbers: IndexMap::new(alloc),
+        }
+    }
+
+    /// How many registrations there are, whatever their fates.
+    pub fn len(&self) -> usize
+        ensures { result ≡ length self.now.records }
+    {
+        self.records.len()
+    }
+
+    /// Whether there are none.
+    pub fn is_empty(&self) -> bool
+        ensures { result ≡ (length self.now.records == 0) }
+    {
+        self.len() == 0
+    }
+
+    /// What became of registration `number`; `None` exactly past the last number.
+    pub fn fate(&self, number: usize) -> Option<&Fate>
+        ensures { option_copied result ≡ option_map (λ entry. entry.1) (slice_get self.now.records number) }
+    {
+        let record = self.records.get(number)?;
+        Some(&record.1)
+    }
+
+    /// Whether a registration of the tag is pending. At most one is.
+    pub fn is_pending(&self, tag: &DeliveryTag) -> bool
+        ensures { pending_count tag.now self.now.records ≡ (if result then 1 else 0) }
+    {
+        has_number(&self.numbers, tag)
+    }
+
+    /// Allocates all that a registration of this tag needs: two copies of the tag, and room. Returns
+    /// an error only where it is out of memory. The registrations are as before in both cases.
+    pub fn reserve(&mut self, alloc: Global, tag: &[u8]) -> Result<Reserved, AllocError>
+        ensures tag { IfOk result (λ reserved. reserved ≡ tag.now) }
+        ensures room { OnOk result (IsTrue self.new.has_room) }
+        ensures records { self.new.records ≡ self.old.records }
+        ensures kept { IsTrue self.old.has_room → IsTrue self.new.has_room }
+    {
+        let key = DeliveryTag::from(tag.to_vec(alloc)?);
+        let tag = DeliveryTag::from(tag.to_vec(alloc)?);
+        self.records.reserve(1)?;
+        self.numbers.reserve(1)?;
+        Ok(Reserved { key, tag })
+    }
+
+    /// Registers the tag under the next number, which is `len` before the call. Does not allocate.
+    ///
+    /// There is room once `reserve` has returned `Ok`, until the next `register`. `is_pending` tells
+    /// whether the tag is free.
+    pub fn register(&mut self, reserved: Reserved)
+        requires room { IsTrue self.old.has_room }
+        requires free { pending_count reserved self.old.records ≡ 0 }
+        ensures { self.new.records ≡ after (Change.Enters reserved) self.old.records }
+    {
+        let Reserved { key, tag } = reserved;
+        let number = self.records.len();
+        put_number(&mut self.numbers, key, number);
+        push_pending(&mut self.records, tag);
+    }
+
+    /// Withdraws the pending registration of the tag, if there is one. Does not allocate.
+    pub fn withdraw(&mut self, tag: &DeliveryTag)
+        ensures records { self.new.records ≡ after (Change.Withdraws tag.now) self.old.records }
+        ensures room { IsTrue self.old.has_room → IsTrue self.new.has_room }
+    {
+        self.end(tag, Fate::Withdrawn);
+    }
+
+    /// Hands out the pending registrations of these tags. A list also names deliveries that only the
+    /// receiver knows: a tag that is not pending changes nothing. Does not allocate.
+    pub fn hand_out(&mut self, list: &[(DeliveryTag, ResumingDelivery)])
+        ensures records { self.new.records ≡ after (Change.HandsOut list.now) self.old.records }
+        ensures room { IsTrue self.old.has_room → IsTrue self.new.has_room }
+    {
+        for (tag, _) in list {
+            self.end(tag, Fate::HandedOut);
+        }
+    }
+
+    /// Resolves the pending registration of the tag with this outcome, if there is one. Does not
+    /// allocate.
+    pub fn resolve(&mut self, tag: &DeliveryTag, outcome: DeliveryOutcome)
+        ensures records { self.new.records
+            ≡ after (Change.Resolves ((tag.now, outcome) ∷ [])) self.old.records }
+        ensures room { IsTrue self.old.has_room → IsTrue self.new.has_room }
+    {
+        self.end(tag, Fate::Resolved(outcome));
+    }
+
+    /// Resolves the pending registrations of these tags with their outcomes, of which `copies` has
+    /// one each, in order. A tag that is not pending changes nothing. Does not allocate.
+    pub fn resolve_all(
+        &mut self,
+        ended: &[(DeliveryTag, DeliveryOutcome)],
+        copies: Vec<DeliveryOutcome>,
+    )
+        requires { copies.items ≡ map (λ e. e.1) ended.now }
+        ensures records { self.new.records ≡ after (Change.Resolves ended.now) self.old.records }
+        ensures room { IsTrue self.old.has_room → IsTrue self.new.has_room }
+    {
+        let mut outcomes = copies.into_iter();
+        for (tag, _) in ended {
+            let Some(outcome) = outcomes.next() else {
+                return;
+            };
+            self.end(tag, Fate::Resolved(outcome));
+        }
+    }
+
+    /// Resolves the pending registrations of these tags, where every outcome is
+    /// `LinkStateError::IllegalState`, so that no copies are needed. A tag that is not pending changes
+    /// nothing. Does not allocate.
+    pub fn resolve_illegal(&mut self, ended: &[(DeliveryTag, DeliveryOutcome)])
+        requires { All (λ e. e.1 ≡ Err LinkStateError.IllegalState) ended.now }
+        ensures records { self.new.records ≡ after (Change.Resolves ended.now) self.old.records }
+        ensures room { IsTrue self.old.has_room → IsTrue self.new.has_room }
+    {
+        for (tag, _) in ended {
+            self.end(tag, Fate::Resolved(Err(LinkStateError::IllegalState)));
+        }
+    }
+
+    // Gives the pending registration of the tag its last fate, if there is one.
+    fn end(&mut self, tag: &DeliveryTag, fate: Fate)
+        requires { is_pending fate ≡ false }
+        ensures records { self.new.records ≡ with_fates ((tag.now, fate) ∷ []) self.old.records }
+        ensures room { IsTrue self.old.has_room → IsTrue self.new.has_room }
+    {
+        match take_number(&mut self.numbers, tag) {
+            Some(number) => set_fate_at(&mut self.records, number, fate),
+            None => drop(fate),
+        }
+    }
+}
+
+#[cfg(test)]
+mod tests;
