@@ -11,7 +11,9 @@ use amqp_link_runs::{Run, runs_of, sort_by_id};
 use amqp_link_types::delivery::{DeliveryOutcome, Outcomes, UnsettledMessage};
 use amqp_link_types::frame::LinkFrame;
 use amqp_link_types::types::unsettled_map::UnsettledMap;
-use amqp_link_types::types::{DeliveryNumber, DeliveryState, DeliveryTag, Disposition, Role};
+use amqp_link_types::types::{
+    DeliveryNumber, DeliveryState, DeliveryTag, Disposition, Role, has_ended,
+};
 use std::alloc::{AllocError, Global};
 
 fn frame_of(run: Run, settled: bool, state: DeliveryState, batchable: bool) -> LinkFrame
@@ -278,11 +280,7 @@ pub fn on_incoming_disposition(
     ensures ended { result ≡ ended_by settled state delivery_tag.now unsettled.old }
     ensures after { unsettled.new ≡ map_after_receiver_disposition settled state delivery_tag.now unsettled.old }
 {
-    let is_terminal = match &state {
-        Some(state) => state.is_terminal(),
-        None => false,
-    };
-    if !settled && !is_terminal {
+    if !settled && !has_ended(&state) {
         unsettled.set_state(delivery_tag, state);
         return None;
     }

@@ -22,7 +22,7 @@ pub use definitions::{
     DeliveryNumber, Error, Handle, InputHandle, MessageFormat, OutputHandle, ReceiverSettleMode,
     Role, SenderSettleMode, SequenceNo,
 };
-pub use delivery_state::{DeliveryState, Outcome};
+pub use delivery_state::{DeliveryState, Outcome, has_ended};
 pub use errors::{
     ApplyRemoteDetachError, DetachError, DispositionError, FlowError, LinkRelayError,
     LinkStateError, MessageDecodeError, ReceiverAttachError, ReceiverTransferError,

@@ -12,7 +12,7 @@ use amqp_link_core::endpoint::target::LinkTarget;
 use amqp_link_types::frame::{LinkFrame, LinkTransfer};
 use amqp_link_types::types::{
     DeliveryNumber, DeliveryState, DeliveryTag, InputHandle, LinkRelayError, Payload,
-    ReceiverSettleMode, ReceiverTransferError, Transfer,
+    ReceiverSettleMode, ReceiverTransferError, Transfer, has_ended,
 };
 use std::alloc::AllocError;
 
@@ -119,8 +119,8 @@ impl<T: LinkTarget> ReceiverLink<T> {
         ensures { result ≡ is_terminal_at (entry_at self.now.unsettled tag.now) }
     {
         match self.unsettled.get(tag) {
-            Some(Some(state)) => state.is_terminal(),
-            _ => false,
+            Some(state) => has_ended(state),
+            None => false,
         }
     }
 

@@ -1,5 +1,6 @@
 //! The state of a delivery (3.4).
-ghost use Rattle.std.specs.Prelude.{◌≡◌};
+ghost use Rattle.std.specs.Prelude.{◌≡◌, false};
+ghost use Rattle.std.specs.Option.{option_map_or};
 ghost use Rattle.amqp_link_types.specs.DeliveryStates.{is_terminal, state_of};
 
 use crate::types::definitions::Error;
@@ -68,6 +69,16 @@ impl DeliveryState {
         ensures { result ≡ is_terminal self.now }
     {
         !matches!(self, DeliveryState::Received { .. })
+    }
+}
+
+/// Whether the state is terminal. Where none is known, the delivery has not ended.
+pub fn has_ended(state: &Option<DeliveryState>) -> bool
+    ensures { result ≡ option_map_or is_terminal state.now false }
+{
+    match state {
+        Some(state) => state.is_terminal(),
+        None => false,
     }
 }
 
