@@ -144,3 +144,6 @@ recorded_with_error = refl
 properties_are_joined : merged_properties (Some ((codes "a", uint 1) ∷ (codes "b", uint 2) ∷ [])) (Some ((codes "b", uint 3) ∷ (codes "c", uint 4) ∷ []))
     ≡ Some ((codes "a", uint 1) ∷ (codes "b", uint 3) ∷ (codes "c", uint 4) ∷ [])
 properties_are_joined = refl
+
+properties_take_the_place_of_none : merged_properties (Some []) (Some ((codes "b", uint 3) ∷ [])) ≡ Some ((codes "b", uint 3) ∷ [])
+properties_take_the_place_of_none = refl

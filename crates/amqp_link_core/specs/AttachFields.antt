@@ -24,6 +24,7 @@ smaller_limit own (Some theirs) =
 abbrev pub merged_properties : Option (List (List ℕ × Data)) → Option (List (List ℕ × Data)) → Option (List (List ℕ × Data))
 merged_properties own None = own
 merged_properties None (Some theirs) = Some theirs
+merged_properties (Some []) (Some theirs) = Some theirs
 merged_properties (Some own) (Some theirs) = Some (insert_all bytes_eq own theirs)
 
 -- whether a target arrived that is not of the link's kind

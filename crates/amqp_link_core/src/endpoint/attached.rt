@@ -94,14 +94,14 @@ pub fn is_foreign<T: LinkTarget>(target: Option<TargetArchetype>) -> bool
 /// own ones with the peer's put one by one, or the peer's where there are no own ones. None if the own
 /// ones stay, since the attach has none.
 ///
-/// Allocates only where both have properties, and the peer's are not empty.
+/// Allocates only where both have properties, and neither map is empty.
 pub fn merged_with(
     own: &Option<Fields>,
     theirs: Option<Fields>,
 ) -> Result<Option<Fields>, AllocError>
     ensures merged { IfOk result (λ changed. option_or changed own.now ≡ merged_properties own.now theirs) }
     ensures memory { OnErr result ((is_some own.now && is_some theirs) ≡ true) }
-    ensures empty { OnErr result (theirs ≢ Some []) }
+    ensures empty { OnErr result ((own.now ≢ Some []) × (theirs ≢ Some [])) }
 {
     match (own, theirs) {
         (_, None) => Ok(None),
@@ -110,6 +110,7 @@ pub fn merged_with(
             drop(theirs);
             Ok(None)
         }
+        (Some(own), Some(theirs)) if own.is_empty() => Ok(Some(theirs)),
         (Some(own), Some(theirs)) => Ok(Some(own.merged(&theirs)?)),
     }
 }
