@@ -24,8 +24,8 @@ abbrev pub tally_text : Tally → List ℕ
 tally_text tally = word_of tally.kind ++ codes " " ++ decimal tally.agreed ++ codes " of " ++ decimal tally.rows ++ codes " agree"
 
 -- the exit status
-abbrev pub status_of : Verdict → ℕ
-status_of Agreed = 0
-status_of Disagreed = 1
-status_of NotARow = 2
-status_of Failed = 3
+abbrev pub replay_status : Verdict → ℕ
+replay_status Agreed = 0
+replay_status Disagreed = 1
+replay_status NotARow = 2
+replay_status Failed = 3

@@ -26,11 +26,11 @@ pub enum Verdict {
 }
 
 impl Verdict {
-    ghost use Rattle.replay_lengths.specs.Report.{status_of};
+    ghost use Rattle.replay_lengths.specs.Report.{replay_status};
 
     /// The exit status.
     pub fn status(self) -> u8
-        ensures { result ≡ status_of self }
+        ensures { result ≡ replay_status self }
     {
         match self {
             Verdict::Agreed => 0,

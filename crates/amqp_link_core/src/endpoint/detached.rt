@@ -18,7 +18,7 @@ pub fn detach_frame(handle: OutputHandle, closed: bool, error: Option<Error>) ->
 }
 
 /// What a detach says that came in answer to an own one.
-pub fn reply_of(detach: Detach) -> Result<(), DetachError>
+pub fn result_of_reply(detach: Detach) -> Result<(), DetachError>
     ensures { result ≡ recorded reply_error detach.closed detach.error }
 {
     match detach.error {

@@ -3,7 +3,7 @@ ghost use Rattle.std.specs.Prelude.{◌≡◌, None};
 
 use crate::receiver_link::ReceiverLink;
 use amqp_link_core::endpoint::LinkDetach;
-use amqp_link_core::endpoint::detached::{detach_frame, outcome_of, reply_of};
+use amqp_link_core::endpoint::detached::{detach_frame, outcome_of, result_of_reply};
 use amqp_link_core::endpoint::table::{after_detach_reply, after_remote_detach, after_sent_detach};
 use amqp_link_core::endpoint::target::LinkTarget;
 use amqp_link_state::state::LinkState;
@@ -47,7 +47,7 @@ impl<T: LinkTarget> LinkDetach for ReceiverLink<T> {
             return Err(DetachError::IllegalState);
         };
         self.let_go(next);
-        reply_of(detach)
+        result_of_reply(detach)
     }
 
     fn send_detach(
