@@ -1,6 +1,6 @@
 //! Samples for tests that take memory: a test ends where it is wanting.
 use amqp_link_core::link_parts::LinkParts;
-use amqp_link_samples::{links, table};
+use amqp_link_samples::links;
 use amqp_link_types::types::{Attach, DeliveryTag, Payload, Role, SenderSettleMode, Target};
 use std::process::Abort;
 
@@ -26,8 +26,4 @@ pub(crate) fn payload_of(rt: &(impl Abort + AllocGlobal), bytes: &[u8]) -> Paylo
 
 pub(crate) fn count_tag(rt: &(impl Abort + AllocGlobal), count: u8) -> DeliveryTag {
     links::count_tag(rt.alloc(), count).expect(rt, "memory")
-}
-
-pub(crate) fn coming(rt: &(impl Abort + AllocGlobal), role: Role, incomplete: bool) -> Attach {
-    table::coming(rt.alloc(), role, incomplete).expect(rt, "memory")
 }

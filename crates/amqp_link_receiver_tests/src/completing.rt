@@ -1,17 +1,16 @@
 //! Worked values of deliveries that come whole.
 ghost use Rattle.std.specs.Prelude.{[], Ok, Err};
 
-use crate::samples::{coming, count_tag, parts, payload_of};
-use amqp_link_core::endpoint::{LinkAttach, LinkDetach, LinkExt};
+use crate::led::lead_to;
+use crate::samples::{count_tag, parts, payload_of};
+use amqp_link_core::endpoint::LinkExt;
 use amqp_link_payloads::Message;
 use amqp_link_receiver::ReceiverLink;
-use amqp_link_samples::table::detach;
 use amqp_link_state::state::{LinkFlowStateInner, LinkState};
 use amqp_link_types::delivery::{Delivery, DeliveryInfo};
 use amqp_link_types::types::{
     DataBody, DecodeError, DeliveryState, DeliveryTag, FromBody, MessageDecodeError, OutputHandle,
-    Payload, ReceiverSettleMode, ReceiverTransferError, Role, SenderSettleMode, Target, Transfer,
-    Whole,
+    Payload, ReceiverSettleMode, ReceiverTransferError, SenderSettleMode, Target, Transfer, Whole,
 };
 use std::alloc::Global;
 use std::process::Abort;
@@ -34,44 +33,6 @@ fn unattached(
     link.with_output_handle(OutputHandle(7))
 }
 
-// The sender's attach at the last count, with a map that is whole or not, comes.
-fn attach_comes(
-    rt: &(impl Abort + AllocGlobal),
-    link: &mut ReceiverLink<Target>,
-    incomplete: bool,
-) {
-    let mut attach = coming(rt, Role::Sender, incomplete);
-    attach.initial_delivery_count = Some(u32::MAX);
-    drop(link.on_incoming_attach(attach));
-}
-
-// Leads a link that is not attached to where it is, but for a detach.
-fn attach_up_to(
-    rt: &(impl Abort + AllocGlobal),
-    link: &mut ReceiverLink<Target>,
-    state: LinkState,
-) {
-    match state {
-        LinkState::Unattached => {}
-        LinkState::AttachSent => drop(link.send_attach(false)),
-        LinkState::IncompleteAttachSent => {
-            drop(link.on_incomplete_transfer(&count_tag(rt, 9), 0, 1));
-            link.set_max_frame_size(31);
-            drop(link.send_attach(false));
-        }
-        LinkState::AttachReceived => attach_comes(rt, link, false),
-        LinkState::IncompleteAttachReceived => attach_comes(rt, link, true),
-        LinkState::IncompleteAttachExchanged => {
-            drop(link.send_attach(false));
-            attach_comes(rt, link, true);
-        }
-        _ => {
-            drop(link.send_attach(false));
-            attach_comes(rt, link, false);
-        }
-    }
-}
-
 // The link "l" in this mode and state, at the last count and with this credit.
 fn link_at(
     rt: &(impl Abort + AllocGlobal),
@@ -80,21 +41,7 @@ fn link_at(
     state: LinkState,
 ) -> ReceiverLink<Target> {
     let mut link = unattached(rt, mode, link_credit);
-    attach_up_to(rt, &mut link, state);
-    match state {
-        LinkState::DetachSent => drop(link.send_detach(false, None)),
-        LinkState::CloseSent => drop(link.send_detach(true, None)),
-        LinkState::Detached => {
-            drop(link.send_detach(false, None));
-            drop(link.on_detach_reply(detach(false)));
-        }
-        LinkState::Closed => {
-            drop(link.send_detach(true, None));
-            drop(link.on_detach_reply(detach(true)));
-        }
-        _ => {}
-    }
-    assert_eq!(rt; *link.local_state(), state);
+    lead_to(rt, &mut link, u32::MAX, state);
     link
 }
 

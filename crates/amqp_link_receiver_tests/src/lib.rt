@@ -8,4 +8,10 @@ mod completing;
 #[cfg(test)]
 mod flows;
 #[cfg(test)]
+mod kept;
+#[cfg(test)]
+mod led;
+#[cfg(test)]
 mod samples;
+#[cfg(test)]
+mod table;

@@ -5,7 +5,7 @@ use amqp_link_core::endpoint::LinkExt;
 use amqp_link_types::frame::LinkFrame;
 use amqp_link_types::types::{
     DeliveryNumber, DeliveryState, DeliveryTag, Handle, LinkRelayError, OutputHandle,
-    ReceiverSettleMode, ReceiverTransferError, SenderSettleMode, Target, Transfer,
+    ReceiverSettleMode, SenderSettleMode, Target, Transfer,
 };
 use std::process::Abort;
 
@@ -109,35 +109,6 @@ fn states_that_transfers_tell(rt: HostRuntime) {
             "{told:?} after {before:?}, settled {settled:?}"
         );
     }
-}
-
-#[test]
-fn state_without_tag_is_refused(rt: HostRuntime) {
-    let mut link = link_in(&rt, ReceiverSettleMode::First, false);
-    let told = link.on_transfer_state(&None, Some(true), DeliveryState::Accepted);
-    assert!(rt; matches!(told, Err(ReceiverTransferError::DeliveryTagIsNone)));
-    assert_eq!(rt; link.unsettled().len(), 0);
-    drop(link);
-}
-
-// Two fronts of a delivery come: whether each is taken, and what is kept after it; and how many
-// deliveries are kept in the end.
-fn fronts_kept(rt: &(impl Abort + AllocGlobal)) -> ([(bool, Kept); 2], usize) {
-    let mut link = link_in(rt, ReceiverSettleMode::First, false);
-    let tag = count_tag(rt, 1);
-    let went = link.on_incomplete_transfer(&tag, 0, 5).is_ok();
-    let first = (went, kept_of(&link, &tag));
-    let went = link.on_incomplete_transfer(&tag, 1, 2).is_ok();
-    let second = (went, kept_of(&link, &tag));
-    let left = link.unsettled().len();
-    drop((tag, link));
-    ([first, second], left)
-}
-
-#[test]
-fn place_of_a_front_is_kept(rt: HostRuntime) {
-    let kept = [(true, Kept::Place(0, 5)), (true, Kept::Place(1, 2))];
-    assert_eq!(rt; fronts_kept(&rt), (kept, 1));
 }
 
 // The handle and the bytes of the frame in which a transfer goes on.

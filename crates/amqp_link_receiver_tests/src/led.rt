@@ -1,0 +1,74 @@
+//! A receiver's end that is led to each of its states by the calls that are public.
+use crate::samples::{coming, count_tag};
+use amqp_link_core::endpoint::{LinkAttach, LinkDetach, LinkExt};
+use amqp_link_receiver::ReceiverLink;
+use amqp_link_samples::table::detach;
+use amqp_link_state::state::LinkState;
+use amqp_link_types::types::{Role, Target};
+use std::process::Abort;
+
+// The sender's attach at this count, with a map that is whole or not, comes.
+fn attach_comes(
+    rt: &(impl Abort + AllocGlobal),
+    link: &mut ReceiverLink<Target>,
+    count: u32,
+    incomplete: bool,
+) {
+    let mut attach = coming(rt, Role::Sender, incomplete);
+    attach.initial_delivery_count = Some(count);
+    drop(link.on_incoming_attach(attach));
+}
+
+// Leads a link that is not attached to where it is, but for a detach.
+fn attach_up_to(
+    rt: &(impl Abort + AllocGlobal),
+    link: &mut ReceiverLink<Target>,
+    count: u32,
+    state: LinkState,
+) {
+    match state {
+        LinkState::Unattached => {}
+        LinkState::AttachSent => drop(link.send_attach(false)),
+        LinkState::IncompleteAttachSent => {
+            drop(link.on_incomplete_transfer(&count_tag(rt, 9), 0, 1));
+            link.set_max_frame_size(31);
+            drop(link.send_attach(false));
+        }
+        LinkState::AttachReceived => attach_comes(rt, link, count, false),
+        LinkState::IncompleteAttachReceived => attach_comes(rt, link, count, true),
+        LinkState::IncompleteAttachExchanged => {
+            drop(link.send_attach(false));
+            attach_comes(rt, link, count, true);
+        }
+        _ => {
+            drop(link.send_attach(false));
+            attach_comes(rt, link, count, false);
+        }
+    }
+}
+
+// Leads a link that is not attached to this state, by a sender's attach with this count. It has no
+// output handle after a detach; before an incomplete attach a delivery is entered, and its frames get
+// a limit of 31 bytes.
+pub(crate) fn lead_to(
+    rt: &(impl Abort + AllocGlobal),
+    link: &mut ReceiverLink<Target>,
+    count: u32,
+    state: LinkState,
+) {
+    attach_up_to(rt, link, count, state);
+    match state {
+        LinkState::DetachSent => drop(link.send_detach(false, None)),
+        LinkState::CloseSent => drop(link.send_detach(true, None)),
+        LinkState::Detached => {
+            drop(link.send_detach(false, None));
+            drop(link.on_detach_reply(detach(false)));
+        }
+        LinkState::Closed => {
+            drop(link.send_detach(true, None));
+            drop(link.on_detach_reply(detach(true)));
+        }
+        _ => {}
+    }
+    assert_eq!(rt; *link.local_state(), state);
+}

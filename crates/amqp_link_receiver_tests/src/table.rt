@@ -1,0 +1,276 @@
+//! A receiver's end in each of its states: the rows of the standard's table (2.6.3 to 2.6.6), and what
+//! its attaches say.
+use crate::led::lead_to;
+use crate::samples::{coming, count_tag, parts};
+use amqp_link_core::endpoint::{LinkAttach, LinkDetach, LinkExt};
+use amqp_link_receiver::{ReceiverAttachExchange, ReceiverLink};
+use amqp_link_samples::table::{
+    Call, STATES, answered, attached, detach, is_illegal, is_illegal_outcome, left, let_go, taken,
+    wanted,
+};
+use amqp_link_state::state::LinkState;
+use amqp_link_types::delivery::Outcomes;
+use amqp_link_types::frame::LinkFrame;
+use amqp_link_types::types::{
+    OutputHandle, ReceiverAttachError, Role, SenderSettleMode, Target, UnsettledMap,
+};
+use amqp_link_values::length::EncodedLen;
+use std::process::Abort;
+
+// The link "l" with output handle 0, led to this state at count 0. A delivery is unsettled, which an
+// attach names only where the limit is more than 30.
+fn link_in(rt: &(impl Abort + AllocGlobal), state: LinkState, limit: u32) -> ReceiverLink<Target> {
+    let link = ReceiverLink::new(rt.alloc(), parts(rt, SenderSettleMode::Mixed, 512));
+    let mut link = link.with_output_handle(OutputHandle(0));
+    drop(link.on_incomplete_transfer(&count_tag(rt, 0), 0, 0));
+    lead_to(rt, &mut link, 0, state);
+    link.set_max_frame_size(limit);
+    link.with_output_handle(OutputHandle(0))
+}
+
+fn attached_in(rt: &(impl Abort + AllocGlobal), state: LinkState, limit: u32) -> (bool, LinkState) {
+    let mut link = link_in(rt, state, limit);
+    let told = attached(&mut link);
+    drop(link);
+    told
+}
+
+#[test]
+fn attaches_that_are_sent(rt: HostRuntime) {
+    for (incomplete, limit) in [(false, 512), (true, 30)] {
+        let call = Call::SendAttach(incomplete);
+        for (place, state) in STATES.iter().enumerate() {
+            let told = attached_in(&rt, *state, limit);
+            assert_eq!(rt; told, wanted(call, place), "{call:?} in {state:?}");
+        }
+    }
+}
+
+fn taken_in(
+    rt: &(impl Abort + AllocGlobal),
+    state: LinkState,
+    incomplete: bool,
+) -> (bool, LinkState) {
+    let mut link = link_in(rt, state, 512);
+    let told = taken(&mut link, coming(rt, Role::Sender, incomplete));
+    drop(link);
+    told
+}
+
+#[test]
+fn attaches_that_come(rt: HostRuntime) {
+    for incomplete in [false, true] {
+        let call = Call::IncomingAttach(incomplete);
+        for (place, state) in STATES.iter().enumerate() {
+            let told = taken_in(&rt, *state, incomplete);
+            assert_eq!(rt; told, wanted(call, place), "{call:?} in {state:?}");
+        }
+    }
+}
+
+fn let_go_in(rt: &(impl Abort + AllocGlobal), state: LinkState, closed: bool) -> (bool, LinkState) {
+    let mut link = link_in(rt, state, 512);
+    let told = let_go(&mut link, closed);
+    drop(link);
+    told
+}
+
+#[test]
+fn detaches_that_are_sent(rt: HostRuntime) {
+    for closed in [false, true] {
+        let call = Call::SendDetach(closed);
+        for (place, state) in STATES.iter().enumerate() {
+            let told = let_go_in(&rt, *state, closed);
+            assert_eq!(rt; told, wanted(call, place), "{call:?} in {state:?}");
+        }
+    }
+}
+
+fn answered_in(
+    rt: &(impl Abort + AllocGlobal),
+    state: LinkState,
+    closed: bool,
+) -> (bool, LinkState) {
+    let mut link = link_in(rt, state, 512);
+    let told = answered(&mut link, closed);
+    drop(link);
+    told
+}
+
+#[test]
+fn detaches_that_answer(rt: HostRuntime) {
+    for closed in [false, true] {
+        let call = Call::DetachReply(closed);
+        for (place, state) in STATES.iter().enumerate() {
+            let told = answered_in(&rt, *state, closed);
+            assert_eq!(rt; told, wanted(call, place), "{call:?} in {state:?}");
+        }
+    }
+}
+
+fn left_in(rt: &(impl Abort + AllocGlobal), state: LinkState, closed: bool) -> (bool, LinkState) {
+    let mut link = link_in(rt, state, 512);
+    let told = left(&mut link, closed);
+    drop(link);
+    told
+}
+
+#[test]
+fn detaches_of_the_other_end(rt: HostRuntime) {
+    for closed in [false, true] {
+        let call = Call::RemoteDetach(closed);
+        for (place, state) in STATES.iter().enumerate() {
+            let told = left_in(&rt, *state, closed);
+            assert_eq!(rt; told, wanted(call, place), "{call:?} in {state:?}");
+        }
+    }
+}
+
+// Whether these are refused for the state, by its name: a detach without output handle, and a
+// closing reply to it.
+fn refused_without_handle(rt: &(impl Abort + AllocGlobal)) -> (bool, bool) {
+    let mut link = link_in(rt, LinkState::Attached, 512);
+    *link.output_handle_mut() = None;
+    let sent = is_illegal(link.send_detach(false, None));
+    let replied = is_illegal(link.on_detach_reply(detach(true)));
+    drop(link);
+    (sent, replied)
+}
+
+// So of a detach of the other end on a link that was never attached.
+fn refused_unattached(rt: &(impl Abort + AllocGlobal)) -> bool {
+    let mut link = link_in(rt, LinkState::Unattached, 512);
+    let left = is_illegal_outcome(link.apply_remote_detach_outcome(detach(false)));
+    drop(link);
+    left
+}
+
+#[test]
+fn refused_detaches_name_the_state(rt: HostRuntime) {
+    assert_eq!(rt; refused_without_handle(&rt), (true, true));
+    assert!(rt; refused_unattached(&rt));
+}
+
+// Without its delivery, but with an empty map and the mark, an attach has 26 bytes: it fits a frame of
+// 30 and none of 29, and a link that is refused stays as it was.
+#[test]
+fn attach_that_fits_no_frame_is_refused(rt: HostRuntime) {
+    for (limit, fits) in [(29u32, false), (30, true)] {
+        let told = attached_in(&rt, LinkState::Detached, limit);
+        let state = if fits {
+            LinkState::IncompleteAttachSent
+        } else {
+            LinkState::Detached
+        };
+        assert_eq!(rt; told, (fits, state), "at {limit}");
+    }
+    let mut link = link_in(&rt, LinkState::Detached, 29);
+    let refused = link.send_attach(false).err();
+    drop(link);
+    assert_eq!(rt; refused, Some(ReceiverAttachError::AttachTooLarge));
+}
+
+// What follows where the sender names a delivery, in full or not.
+fn exchanged(
+    rt: &(impl Abort + AllocGlobal),
+    state: LinkState,
+    incomplete: bool,
+) -> Result<ReceiverAttachExchange, ReceiverAttachError> {
+    let mut entries = UnsettledMap::new(rt.alloc());
+    drop(entries.put(count_tag(rt, 0), None));
+    let mut attach = coming(rt, Role::Sender, incomplete);
+    attach.unsettled = Some(entries);
+    let mut link = link_in(rt, state, 512);
+    let told = link.on_incoming_attach(attach);
+    drop(link);
+    told
+}
+
+#[test]
+fn named_deliveries_are_resumed(rt: HostRuntime) {
+    for (state, incomplete, wanted) in [
+        (LinkState::AttachSent, false, ReceiverAttachExchange::Resume),
+        (
+            LinkState::AttachSent,
+            true,
+            ReceiverAttachExchange::IncompleteUnsettled,
+        ),
+        (
+            LinkState::IncompleteAttachSent,
+            false,
+            ReceiverAttachExchange::IncompleteUnsettled,
+        ),
+        (LinkState::Detached, false, ReceiverAttachExchange::Resume),
+        (
+            LinkState::Detached,
+            true,
+            ReceiverAttachExchange::IncompleteUnsettled,
+        ),
+    ] {
+        assert_eq!(rt;
+            exchanged(&rt, state, incomplete),
+            Ok(wanted),
+            "{incomplete} in {state:?}"
+        );
+    }
+}
+
+// What an attach says: its length, and whether it has a map.
+fn said_by(frame: &LinkFrame) -> Option<(Option<u64>, bool)> {
+    match frame {
+        LinkFrame::Attach(attach) => Some((attach.encoded_len(), attach.unsettled.is_some())),
+        _ => None,
+    }
+}
+
+fn said_of(
+    sent: &Result<(LinkFrame, Outcomes), ReceiverAttachError>,
+) -> Option<(Option<u64>, bool)> {
+    match sent {
+        Ok((frame, _)) => said_by(frame),
+        Err(_) => None,
+    }
+}
+
+fn said_in(
+    sent: Result<(LinkFrame, Outcomes), ReceiverAttachError>,
+) -> Option<(Option<u64>, bool)> {
+    let said = said_of(&sent);
+    drop(sent);
+    said
+}
+
+// What a detached link says, and how many deliveries are left.
+fn said_after_a_detach(
+    rt: &(impl Abort + AllocGlobal),
+    is_reattaching: bool,
+) -> (Option<(Option<u64>, bool)>, usize) {
+    let mut link = link_in(rt, LinkState::Detached, 512);
+    let said = said_in(link.send_attach(is_reattaching));
+    let left = link.unsettled().len();
+    drop(link);
+    (said, left)
+}
+
+// The map takes three bytes in place of one, and its entry fourteen: six of the tag, eight of the state.
+// A link that attaches anew keeps none.
+#[test]
+fn reattach_forgets_what_was_unsettled(rt: HostRuntime) {
+    assert_eq!(rt;
+        said_after_a_detach(&rt, false),
+        (Some((Some(40), true)), 1)
+    );
+    assert_eq!(rt;
+        said_after_a_detach(&rt, true),
+        (Some((Some(24), false)), 0)
+    );
+}
+
+// All takes the 40 bytes of above, and four of the frame's header.
+#[test]
+fn complete_attach_is_measured(rt: HostRuntime) {
+    let link = link_in(&rt, LinkState::Unattached, 512);
+    assert_eq!(rt; link.complete_attach_fits(44, 0), Ok(true));
+    assert_eq!(rt; link.complete_attach_fits(43, 0), Ok(false));
+    drop(link);
+}
