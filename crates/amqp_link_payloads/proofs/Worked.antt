@@ -1,6 +1,6 @@
 -- Values of the definitions that were worked out by hand: docs/DEFINITIONS.md lists them.
-use Rattle.std.proofs.Common.{◌≡◌, ℕ, List, [], ◌∷◌, refl, Some, None}
-use Rattle.amqp_link_payloads.specs.Header.{header_len}
+use Rattle.std.proofs.Common.{◌≡◌, ℕ, true, false, List, [], ◌∷◌, refl, Some, None}
+use Rattle.amqp_link_payloads.specs.Header.{begins_with, small_form, large_form, header_len}
 use Rattle.amqp_link_payloads.specs.Position.{starts, position, place}
 use Rattle.amqp_link_payloads.specs.Section.{contents_of}
 
@@ -16,6 +16,24 @@ header_there = refl
 no_header : header_len (0x00 ∷ 0x53 ∷ 0x79 ∷ []) ≡ 0
 unfolding header_len
 no_header = refl
+
+small_header : begins_with small_form (0x00 ∷ 0x53 ∷ 0x78 ∷ 0x41 ∷ []) ≡ true
+small_header = refl
+
+code_past_the_last : begins_with small_form (0x00 ∷ 0x53 ∷ 0x79 ∷ []) ≡ false
+code_past_the_last = refl
+
+cut_header : begins_with small_form (0x00 ∷ 0x53 ∷ []) ≡ false
+cut_header = refl
+
+large_header : begins_with large_form (0x00 ∷ 0x80 ∷ 0x70 ∷ []) ≡ true
+large_header = refl
+
+large_is_not_small : begins_with small_form (0x00 ∷ 0x80 ∷ 0x70 ∷ []) ≡ false
+large_is_not_small = refl
+
+small_is_not_large : begins_with large_form (0x00 ∷ 0x53 ∷ 0x70 ∷ []) ≡ false
+small_is_not_large = refl
 
 eight_starts : starts eight ≡ 0 ∷ 4 ∷ []
 unfolding starts header_len
