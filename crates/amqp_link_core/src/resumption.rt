@@ -10,9 +10,9 @@ ghost use Rattle.amqp_link_core.specs.Resuming.{does_carry_tag, is_restated, is_
 
 pub(crate) mod states;
 
-use crate::resumption::states::{has_ended, has_ended_as, is_past, rest_of};
+use crate::resumption::states::{has_ended_as, is_past, rest_of};
 use amqp_link_types::delivery::{DeliveryOutcome, UnsettledMessage};
-use amqp_link_types::types::{DeliveryState, DeliveryTag, MessageFormat, Payload};
+use amqp_link_types::types::{DeliveryState, DeliveryTag, MessageFormat, Payload, has_ended};
 use amqp_link_values::copy::copy_of;
 use std::alloc::AllocError;
 

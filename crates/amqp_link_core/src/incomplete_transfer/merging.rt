@@ -3,8 +3,7 @@ ghost use Rattle.std.specs.Prelude.{◌≡◌, ◌++◌, [], ◌∷◌, List, Op
 ghost use Rattle.amqp_link_types.specs.declared.types.delivery_state.DeliveryState.{DeliveryState as State};
 ghost use Rattle.amqp_link_core.specs.Merging.{Came, Merged, present, settled_by, state_by};
 
-use crate::resumption::states::has_ended;
-use amqp_link_types::types::{DeliveryState, Transfer};
+use amqp_link_types::types::{DeliveryState, Transfer, has_ended};
 
 // The flag of a delivery, once a transfer has told of it.
 #[tactic(auto, using(crate::proofs::MergeLemmas::settled_steps))]

@@ -1,21 +1,11 @@
 //! What a sender asks of the states of a delivery before it resumes it (2.6.13, 3.4).
 ghost use Rattle.std.specs.Prelude.{◌≡◌, false, IfOk};
 ghost use Rattle.std.specs.Option.{option_map_or};
-ghost use Rattle.amqp_link_types.specs.DeliveryStates.{is_terminal};
 ghost use Rattle.amqp_link_core.specs.Resuming.{sender_report, rest_from, is_past, is_same_outcome};
 
 use amqp_link_payloads::position::place_of;
 use amqp_link_types::types::{DeliveryState, Payload};
 use std::alloc::AllocError;
-
-pub(crate) fn has_ended(state: &Option<DeliveryState>) -> bool
-    ensures { result ≡ option_map_or is_terminal state.now false }
-{
-    match state {
-        Some(state) => state.is_terminal(),
-        None => false,
-    }
-}
 
 // Whether it has ended, or a front of it came that ends beyond this offset in this section.
 pub(crate) fn is_past(
