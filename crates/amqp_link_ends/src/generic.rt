@@ -1,11 +1,11 @@
 //! What a caller of either endpoint can rest on: the contracts of the traits alone.
-ghost use Rattle.std.specs.Prelude.{◌≡◌, ◌⊎◌, Bool, None, Some, MatchOption, IsSomeAnd, IfOk, OnOk, OnErr};
+ghost use Rattle.std.specs.Prelude.{◌≡◌, ◌⊎◌, [], Bool, None, Some, MatchOption, IsSomeAnd, IfOk, OnOk, OnErr};
 ghost use Rattle.amqp_link_state.specs.declared.state.LinkState.TheVariants.{Attached, Detached};
 ghost use Rattle.amqp_link_types.specs.declared.types.attach.Attach.{Attach as TheAttach};
-ghost use Rattle.amqp_link_core.specs.AttachFields.{next_of};
+ghost use Rattle.amqp_link_core.specs.AttachFields.{next_of, remote_entries};
 ghost use Rattle.amqp_link_core.specs.Detaching.{detach_frame};
 ghost use Rattle.amqp_link_core.specs.LinkStates.{Call, next_state};
-ghost use Rattle.amqp_link_ends.specs.Stated.{IsStatedBy, Keeps};
+ghost use Rattle.amqp_link_ends.specs.Stated.{IsStatedBy, Keeps, GivesUp, Takes};
 
 use crate::samples::{coming, parts};
 use amqp_link_core::endpoint::{LinkAttach, LinkDetach, LinkExt};
@@ -13,6 +13,7 @@ use amqp_link_receiver::receiver_link::ReceiverLink;
 use amqp_link_samples::links::went;
 use amqp_link_sender::sender_link::SenderLink;
 use amqp_link_state::state::LinkState;
+use amqp_link_types::delivery::Outcomes;
 use amqp_link_types::frame::LinkFrame;
 use amqp_link_types::types::{
     Attach, Detach, Fields, Handle, OutputHandle, Role, SenderSettleMode,
@@ -25,7 +26,7 @@ use std::process::Abort;
 fn send<L: LinkAttach>(link: &mut L) -> Result<LinkFrame, L::AttachError>
     requires { L.copies }
     ensures stated { IfOk result (λ frame. (attach : TheAttach) × (frame ≡ LinkFrame.Attach attach)
-        × IsStatedBy (L.shown link.old) attach) }
+        × IsStatedBy (L.shown link.old) (L.shown link.old).entries attach) }
     ensures state { OnOk result ((incomplete : Bool)
         × (next_state Call.SendAttach incomplete (L.shown link.old).local_state
         ≡ Some (L.shown link.new).local_state)) }
@@ -38,15 +39,36 @@ fn send<L: LinkAttach>(link: &mut L) -> Result<LinkFrame, L::AttachError>
     Ok(frame)
 }
 
-// Takes the peer's attach: taken or refused, the handle, the name, the frame limit and the deliveries
-// stay; the state moves where the attach is taken, and stays or moves where it is refused.
+// Sends the endpoint's attach anew: it states none of the deliveries, and the endpoint keeps none. Each
+// ends as the endpoint showed; the state moves, and the handle, the name and the frame limit stay.
+fn send_anew<L: LinkAttach>(link: &mut L) -> Result<(LinkFrame, Outcomes), L::AttachError>
+    requires { L.copies }
+    ensures stated { IfOk result (λ sent. (attach : TheAttach) × (sent.0 ≡ LinkFrame.Attach attach)
+        × IsStatedBy (L.shown link.old) [] attach) }
+    ensures ended { IfOk result (λ sent. sent.1.items ≡ (L.shown link.old).ended) }
+    ensures state { OnOk result ((incomplete : Bool)
+        × (next_state Call.SendAttach incomplete (L.shown link.old).local_state
+        ≡ Some (L.shown link.new).local_state)) }
+    ensures handle { OnOk result ((L.shown link.new).output_handle ≡ (L.shown link.old).output_handle) }
+    ensures given_up { OnOk result (GivesUp L.nothing_unsettled (L.shown link.old) (L.shown link.new)) }
+    ensures left { OnErr result (link.new ≡ link.old) }
+{
+    link.send_attach(true)
+}
+
+// Takes the peer's attach: taken or refused, the handle, the name and the frame limit stay; the state moves
+// if the attach is taken, and stays or moves if it is refused. The deliveries of a sender are resolved if it
+// is taken; all others stay.
 fn take<L: LinkAttach>(link: &mut L, attach: Attach) -> Result<L::AttachExchange, L::AttachError>
     ensures state { OnOk result (next_of (L.shown link.old).local_state attach
         ≡ Some (L.shown link.new).local_state) }
     ensures refused { OnErr result ((link.new ≡ link.old)
         ⊎ (next_of (L.shown link.old).local_state attach ≡ Some (L.shown link.new).local_state)) }
+    ensures exchanged { IfOk result (L.exchanged (L.shown link.old).unsettled (remote_entries attach)
+        (L.shown link.new).local_state) }
     ensures handle { (L.shown link.new).output_handle ≡ (L.shown link.old).output_handle }
-    ensures kept { Keeps (L.shown link.old) (L.shown link.new) }
+    ensures taken { OnOk result (Takes L.nothing_unsettled (L.shown link.old) (L.shown link.new)) }
+    ensures kept { OnErr result (Keeps (L.shown link.old) (L.shown link.new)) }
 {
     match link.on_incoming_attach(attach) {
         Ok(exchange) => Ok(exchange),
@@ -111,6 +133,19 @@ fn attached_and_cut<L: LinkExt>(
     (sent && came && detached, *link.local_state())
 }
 
+// The same, and attaches it anew.
+fn attached_anew<L: LinkExt>(
+    rt: &(impl Abort + AllocGlobal),
+    link: &mut L,
+    role: Role,
+) -> (bool, LinkState)
+    requires { L.copies }
+{
+    let (is_cut, _) = attached_and_cut(rt, link, role);
+    let anew = went(send_anew(link));
+    (is_cut && anew, *link.local_state())
+}
+
 #[test]
 fn either_end_is_cut(rt: HostRuntime) {
     let mode = SenderSettleMode::Mixed;
@@ -122,4 +157,17 @@ fn either_end_is_cut(rt: HostRuntime) {
     let mut receiver = receiver.with_output_handle(OutputHandle(0));
     let told = attached_and_cut(&rt, &mut receiver, Role::Sender);
     assert_eq!(rt; told, (true, LinkState::Detached));
+}
+
+#[test]
+fn either_end_is_attached_anew(rt: HostRuntime) {
+    let mode = SenderSettleMode::Mixed;
+    let sender = SenderLink::new(rt.alloc(), parts(&rt, mode, 512));
+    let mut sender = sender.with_output_handle(OutputHandle(0));
+    let told = attached_anew(&rt, &mut sender, Role::Receiver);
+    assert_eq!(rt; told, (true, LinkState::AttachSent));
+    let receiver = ReceiverLink::new(rt.alloc(), parts(&rt, mode, 512));
+    let mut receiver = receiver.with_output_handle(OutputHandle(0));
+    let told = attached_anew(&rt, &mut receiver, Role::Sender);
+    assert_eq!(rt; told, (true, LinkState::AttachSent));
 }
