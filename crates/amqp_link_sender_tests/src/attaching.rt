@@ -142,7 +142,7 @@ fn ends_in(
     Some((outcomes.len(), ends))
 }
 
-fn reply(closed: bool) -> Detach {
+pub(crate) fn reply(closed: bool) -> Detach {
     Detach {
         handle: Handle(0),
         closed,
@@ -284,7 +284,7 @@ fn incoming_attach_is_taken_as_far_as_it_goes(rt: HostRuntime) {
 fn is_complete(answer: &Result<(SenderAttachExchange, Outcomes), SenderAttachError>) -> bool {
     match answer {
         Ok((SenderAttachExchange::Complete, outcomes)) => outcomes.len() == 0,
-        Err(_) => false,
+        _ => false,
     }
 }
 

@@ -4,7 +4,11 @@
 #[cfg(test)]
 mod attaching;
 #[cfg(test)]
+mod exchanging;
+#[cfg(test)]
 mod flows;
+#[cfg(test)]
+mod resending;
 #[cfg(test)]
 mod samples;
 #[cfg(test)]
