@@ -1,6 +1,5 @@
 //! The numbers of the pending registrations by tag, hashed, and the records that they name.
-ghost use Rattle.std.specs.Prelude.{◌≡◌, ◌<◌, ◌≤◌, ◌++◌, ◌∷◌, [], None, Some, OnOk, length, slice_get, slice_set, is_some, vec_len, vec_capacity, if◌then◌else◌};
-ghost use Rattle.std.specs.Option.{option_copied};
+ghost use Rattle.std.specs.Prelude.{◌≡◌, ◌<◌, ◌≤◌, if◌then◌else◌, length, slice_get, slice_set, is_some, vec_len, vec_capacity};
 ghost use Rattle.std.specs.Str.{bytes_eq};
 ghost use Rattle.indexmap.specs.IndexMap.{spare};
 ghost use Rattle.amqp_link_types.specs.Entries.{Tag, entry_at};

@@ -1,8 +1,8 @@
 //! The registrations of a sender's unsettled deliveries, by number.
-ghost use Rattle.std.specs.Prelude.{◌≡◌, ◌<◌, [], ◌∷◌, map, length, slice_get, IsTrue, IfOk, OnOk, false, if◌then◌else◌, ◌==◌};
-ghost use Rattle.std.specs.Prelude.{Err, All};
+ghost use Rattle.std.specs.Prelude.{◌≡◌, ◌==◌, [], ◌∷◌, if◌then◌else◌, map, length, slice_get, false};
+ghost use Rattle.std.specs.Prelude.{All, IsTrue, IfOk, OnOk, Err};
 ghost use Rattle.std.specs.Option.{option_map, option_copied};
-ghost use Rattle.amqp_link_ledger.specs.Fates.{Change, after, is_pending, pending_count, registered, with_fates};
+ghost use Rattle.amqp_link_ledger.specs.Fates.{Change, after, is_pending, pending_count, with_fates};
 
 use crate::fate::Fate;
 use crate::numbers::{has_number, push_pending, put_number, set_fate_at, take_number};
