@@ -1,6 +1,6 @@
 -- Each call of a pair follows on the world before it.
 use Rattle.std.proofs.Common.{◌≡◌, ◌≢◌, ◌∙◌, sym, ap, subst, List, [], ◌++◌, refl, append_assoc, ℕ, Bool, Option, Some, None}
-use Rattle.std.specs.Prelude.{option_and_then, Result, Ok, Err, IfOk, OnErr}
+use Rattle.std.specs.Prelude.{option_and_then, Result, Ok, Err, IfOk, IfSome, OnErr}
 use Rattle.std.proofs.lemmas.List.{append-nil}
 use Rattle.amqp_link.specs.Entries.{Tag, entry_at}
 use Rattle.amqp_link.specs.Frames.{payload_of}
@@ -8,24 +8,34 @@ use Rattle.amqp_link_tests.specs.Runs.{Follows}
 use Rattle.amqp_link.specs.Senders.{next_tag, new_entry}
 use Rattle.amqp_link.specs.Steps.{Sends, Arrives, begun, received}
 use Rattle.amqp_link.specs.Worlds.{World, IsFront, bytes_in, held_at}
-use Rattle.amqp_link_types.specs.declared.delivery.UnsettledMessage.{UnsettledMessage}
 use Rattle.amqp_link.specs.declared.pair.Arrived.{Arrived}
 use Rattle.amqp_link.specs.declared.pair.Sent.{Sent}
 use Rattle.amqp_link.specs.declared.pair.error.PairError.{PairError}
 use Rattle.amqp_link.specs.declared.pair.progress.Progress.{Progress}
 use Rattle.amqp_link.proofs.DeliveryLemmas.{bytes_received}
-use Rattle.amqp_link_types.proofs.MapLemmas.{entry_at-put, entry_at-put_other}
+use Rattle.amqp_link_tests.proofs.PutLemmas.{entry_at-put, entry_at-put_other}
 use Rattle.amqp_link.proofs.WorldLemmas.{by_tag}
 
+-- what holds of the value of an option, if there is one, and back
+IfSome-each : {A : Type 0} {P : A → Type 0} (o : Option A) → ((x : A) → o ≡ Some x → P x) → IfSome o P
+IfSome-each None f = tt
+IfSome-each (Some x) f = f x refl
+
+of_some : {A : Type 0} (P : A → Type 0) (o : Option A) (x : A) → IfSome o P → o ≡ Some x → P x
+of_some P o x h e = subst (λ at. IfSome at P) e h
+
 pub Follows-refl : (w : World) → Follows w w
-Follows-refl w = record { payloads = λ tag entry h. h; held = λ tag. ([], append-nil (bytes_in (held_at w tag))) }
+Follows-refl w = record { payloads = λ tag. IfSome-each (entry_at w.sender.unsettled tag) (λ entry h. h); held = λ tag. ([], append-nil (bytes_in (held_at w tag))) }
 
 pub Follows-same : (old new : World) → new ≡ old → Follows old new
 Follows-same old new e = subst (λ w. Follows old w) (sym e) (Follows-refl old)
 
 pub Follows-trans : (a b c : World) → Follows a b → Follows b c → Follows a c
 Follows-trans a b c f g = record {
-  payloads = λ tag entry h. g.payloads tag entry (f.payloads tag entry h);
+  payloads = λ tag. IfSome-each (entry_at a.sender.unsettled tag)
+      (λ entry h.
+      of_some (λ at. entry_at c.sender.unsettled tag ≡ Some at) (entry_at b.sender.unsettled tag) entry (g.payloads tag)
+      (of_some (λ at. entry_at b.sender.unsettled tag ≡ Some at) (entry_at a.sender.unsettled tag) entry (f.payloads tag) h));
   held = λ tag.
       let first = f.held tag in
       let second = g.held tag in
@@ -50,12 +60,13 @@ unfolding held_in
 held_in-at w tag = seen_held (entry_at w.deliveries tag)
 
 module _ (old new : World) (payload : List ℕ) (tag : Tag) (count : ℕ) (s : Sends old payload tag count new) where
-  kept_payloads : (t : Tag) (entry : UnsettledMessage) → entry_at old.sender.unsettled t ≡ Some entry → entry_at new.sender.unsettled t ≡ Some entry
-  kept_payloads t entry h =
+  kept_payloads : (t : Tag) → IfSome (entry_at old.sender.unsettled t) (λ entry. entry_at new.sender.unsettled t ≡ Some entry)
+  kept_payloads t = IfSome-each (entry_at old.sender.unsettled t)
+      (λ entry h.
       ap (λ w. entry_at w.sender.unsettled t) s.world
       ∙ entry_at-put_other old.sender.unsettled (next_tag old.sender) t (new_entry 0 payload)
       (λ p. some_is_none (sym h ∙ ap (entry_at old.sender.unsettled) (p ∙ sym s.tagged) ∙ s.free))
-      ∙ h
+      ∙ h)
 
   FrontAt : Tag → Type 0
   FrontAt t = IsFront (held_in (entry_at old.deliveries t)) (held_in (entry_at new.deliveries t))
@@ -104,7 +115,7 @@ module _ (old new : World) (id : ℕ) (tag : Tag) (place : ℕ × ℕ) (whole : 
   pub Follows-arrives : Follows old new
   unfolding GrownAt
   Follows-arrives = record {
-    payloads = λ t entry h. ap (λ w. entry_at w.sender.unsettled t) a.world ∙ h;
+    payloads = λ t. IfSome-each (entry_at old.sender.unsettled t) (λ entry h. ap (λ w. entry_at w.sender.unsettled t) a.world ∙ h);
     held = λ t. subst (λ bytes. IsFront bytes (bytes_in (held_at new t))) (sym (held_in-at old t))
         (subst (λ bytes. IsFront (held_in (entry_at old.deliveries t)) bytes) (sym (held_in-at new t)) (by_tag GrownAt tag grown_here grown_there t));
   }
