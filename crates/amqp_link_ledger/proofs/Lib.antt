@@ -1,5 +1,6 @@
 pub mod CountLemmas
 pub mod FateLemmas
+pub mod LedgerLemmas
 pub mod ListSteps
 pub mod LoopLemmas
 pub mod MoveLemmas

@@ -5,5 +5,6 @@
 
 pub mod fate;
 pub mod laws;
+pub mod ledger;
 mod numbers;
 pub mod registrations;

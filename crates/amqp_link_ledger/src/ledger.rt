@@ -1,0 +1,134 @@
+//! A sender's link endpoint that keeps what became of each of its registrations (2.6.12, 2.6.13).
+//!
+//! Each pair that enters the unsettled map by a send or `put_back` is a registration, numbered from 0. Every
+//! call of the endpoint has its name here, and its answers. A call that changes the map changes the
+//! registrations with it. What that needs is allocated before the endpoint is called: a refused call makes
+//! no registration and resolves none.
+ghost use Rattle.std.specs.Prelude.{◌≡◌, map, slice_get, IfOk, IfErr};
+ghost use Rattle.std.specs.Option.{option_map, option_copied};
+ghost use Rattle.amqp_link_types.specs.Entries.{Entries, IsMap};
+ghost use Rattle.amqp_link_sender.specs.Senders.{is_pending};
+ghost use Rattle.amqp_link_ledger.specs.declared.fate.Fate.TheVariants.{Pending};
+ghost use Rattle.amqp_link_ledger.specs.Fates.{IsRecorded};
+
+mod entering;
+
+use crate::fate::Fate;
+use crate::registrations::Registrations;
+use amqp_link_core::endpoint::LinkExt;
+use amqp_link_core::endpoint::target::LinkTarget;
+use amqp_link_sender::sender_link::SenderLink;
+use amqp_link_types::types::DeliveryTag;
+use std::alloc::{AllocError, Global};
+use std::marker::Model;
+
+/// A sender's link endpoint, with the fate of each delivery that was registered with it.
+///
+/// A contract sees the endpoint, and the list of the tags with their fates. The tags of the pending
+/// registrations are distinct, and are exactly the keys of the endpoint's unsettled map.
+///
+/// The registrations are kept for good, so their memory grows with their number. The one of a tag is found
+/// by a hash: what a call costs for the registrations does not grow with that number.
+#[derive(Drop)]
+pub struct OutcomeLedger<T: LinkTarget> {
+    alloc: Global,
+    link: SenderLink<T>,
+    registrations: Registrations,
+}
+
+impl<T: LinkTarget> Model for OutcomeLedger<T> {
+    ghost use Rattle.std.specs.Coded.{codes};
+    ghost use Rattle.amqp_link_values.specs.contracts.fields.Fields as fields;
+    ghost use Rattle.amqp_link_ledger.specs.Fates.{IsRecorded};
+    ghost use Rattle.amqp_link_ledger.specs.Ledgers.{Ledger};
+
+    ghost Value = { Ledger T };
+
+    ghost coded = { Prim.hlevel (codes, fields.the_row.coded) };
+
+    ghost view = { λ ledger. record {
+      link = ledger.link;
+      records = ledger.registrations.records;
+    } };
+
+    ghost invariant = { λ ledger. IsRecorded ledger.link.unsettled ledger.registrations.records };
+}
+
+// Registers each of these tags, which are distinct, in their order.
+fn registrations_of<V>(
+    alloc: Global,
+    pairs: &[(DeliveryTag, V)],
+) -> Result<Registrations, AllocError>
+    requires { IsMap pairs.now }
+    ensures records { IfOk result (λ all. all.records ≡ map (λ entry. (entry.0, Pending)) pairs.now) }
+    ensures recorded { IfOk result (λ all. IsRecorded pairs.now all.records) }
+{
+    let mut all = Registrations::new(alloc);
+    for (tag, _) in pairs {
+        let reserved = match all.reserve(alloc, tag.as_bytes()) {
+            Ok(reserved) => reserved,
+            Err(refused) => {
+                drop(all);
+                return Err(refused);
+            }
+        };
+        all.register(reserved);
+    }
+    Ok(all)
+}
+
+impl<T: LinkTarget> OutcomeLedger<T> {
+    /// A ledger round this endpoint. Each delivery of its unsettled map is registered, in the order of the
+    /// map, and pending.
+    ///
+    /// Out of memory hands the endpoint back.
+    pub fn new(alloc: Global, link: SenderLink<T>) -> Result<OutcomeLedger<T>, SenderLink<T>>
+        ensures link { IfOk result (λ ledger. ledger.link ≡ link) }
+        ensures records { IfOk result (λ ledger.
+            ledger.records ≡ map (λ entry. (entry.0, Pending)) link.unsettled) }
+        ensures back { IfErr result (λ back. back ≡ link) }
+    {
+        let _distinct = link.unsettled().len();
+        let Ok(registrations) = registrations_of(alloc, link.unsettled().pairs()) else {
+            return Err(link);
+        };
+        Ok(OutcomeLedger {
+            alloc,
+            link,
+            registrations,
+        })
+    }
+
+    /// The endpoint. What changes it has its name at the ledger.
+    pub fn link(&self) -> &SenderLink<T>
+        ensures { result.now ≡ self.now.link }
+    {
+        &self.link
+    }
+
+    /// What became of registration `number`; `None` exactly past the last number.
+    pub fn fate(&self, number: usize) -> Option<&Fate>
+        ensures fate { option_copied result
+            ≡ option_map (λ entry. entry.1) (slice_get self.now.records number) }
+        ensures recorded { IsRecorded self.now.link.unsettled self.now.records }
+    {
+        self.registrations.fate(number)
+    }
+
+    /// Sets the greatest size of a frame in bytes, as `SenderLink::set_max_frame_size` does. Does not
+    /// allocate.
+    pub fn set_max_frame_size(&mut self, max_frame_size: u32)
+        ensures { self.new ≡ record self.old {
+          link = record self.old.link { max_frame_size = max_frame_size };
+        } }
+    {
+        self.link.set_max_frame_size(max_frame_size);
+    }
+
+    // Whether the delivery of a tag is pending.
+    fn is_pending(&self, tag: &DeliveryTag) -> bool
+        ensures { result ≡ is_pending self.now.link tag.now }
+    {
+        self.registrations.is_pending(tag)
+    }
+}

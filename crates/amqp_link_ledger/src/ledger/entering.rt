@@ -1,0 +1,109 @@
+//! Deliveries that are sent again or registered again, and such as are withdrawn (2.6.13).
+ghost use Rattle.std.specs.Prelude.{◌≡◌, ◌∷◌, [], IfOk, OnOk, OnErr, length};
+ghost use Rattle.amqp_link_types.specs.Entries.{entry_at, with_entry, without_entry};
+ghost use Rattle.amqp_link_sender.specs.Room.{payload_limit as limit_of_payload};
+ghost use Rattle.amqp_link_sender.specs.Split.{IsFewestPieces};
+ghost use Rattle.amqp_link_sender.specs.Senders.{IsSent, is_pending, unsettled_transfer_tests, HandsBackThenOutOfMemory};
+ghost use Rattle.amqp_link_ledger.specs.Fates.{Change, after};
+ghost use Rattle.amqp_link_ledger.specs.Ledgers.{HandsBackOrOutOfMemory};
+
+use crate::ledger::OutcomeLedger;
+use amqp_link_core::endpoint::target::LinkTarget;
+use amqp_link_types::delivery::UnsettledMessage;
+use amqp_link_types::frame::LinkFrame;
+use amqp_link_types::types::{DeliveryTag, LinkStateError, Payload, Transfer};
+
+impl<T: LinkTarget> OutcomeLedger<T> {
+    /// Takes the entry of a delivery back, if it is pending, as `SenderLink::withdraw` does. Its
+    /// registration is then withdrawn. Does not allocate.
+    pub fn withdraw(&mut self, tag: &DeliveryTag) -> Option<UnsettledMessage>
+        ensures entry { result ≡ entry_at self.old.link.unsettled tag.now }
+        ensures link { self.new.link ≡ record self.old.link {
+          unsettled = without_entry self.old.link.unsettled tag.now;
+        } }
+        ensures records { self.new.records ≡ after (Change.Withdraws tag.now) self.old.records }
+    {
+        let entry = self.link.withdraw(tag);
+        self.registrations.withdraw(tag);
+        entry
+    }
+
+    /// Registers the entry of a delivery again without sending it, as `SenderLink::put_back` does, so that
+    /// the next exchange resolves it. It is a registration with the next number.
+    ///
+    /// Refused in this order, with nothing changed and the entry handed back: `TagPending`; `OutOfMemory`.
+    pub fn put_back(
+        &mut self,
+        tag: DeliveryTag,
+        entry: UnsettledMessage,
+    ) -> Result<(), (LinkStateError, UnsettledMessage)>
+        ensures link { OnOk result (self.new.link ≡ record self.old.link {
+          unsettled = with_entry self.old.link.unsettled tag entry;
+        }) }
+        ensures records { OnOk result (self.new.records ≡ after (Change.Enters tag) self.old.records) }
+        ensures refused { HandsBackThenOutOfMemory result entry
+            ((is_pending self.old.link tag, LinkStateError.TagPending) ∷ []) }
+        ensures left { OnErr result (self.new ≡ self.old) }
+    {
+        if self.is_pending(&tag) {
+            drop(tag);
+            return Err((LinkStateError::TagPending, entry));
+        }
+        let Ok(reserved) = self.registrations.reserve(self.alloc, tag.as_bytes()) else {
+            drop(tag);
+            return Err((LinkStateError::OutOfMemory, entry));
+        };
+        match self.link.put_back(tag, entry) {
+            Ok(()) => {
+                self.registrations.register(reserved);
+                Ok(())
+            }
+            Err(refused) => {
+                drop(reserved);
+                Err(refused)
+            }
+        }
+    }
+
+    /// Sends the rest of a delivery with this transfer, and registers its entry, as
+    /// `SenderLink::send_unsettled_transfer` does. It is a registration with the next number.
+    ///
+    /// Refused with nothing changed and the entry handed back, in this order: `IllegalState` without input
+    /// handle; `TagPending`; `NoRoom`; `OutOfMemory`. Only `OutOfMemory` may come before the others.
+    pub fn send_unsettled_transfer(
+        &mut self,
+        transfer: Transfer,
+        rest: &Payload,
+        tag: DeliveryTag,
+        entry: UnsettledMessage,
+    ) -> Result<Vec<LinkFrame>, (LinkStateError, UnsettledMessage)>
+        ensures sent { IfOk result (λ frames. IsSent self.old.link transfer rest.now frames.items) }
+        ensures fewest { IfOk result (λ frames. IsFewestPieces rest.now
+            (limit_of_payload transfer self.old.link.max_frame_size) (length frames.items)) }
+        ensures link { OnOk result (self.new.link ≡ record self.old.link {
+          unsettled = with_entry self.old.link.unsettled tag entry;
+        }) }
+        ensures records { OnOk result (self.new.records ≡ after (Change.Enters tag) self.old.records) }
+        ensures refused { HandsBackOrOutOfMemory result entry
+            (unsettled_transfer_tests self.old.link transfer tag rest.now) }
+        ensures left { OnErr result (self.new ≡ self.old) }
+    {
+        let Ok(reserved) = self.registrations.reserve(self.alloc, tag.as_bytes()) else {
+            drop((transfer, tag));
+            return Err((LinkStateError::OutOfMemory, entry));
+        };
+        match self
+            .link
+            .send_unsettled_transfer(transfer, rest, tag, entry)
+        {
+            Ok(frames) => {
+                self.registrations.register(reserved);
+                Ok(frames)
+            }
+            Err(refused) => {
+                drop(reserved);
+                Err(refused)
+            }
+        }
+    }
+}
