@@ -1,4 +1,5 @@
 pub mod CountLemmas
+pub mod DisposeLemmas
 pub mod FateLemmas
 pub mod LedgerLemmas
 pub mod ListSteps

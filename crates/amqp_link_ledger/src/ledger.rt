@@ -11,7 +11,9 @@ ghost use Rattle.amqp_link_sender.specs.Senders.{is_pending};
 ghost use Rattle.amqp_link_ledger.specs.declared.fate.Fate.TheVariants.{Pending};
 ghost use Rattle.amqp_link_ledger.specs.Fates.{IsRecorded};
 
+mod closing;
 mod entering;
+mod incoming;
 
 use crate::fate::Fate;
 use crate::registrations::Registrations;

@@ -1,0 +1,125 @@
+//! Flows, transfers and dispositions that arrive at a ledger (2.6.7, 2.6.12, 2.7.6).
+ghost use Rattle.std.specs.Prelude.{◌≡◌, ◌+◌, ◌%◌, ◌^◌, Ok, Err, Some, IfOk, OnOk, OnErr, IsSome, MatchOption, is_some, true};
+ghost use Rattle.std.specs.Option.{option_map, option_to_list};
+ghost use Rattle.amqp_link_state.specs.Counts.{count_limit, credit_after, sender_after, sender_reply};
+ghost use Rattle.amqp_link_dispositions.specs.Ending.{ended_by, map_after_receiver_disposition};
+ghost use Rattle.amqp_link_sender.specs.SenderDisposes.{is_echoed};
+ghost use Rattle.amqp_link_ledger.specs.Fates.{Change, after};
+
+use crate::ledger::OutcomeLedger;
+use crate::registrations::Registrations;
+use amqp_link_core::endpoint::target::LinkTarget;
+use amqp_link_types::delivery::DeliveryOutcome;
+use amqp_link_types::frame::LinkFrame;
+use amqp_link_types::types::{
+    DeliveryNumber, DeliveryState, DeliveryTag, DispositionError, LinkFlow, LinkRelayError,
+    Payload, Transfer,
+};
+use amqp_link_values::copy::copy_of;
+use std::alloc::AllocError;
+
+// Resolves the pending registration of a tag, if there is an outcome.
+fn resolve_if_ended(
+    registrations: &mut Registrations,
+    tag: &DeliveryTag,
+    outcome: Option<DeliveryOutcome>,
+)
+    ensures { registrations.new.records ≡ after (Change.Resolves
+        (option_to_list (option_map (λ outcome. (tag.now, outcome)) outcome))) registrations.old.records }
+{
+    match outcome {
+        Some(outcome) => registrations.resolve(tag, outcome),
+        None => {}
+    }
+}
+
+impl<T: LinkTarget> OutcomeLedger<T> {
+    /// Takes a receiver's flow, as `SenderLink::on_incoming_flow` does, and returns the flow to send, if
+    /// there is one. The registrations stay.
+    ///
+    /// Refused with `UnattachedHandle`, and nothing changed, without output handle. Does not allocate.
+    pub fn on_incoming_flow(&mut self, flow: LinkFlow) -> Result<Option<LinkFlow>, LinkRelayError>
+        ensures answer { MatchOption self.old.link.output_handle
+            (result ≡ Err LinkRelayError.UnattachedHandle)
+            (λ handle. result ≡ Ok (sender_reply flow self.old.link.flow_state handle)) }
+        ensures link { OnOk result (self.new.link
+            ≡ record self.old.link { flow_state = sender_after flow self.old.link.flow_state }) }
+        ensures limit { OnOk result (count_limit self.new.link.flow_state
+            ≡ (self.old.link.flow_state.delivery_count + credit_after flow self.old.link.flow_state) % 2 ^ 32) }
+        ensures records { self.new.records ≡ self.old.records }
+        ensures left { OnErr result (self.new ≡ self.old) }
+    {
+        self.link.on_incoming_flow(flow)
+    }
+
+    /// A transfer that arrives at a sender is always refused with `TransferFrameToSender`, since only a
+    /// sender sends transfers (2.7.5). Does not allocate.
+    pub fn on_incoming_transfer(
+        &self,
+        transfer: Transfer,
+        payload: Payload,
+    ) -> Result<(LinkFrame, Option<(DeliveryNumber, DeliveryTag)>), LinkRelayError>
+        ensures { result ≡ Err LinkRelayError.TransferFrameToSender }
+    {
+        self.link.on_incoming_transfer(transfer, payload)
+    }
+
+    /// Takes what the receiver states of a delivery, as `SenderLink::on_incoming_disposition` does. If that
+    /// ends the delivery, its registration is resolved with the outcome that is returned.
+    ///
+    /// Refused with `OutOfMemory`, and nothing changed, only if it ends a pending delivery with a state,
+    /// which is copied.
+    pub fn on_incoming_disposition(
+        &mut self,
+        settled: bool,
+        state: Option<DeliveryState>,
+        delivery_tag: &DeliveryTag,
+    ) -> Result<(bool, Option<(DeliveryTag, DeliveryOutcome)>), DispositionError>
+        ensures echo { IfOk result (λ answer. answer.0 ≡ is_echoed settled self.old.link.rcv_settle_mode) }
+        ensures ended { IfOk result (λ answer.
+            answer.1 ≡ ended_by settled state delivery_tag.now self.old.link.unsettled) }
+        ensures link { OnOk result (self.new.link ≡ record self.old.link {
+          unsettled = map_after_receiver_disposition settled state delivery_tag.now self.old.link.unsettled;
+        }) }
+        ensures records { OnOk result (self.new.records ≡ after (Change.Resolves
+            (option_to_list (ended_by settled state delivery_tag.now self.old.link.unsettled))) self.old.records) }
+        ensures memory { OnErr result ((is_some state ≡ true)
+            × IsSome (ended_by settled state delivery_tag.now self.old.link.unsettled)) }
+        ensures left { OnErr result (self.new ≡ self.old) }
+    {
+        let outcome = match self.copy_of_ended(settled, &state, delivery_tag) {
+            Ok(outcome) => outcome,
+            Err(refused) => {
+                drop(state);
+                return Err(refused.into());
+            }
+        };
+        let answer = self
+            .link
+            .on_incoming_disposition(settled, state, delivery_tag);
+        resolve_if_ended(&mut self.registrations, delivery_tag, outcome);
+        Ok(answer)
+    }
+
+    // A copy of the outcome with which a disposition ends the delivery of this tag, if it does.
+    fn copy_of_ended(
+        &self,
+        settled: bool,
+        state: &Option<DeliveryState>,
+        tag: &DeliveryTag,
+    ) -> Result<Option<DeliveryOutcome>, AllocError>
+        ensures copy { IfOk result (λ copy. option_map (λ outcome. (tag.now, outcome)) copy
+            ≡ ended_by settled state.now tag.now self.now.link.unsettled) }
+        ensures memory { OnErr result ((is_some state.now ≡ true)
+            × IsSome (ended_by settled state.now tag.now self.now.link.unsettled)) }
+    {
+        let is_terminal = match state {
+            Some(state) => state.is_terminal(),
+            None => false,
+        };
+        if (!settled && !is_terminal) || !self.is_pending(tag) {
+            return Ok(None);
+        }
+        Ok(Some(Ok(copy_of(state)?)))
+    }
+}
