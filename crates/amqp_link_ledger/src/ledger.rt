@@ -12,6 +12,8 @@ ghost use Rattle.amqp_link_ledger.specs.declared.fate.Fate.TheVariants.{Pending}
 ghost use Rattle.amqp_link_ledger.specs.Fates.{IsRecorded};
 
 mod closing;
+mod detach;
+mod disposing;
 mod entering;
 mod incoming;
 

@@ -19,7 +19,7 @@ use amqp_link_values::copy::copy_of;
 use std::alloc::AllocError;
 
 // Resolves the pending registration of a tag, if there is an outcome.
-fn resolve_if_ended(
+pub(super) fn resolve_if_ended(
     registrations: &mut Registrations,
     tag: &DeliveryTag,
     outcome: Option<DeliveryOutcome>,

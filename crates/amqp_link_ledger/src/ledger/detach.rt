@@ -1,0 +1,50 @@
+//! A ledger is detached (2.6.5, 2.6.6). Its unsettled deliveries stay, and so do the registrations.
+use crate::ledger::OutcomeLedger;
+use amqp_link_core::endpoint::LinkDetach;
+use amqp_link_core::endpoint::target::LinkTarget;
+use amqp_link_types::delivery::UnsettledMessage;
+use amqp_link_types::frame::LinkFrame;
+use amqp_link_types::types::unsettled_map::UnsettledMap;
+use amqp_link_types::types::{ApplyRemoteDetachError, Detach, DetachError, Error};
+
+impl<T: LinkTarget> LinkDetach for OutcomeLedger<T> {
+    ghost use Rattle.std.specs.Prelude.{refl};
+    ghost use Rattle.amqp_link_types.specs.declared.types.errors.DetachError.TheVariants.{IllegalState};
+    ghost use Rattle.amqp_link_sender.specs.Detaching.{reply_error};
+    ghost use Rattle.amqp_link_sender.specs.SenderAttaches.{sender_shown};
+
+    type DetachError = DetachError;
+
+    type Unsettled = UnsettledMap<UnsettledMessage>;
+
+    ghost shown = { λ ledger. sender_shown T.sent_as ledger.link };
+
+    ghost moved = { λ ledger s h. record ledger {
+      link = record ledger.link { local_state = s; output_handle = h };
+    } };
+
+    ghost illegal_state = { IllegalState };
+
+    ghost replied = { reply_error };
+
+    ghost shown_moved = { λ ledger s h. refl };
+
+    fn on_detach_reply(&mut self, detach: Detach) -> Result<(), DetachError> {
+        self.link.on_detach_reply(detach)
+    }
+
+    fn send_detach(
+        &mut self,
+        closed: bool,
+        error: Option<Error>,
+    ) -> Result<LinkFrame, DetachError> {
+        self.link.send_detach(closed, error)
+    }
+
+    fn apply_remote_detach_outcome(
+        &mut self,
+        detach: Detach,
+    ) -> Result<(), ApplyRemoteDetachError> {
+        self.link.apply_remote_detach_outcome(detach)
+    }
+}
