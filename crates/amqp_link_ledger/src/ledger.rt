@@ -1,9 +1,8 @@
 //! A sender's link endpoint that keeps what became of each of its registrations (2.6.12, 2.6.13).
 //!
-//! Each pair that enters the unsettled map by a send or `put_back` is a registration, numbered from 0. Every
-//! call of the endpoint has its name here, and its answers. A call that changes the map changes the
-//! registrations with it. What that needs is allocated before the endpoint is called: a refused call makes
-//! no registration and resolves none.
+//! Each pair that enters the unsettled map is a registration, numbered from 0. A call has the endpoint's name
+//! and its answers; one that changes the map changes the registrations with it. What that needs is allocated
+//! before the endpoint is called: a refused call makes no registration and resolves none.
 ghost use Rattle.std.specs.Prelude.{◌≡◌, map, slice_get, IfOk, IfErr};
 ghost use Rattle.std.specs.Option.{option_map, option_copied};
 ghost use Rattle.amqp_link_types.specs.Entries.{Entries, IsMap};
@@ -16,6 +15,8 @@ mod detach;
 mod disposing;
 mod entering;
 mod incoming;
+#[cfg(test)]
+mod tests;
 
 use crate::fate::Fate;
 use crate::registrations::Registrations;
@@ -103,7 +104,7 @@ impl<T: LinkTarget> OutcomeLedger<T> {
         })
     }
 
-    /// The endpoint. What changes it has its name at the ledger.
+    /// The endpoint, for reading.
     pub fn link(&self) -> &SenderLink<T>
         ensures { result.now ≡ self.now.link }
     {

@@ -1,5 +1,5 @@
 //! Detaches that arrive at a ledger, and what becomes of its deliveries as the link is closed (2.6.6).
-ghost use Rattle.std.specs.Prelude.{◌≡◌, ◌∷◌, ◌&&◌, [], map, None, Err, IfOk, OnOk, OnErr, is_none, if◌then◌else◌};
+ghost use Rattle.std.specs.Prelude.{◌≡◌, ◌⊎◌, ◌∷◌, ◌&&◌, ◌||◌, [], true, map, None, Err, IfOk, IfErr, OnOk, OnErr, is_none, is_some, if◌then◌else◌};
 ghost use Rattle.std.specs.Option.{option_map};
 ghost use Rattle.amqp_link_types.specs.Refusals.{AnswersOrOutOfMemory};
 ghost use Rattle.amqp_link_dispositions.specs.Ending.{closed_for, all_closed, reply_of};
@@ -29,9 +29,9 @@ fn closed_outcome(error: &Option<Error>) -> Result<DeliveryOutcome, AllocError>
     }
 }
 
-/// The outcome of each of these deliveries as the link is closed, by a detach with this error: one copy
-/// each, in their order.
-pub fn closed_outcomes(
+// The outcome of each of these deliveries as the link is closed, by a detach with this error: one copy
+// each, in their order.
+fn closed_outcomes(
     alloc: Global,
     error: &Option<Error>,
     pairs: &[(DeliveryTag, UnsettledMessage)],
@@ -79,7 +79,8 @@ impl<T: LinkTarget> OutcomeLedger<T> {
     /// ends as by `fail_pending_unsettled`; else the registrations stay.
     ///
     /// Refused with nothing changed: `UnattachedHandle` if the peer initiated it and there is no output
-    /// handle; `OutOfMemory`, which may come before that.
+    /// handle; `OutOfMemory`, which may come before that, and only if the peer initiated it and it
+    /// closes the link or carries an error.
     pub fn on_incoming_detach(
         &mut self,
         detach: &Detach,
@@ -97,6 +98,9 @@ impl<T: LinkTarget> OutcomeLedger<T> {
             then all_closed detach.now.error self.old.link.unsettled else [])) self.old.records) }
         ensures refused { AnswersOrOutOfMemory LinkRelayError.OutOfMemory result
             ((remote_initiated && is_none self.old.link.output_handle, LinkRelayError.UnattachedHandle) ∷ []) }
+        ensures memory { IfErr result (λ error. (error ≡ LinkRelayError.UnattachedHandle)
+            ⊎ ((error ≡ LinkRelayError.OutOfMemory) × (remote_initiated ≡ true)
+            × ((detach.now.closed || is_some detach.now.error) ≡ true))) }
         ensures left { OnErr result (self.new ≡ self.old) }
     {
         if !is_closing(remote_initiated, detach.closed) {

@@ -13,7 +13,7 @@ use amqp_link_types::delivery::DeliveryOutcome;
 use amqp_link_types::frame::LinkFrame;
 use amqp_link_types::types::{
     DeliveryNumber, DeliveryState, DeliveryTag, DispositionError, LinkFlow, LinkRelayError,
-    Payload, Transfer,
+    Payload, Transfer, has_ended,
 };
 use amqp_link_values::copy::copy_of;
 use std::alloc::AllocError;
@@ -113,11 +113,7 @@ impl<T: LinkTarget> OutcomeLedger<T> {
         ensures memory { OnErr result ((is_some state.now ≡ true)
             × IsSome (ended_by settled state.now tag.now self.now.link.unsettled)) }
     {
-        let is_terminal = match state {
-            Some(state) => state.is_terminal(),
-            None => false,
-        };
-        if (!settled && !is_terminal) || !self.is_pending(tag) {
+        if (!settled && !has_ended(state)) || !self.is_pending(tag) {
             return Ok(None);
         }
         Ok(Some(Ok(copy_of(state)?)))
