@@ -15,6 +15,10 @@ pub use Rattle.amqp_link_dispositions.specs.Keeping
 pub use Rattle.amqp_link_dispositions.specs.Listed
 pub use Rattle.amqp_link_dispositions.specs.Said
 pub use Rattle.amqp_link_exchange.specs.Exchanges
+pub use Rattle.amqp_link_ledger.specs.Exchanging
+pub use Rattle.amqp_link_ledger.specs.Fates
+pub use Rattle.amqp_link_ledger.specs.Ledgers
+pub use Rattle.amqp_link_ledger.specs.Sends
 pub use Rattle.amqp_link_payloads.specs.Bodies
 pub use Rattle.amqp_link_payloads.specs.Header
 pub use Rattle.amqp_link_payloads.specs.Pieces

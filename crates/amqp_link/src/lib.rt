@@ -15,6 +15,8 @@ pub use amqp_link_core::incomplete_transfer::IncompleteTransfer;
 pub use amqp_link_core::link_parts::LinkParts;
 pub use amqp_link_core::resumption::{Resolution, ResumingDelivery, resume_delivery};
 pub use amqp_link_exchange::ResumingDeliveries;
+pub use amqp_link_ledger::fate::Fate;
+pub use amqp_link_ledger::ledger::OutcomeLedger;
 pub use amqp_link_payloads::position::{place_of, position_of};
 pub use amqp_link_receiver::receiver_link::{
     ReceiverAttachExchange, ReceiverLink, get_max_message_size,

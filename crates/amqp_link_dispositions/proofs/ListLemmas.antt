@@ -7,7 +7,7 @@ use Rattle.amqp_link_runs.proofs.OrderLemmas.{sorted-map}
 use Rattle.amqp_link_types.specs.declared.types.delivery_state.DeliveryState.{DeliveryState}
 use Rattle.amqp_link_types.specs.Entries.{Tag, Entries, entry_at, without_entry, changed_at}
 use Rattle.amqp_link_types.proofs.MapLemmas.{missing_from_lookup, changed-nothing, changed-twice}
-use Rattle.amqp_link_dispositions.specs.Changes.{Change, with_states}
+use Rattle.amqp_link_dispositions.specs.Changes.{StateChange, with_states}
 
 -- pairs are sorted by their numbers; what is seen of them is sorted alike
 module _ {T A : Type 0} (see : T → A) where
@@ -42,7 +42,7 @@ module _ {T A : Type 0} (see : T → A) where
 -- one state that is set of several deliveries in turn is set of all
 pub with_states_same : {V : Type 0} (set : V → Option DeliveryState → V) (es : Entries V) (state : DeliveryState) (tags : List Tag)
     → ((v : V) → set (set v (Some state)) (Some state) ≡ set v (Some state))
-    → with_states set es (map {B = Change} (λ tag. (tag, state)) tags) ≡ changed_at (λ v. set v (Some state)) tags es
+    → with_states set es (map {B = StateChange} (λ tag. (tag, state)) tags) ≡ changed_at (λ v. set v (Some state)) tags es
 with_states_same set es state [] again = sym (changed-nothing (λ v. set v (Some state)) es)
 with_states_same set es state (t ∷ tags) again =
     with_states_same set (changed_at (λ v. set v (Some state)) (t ∷ []) es) state tags again

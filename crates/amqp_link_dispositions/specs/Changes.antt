@@ -4,10 +4,10 @@ use Rattle.amqp_link_types.specs.declared.types.delivery_state.DeliveryState.{De
 use Rattle.amqp_link_types.specs.Entries.{Tag, Entries, changed_at}
 
 -- a tag, and the state that is set there
-abbrev pub Change : Type 0
-Change = Tag × DeliveryState
+abbrev pub StateChange : Type 0
+StateChange = Tag × DeliveryState
 
 -- these states are set, where something is kept
-abbrev pub with_states : {V : Type 0} → (V → Option DeliveryState → V) → Entries V → List Change → Entries V
+abbrev pub with_states : {V : Type 0} → (V → Option DeliveryState → V) → Entries V → List StateChange → Entries V
 with_states set es [] = es
 with_states set es (c ∷ cs) = with_states set (changed_at (λ value. set value (Some c.1)) (c.0 ∷ []) es) cs

@@ -2,7 +2,7 @@
 //! needed is made before.
 ghost use Rattle.std.specs.Prelude.{◌≡◌, ◌+◌, ◌≤◌, ◌++◌, IfOk, length, map, min, vec_len, vec_capacity};
 ghost use Rattle.amqp_link_types.specs.Entries.{without_entries, IsMap};
-ghost use Rattle.amqp_link_dispositions.specs.Changes.{Change, with_states};
+ghost use Rattle.amqp_link_dispositions.specs.Changes.{StateChange, with_states};
 ghost use Rattle.amqp_link_dispositions.specs.Ending.{settled_of};
 
 use amqp_link_types::delivery::{Outcomes, UnsettledMessage};
@@ -16,8 +16,8 @@ pub(crate) fn changes_to<'a>(
     tags: &[&'a DeliveryTag],
     state: &DeliveryState,
 ) -> Result<Vec<(&'a DeliveryTag, DeliveryState)>, AllocError>
-    ensures { IfOk result (λ changes. map {B = Change} (λ change. (change.0.now, change.1)) changes.items
-        ≡ map {B = Change} (λ tag. (tag, state.now)) (map (λ tag. tag.now) tags.now)) }
+    ensures { IfOk result (λ changes. map {B = StateChange} (λ change. (change.0.now, change.1)) changes.items
+        ≡ map {B = StateChange} (λ tag. (tag, state.now)) (map (λ tag. tag.now) tags.now)) }
 {
     let mut changes = Vec::with_capacity(alloc, tags.len())?;
     for tag in tags {
@@ -32,7 +32,7 @@ pub(crate) fn set_each<V: KeepsState>(
     changes: Vec<(&DeliveryTag, DeliveryState)>,
 )
     ensures { unsettled.new ≡ with_states V.with_state unsettled.old
-        (map {B = Change} (λ change. (change.0.now, change.1)) changes.entry.items) }
+        (map {B = StateChange} (λ change. (change.0.now, change.1)) changes.entry.items) }
 {
     for (tag, state) in changes {
         unsettled.set_state(tag, Some(state));

@@ -1,7 +1,7 @@
 //! What a receiver says of deliveries, and what it keeps of them then.
 ghost use Rattle.std.specs.Prelude.{◌≡◌, ◌∷◌, [], false, not, filter, map, is_some, IsSome, None, Some, IfOk, OnOk, OnErr, if◌then◌else◌};
 ghost use Rattle.amqp_link_types.specs.Entries.{entry_at};
-ghost use Rattle.amqp_link_dispositions.specs.Changes.{Change};
+ghost use Rattle.amqp_link_dispositions.specs.Changes.{StateChange};
 ghost use Rattle.amqp_link_dispositions.specs.Keeping.{is_settled_one, tags_of, after_dispositions};
 ghost use Rattle.amqp_link_dispositions.specs.Keeping.{said_of_one, after_one, map_after_sender_disposition};
 ghost use Rattle.amqp_link_dispositions.specs.Listed.{kept_in_order as kept_by_number};
@@ -210,8 +210,8 @@ fn planned<'a>(
         (kept_by_number unsettled.now infos.now) plan.frames.items) }
     ensures settled { IfOk result (λ plan. map (λ tag. tag.now) plan.settled.items
         ≡ tags_of (filter (is_settled_one how.given how.own) (kept_by_number unsettled.now infos.now))) }
-    ensures changes { IfOk result (λ plan. map {B = Change} (λ change. (change.0.now, change.1)) plan.changes.items
-        ≡ map {B = Change} (λ tag. (tag, state.now)) (tags_of (filter (λ info. not (is_settled_one how.given how.own info))
+    ensures changes { IfOk result (λ plan. map {B = StateChange} (λ change. (change.0.now, change.1)) plan.changes.items
+        ≡ map {B = StateChange} (λ tag. (tag, state.now)) (tags_of (filter (λ info. not (is_settled_one how.given how.own info))
         (kept_by_number unsettled.now infos.now)))) }
 {
     let kept = kept_in_order(alloc, unsettled, infos)?;

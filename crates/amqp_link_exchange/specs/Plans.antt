@@ -58,8 +58,8 @@ resolved_by _ _ = []
 abbrev pub resumed_by : Entries UnsettledMessage → List Step → Entries ResumingDelivery
 resumed_by own steps = filter_map to_resume (resolved_by own steps)
 
-abbrev pub ended_by : Entries UnsettledMessage → List Step → List Ended
-ended_by own steps = filter_map to_return (resolved_by own steps)
+abbrev pub ended_by_steps : Entries UnsettledMessage → List Step → List Ended
+ended_by_steps own steps = filter_map to_return (resolved_by own steps)
 
 -- how many of the steps have an outcome, and how many have none
 abbrev pub ended_count : List Step → ℕ

@@ -5,7 +5,7 @@ ghost use Rattle.amqp_link_core.specs.Attaching.{States};
 ghost use Rattle.amqp_link_core.specs.Resuming.{does_carry_tag};
 ghost use Rattle.amqp_link_exchange.specs.Exchanges.{deliveries_to_resume, outcomes_returned};
 ghost use Rattle.amqp_link_exchange.specs.Plans.{Pairwise, IsStepFor, IsPlanOf, IsResolvable, IsProgress};
-ghost use Rattle.amqp_link_exchange.specs.Plans.{resumed_by, ended_by, ended_count, resumed_count};
+ghost use Rattle.amqp_link_exchange.specs.Plans.{resumed_by, ended_by_steps, ended_count, resumed_count};
 
 use crate::resuming::ResumingDeliveries;
 use amqp_link_core::resumption::{
@@ -212,7 +212,7 @@ fn copies_by(
     steps: &[Step],
 ) -> Result<Vec<DeliveryOutcome>, AllocError>
     requires { length steps.now ≡ length pairs.now }
-    ensures { IfOk result (λ copies. copies.items ≡ map (λ ended. ended.1) (ended_by pairs.now steps.now)) }
+    ensures { IfOk result (λ copies. copies.items ≡ map (λ ended. ended.1) (ended_by_steps pairs.now steps.now)) }
 {
     let mut copies = Vec::new(alloc);
     for (i, (_, entry)) in pairs.iter().enumerate() {
@@ -271,7 +271,7 @@ fn resolve_each(
     requires list_room { vec_len list.old + resumed_count steps.items ≤ vec_capacity list.old }
     requires outcome_room { vec_len outcomes.old + ended_count steps.items ≤ vec_capacity outcomes.old }
     ensures list { list.new.items ≡ list.old.items ++ resumed_by pairs.items steps.items }
-    ensures outcomes { outcomes.new.items ≡ outcomes.old.items ++ ended_by pairs.items steps.items }
+    ensures outcomes { outcomes.new.items ≡ outcomes.old.items ++ ended_by_steps pairs.items steps.items }
     ensures capacity { vec_capacity list.old ≤ vec_capacity list.new }
 {
     let mut steps = steps.into_iter();
@@ -296,7 +296,7 @@ fn resolve_one(
     requires list_room { vec_len list.old + resumed_count (step ∷ []) ≤ vec_capacity list.old }
     requires outcome_room { vec_len outcomes.old + ended_count (step ∷ []) ≤ vec_capacity outcomes.old }
     ensures list { list.new.items ≡ list.old.items ++ resumed_by ((tag, entry) ∷ []) (step ∷ []) }
-    ensures outcomes { outcomes.new.items ≡ outcomes.old.items ++ ended_by ((tag, entry) ∷ []) (step ∷ []) }
+    ensures outcomes { outcomes.new.items ≡ outcomes.old.items ++ ended_by_steps ((tag, entry) ∷ []) (step ∷ []) }
     ensures list_capacity { vec_capacity list.old ≤ vec_capacity list.new }
     ensures outcome_capacity { vec_capacity outcomes.old ≤ vec_capacity outcomes.new }
 {

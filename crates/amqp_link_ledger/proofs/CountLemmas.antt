@@ -10,7 +10,7 @@ use Rattle.amqp_link_types.specs.Entries.{Tag, Entries, entry_at}
 use Rattle.amqp_link_types.proofs.MapLemmas.{same_tag, other_tag}
 use Rattle.amqp_link_ledger.specs.declared.fate.Fate.{Fate}
 use Rattle.amqp_link_ledger.specs.declared.fate.Fate.TheVariants.{Pending, Withdrawn, HandedOut, Resolved}
-use Rattle.amqp_link_ledger.specs.Fates.{Records, fates_of, is_pending, moved, with_fates, registered, pending_count}
+use Rattle.amqp_link_ledger.specs.Fates.{Records, fates_of, is_pending_fate, fate_given, with_fates, registered, pending_count}
 use Rattle.amqp_link_ledger.proofs.ListSteps.{some_is, some_is_none, nothing_more, by_test, tag_is, is_tag}
 use Rattle.amqp_link_ledger.proofs.FateLemmas.{IsPendingAt, IsNowhere, pending_is, no_first, one_less}
 
@@ -29,20 +29,20 @@ fates_registered_other tag other records n =
     ∙ nothing_more (fates_of other records)
 
 -- each fate of a tag moves by what is given for the tag
-pub fates_given : (tag : Tag) (given : Entries Fate) (records : Records) → fates_of tag (with_fates given records) ≡ map (moved (entry_at given tag)) (fates_of tag records)
+pub fates_given : (tag : Tag) (given : Entries Fate) (records : Records) → fates_of tag (with_fates given records) ≡ map (fate_given (entry_at given tag)) (fates_of tag records)
 fates_given tag given [] = refl
 fates_given tag given (r ∷ records) =
     let fates : List (Tag × Fate) → List Fate = λ l. map (λ (r : Tag × Fate). r.1) l in
     let new = filter (λ (r : Tag × Fate). bytes_eq tag r.0) (with_fates given records) in
     let old = filter (λ (r : Tag × Fate). bytes_eq tag r.0) records in
-    elim (bytes_eq tag r.0) as (λ b. (bytes_eq tag r.0 ≡ b) → fates (cond b ((r.0, moved (entry_at given r.0) r.1) ∷ new) new) ≡ map (moved (entry_at given tag)) (fates (cond b (r ∷ old) old))) [
+    elim (bytes_eq tag r.0) as (λ b. (bytes_eq tag r.0 ≡ b) → fates (cond b ((r.0, fate_given (entry_at given r.0) r.1) ∷ new) new) ≡ map (fate_given (entry_at given tag)) (fates (cond b (r ∷ old) old))) [
       | true ↦ λ h.
           let same : r.0 ≡ tag = sym ((bytes_eq-Decides tag r.0).0 h) in
-          ap (λ t. moved (entry_at given t) r.1 ∷ fates new) same ∙ ap (λ l. moved (entry_at given tag) r.1 ∷ l) (fates_given tag given records)
+          ap (λ t. fate_given (entry_at given t) r.1 ∷ fates new) same ∙ ap (λ l. fate_given (entry_at given tag) r.1 ∷ l) (fates_given tag given records)
       | false ↦ λ h. fates_given tag given records
     ] refl
 
-pub none_given : (fates : List Fate) → map (moved None) fates ≡ fates
+pub none_given : (fates : List Fate) → map (fate_given None) fates ≡ fates
 none_given [] = refl
 none_given (fate ∷ fates) = ap (λ l. fate ∷ l) (none_given fates)
 
@@ -50,17 +50,17 @@ none_given (fate ∷ fates) = ap (λ l. fate ∷ l) (none_given fates)
 
 -- the count as the length of those that are pending
 pub left : List Fate → List Fate
-left fates = filter is_pending fates
+left fates = filter is_pending_fate fates
 
 pub count_is : (tag : Tag) (records : Records) → pending_count tag records ≡ length (left (fates_of tag records))
 unfolding left
-count_is tag records = sym (length-filter is_pending (fates_of tag records))
+count_is tag records = sym (length-filter is_pending_fate (fates_of tag records))
 
 -- a given fate that is not pending leaves none
-pub left_moved : (fate : Fate) (fates : List Fate) → is_pending fate ≡ false → left (map (moved (Some fate)) fates) ≡ []
+pub left_moved : (fate : Fate) (fates : List Fate) → is_pending_fate fate ≡ false → left (map (fate_given (Some fate)) fates) ≡ []
 unfolding left
 left_moved fate [] is = refl
-left_moved fate (Pending ∷ fates) is = ap (λ b. cond b (fate ∷ filter is_pending (map (moved (Some fate)) fates)) (filter is_pending (map (moved (Some fate)) fates))) is ∙ left_moved fate fates is
+left_moved fate (Pending ∷ fates) is = ap (λ b. cond b (fate ∷ filter is_pending_fate (map (fate_given (Some fate)) fates)) (filter is_pending_fate (map (fate_given (Some fate)) fates))) is ∙ left_moved fate fates is
 left_moved fate (Withdrawn ∷ fates) is = left_moved fate fates is
 left_moved fate (HandedOut ∷ fates) is = left_moved fate fates is
 left_moved fate (Resolved outcome ∷ fates) is = left_moved fate fates is
@@ -69,23 +69,23 @@ pub count-registered : (tag : Tag) (records : Records) → pending_count tag (re
 unfolding left
 count-registered tag records =
     count_is tag (registered tag records)
-    ∙ ap (λ l. length (filter is_pending l)) (fates_registered tag records)
-    ∙ ap length (filter-append is_pending (fates_of tag records) (Pending ∷ []))
+    ∙ ap (λ l. length (filter is_pending_fate l)) (fates_registered tag records)
+    ∙ ap length (filter-append is_pending_fate (fates_of tag records) (Pending ∷ []))
     ∙ length-append (left (fates_of tag records)) (Pending ∷ [])
     ∙ ap (λ n. n + 1) (sym (count_is tag records))
 
 pub count-registered_other : (tag other : Tag) (records : Records) → other ≢ tag → pending_count other (registered tag records) ≡ pending_count other records
-count-registered_other tag other records n = ap (count_by is_pending) (fates_registered_other tag other records n)
+count-registered_other tag other records n = ap (count_by is_pending_fate) (fates_registered_other tag other records n)
 
-pub count-given : (tag : Tag) (given : Entries Fate) (records : Records) (fate : Fate) → entry_at given tag ≡ Some fate → is_pending fate ≡ false → pending_count tag (with_fates given records) ≡ 0
+pub count-given : (tag : Tag) (given : Entries Fate) (records : Records) (fate : Fate) → entry_at given tag ≡ Some fate → is_pending_fate fate ≡ false → pending_count tag (with_fates given records) ≡ 0
 count-given tag given records fate at is =
     count_is tag (with_fates given records)
-    ∙ ap (λ l. length (left l)) (fates_given tag given records ∙ ap (λ o. map (moved o) (fates_of tag records)) at)
+    ∙ ap (λ l. length (left l)) (fates_given tag given records ∙ ap (λ o. map (fate_given o) (fates_of tag records)) at)
     ∙ ap length (left_moved fate (fates_of tag records) is)
 
 pub count-not_given : (tag : Tag) (given : Entries Fate) (records : Records) → entry_at given tag ≡ None → pending_count tag (with_fates given records) ≡ pending_count tag records
 count-not_given tag given records at =
-    ap (count_by is_pending) (fates_given tag given records ∙ ap (λ o. map (moved o) (fates_of tag records)) at ∙ none_given (fates_of tag records))
+    ap (count_by is_pending_fate) (fates_given tag given records ∙ ap (λ o. map (fate_given o) (fates_of tag records)) at ∙ none_given (fates_of tag records))
 
 -- ---- the count, and where the tag is pending
 
@@ -95,7 +95,7 @@ module _ (tag : Tag) (r : Tag × Fate) (records : Records) where
   unfolding left
   front_skipped n =
       elim (bytes_eq tag r.0) as (λ b. (bytes_eq tag r.0 ≡ b) → left (map (λ (r : Tag × Fate). r.1) (cond b (r ∷ filter (λ r. bytes_eq tag r.0) records) (filter (λ r. bytes_eq tag r.0) records))) ≡ left (fates_of tag records)) [
-        | true ↦ λ h. by_test (is_pending r.1)
+        | true ↦ λ h. by_test (is_pending_fate r.1)
             (λ p. absurd (n (sym (tag_is tag r.0 h)) (pending_is r.1 p)))
             (λ p. ap (λ b. cond b (r.1 ∷ left (fates_of tag records)) (left (fates_of tag records))) p)
         | false ↦ λ h. refl
@@ -105,7 +105,7 @@ module _ (tag : Tag) (r : Tag × Fate) (records : Records) where
   unfolding left
   front_counted same pending =
       ap (λ b. left (map (λ (r : Tag × Fate). r.1) (cond b (r ∷ filter (λ r. bytes_eq tag r.0) records) (filter (λ r. bytes_eq tag r.0) records)))) (is_tag tag r.0 (sym same))
-      ∙ ap (λ b. cond b (r.1 ∷ left (fates_of tag records)) (left (fates_of tag records))) (ap is_pending pending)
+      ∙ ap (λ b. cond b (r.1 ∷ left (fates_of tag records)) (left (fates_of tag records))) (ap is_pending_fate pending)
 
 none_left : (tag : Tag) (records : Records) → IsNowhere tag records → left (fates_of tag records) ≡ []
 unfolding left

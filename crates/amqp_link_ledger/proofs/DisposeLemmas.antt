@@ -13,9 +13,7 @@ use Rattle.amqp_link_types.specs.declared.types.delivery_state.DeliveryState.{De
 use Rattle.amqp_link_types.specs.declared.types.errors.LinkStateError.{LinkStateError}
 use Rattle.amqp_link_types.specs.Entries.{Tag, Entries, entry_at, without_entry, changed_at}
 use Rattle.amqp_link_types.proofs.MapLemmas.{IsMap-removed, entry_at-removed}
-use Rattle.amqp_link_dispositions.specs.Ending.{does_end, message_with_state, ended_by, map_after_receiver_disposition, all_closed, closed_for, disposed, ended_of}
-use Rattle.amqp_link_sender.specs.Senders.{Sender, settles}
-use Rattle.amqp_link_sender.specs.SenderDisposes.{ended_at, after_disposing}
+use Rattle.amqp_link_dispositions.specs.Ending.{does_end, message_with_state, ended_by, map_after_receiver_disposition, all_closed, closed_for}
 use Rattle.amqp_link_ledger.specs.Fates.{Records, Resolves, after, IsRecorded}
 use Rattle.amqp_link_ledger.proofs.ListSteps.{by_test, tag_is, entry_at-map, is_some-option_map}
 use Rattle.amqp_link_ledger.proofs.RecordLemmas.{IsRecorded-changed, IsRecorded-resolves, IsRecorded-resolves_all, resolves-none}
@@ -87,23 +85,3 @@ module _ (why : Option Error) where
       ∙ ap (λ l. l ++ Err (closed_for why) ∷ []) before
       ∙ sym (one_closed (take i es) (get_or es i e))
       ∙ sym (ap outcomes_closed (take_more es i e within))
-
--- the sender settles one delivery, or states something of it
-module _ (m : Entries UnsettledMessage) (records : Records) (h : IsRecorded m records) where
-  pub recorded-disposed : (settled : Bool) (state : DeliveryState) (tag : Tag)
-      → IsRecorded (disposed settled state (tag ∷ []) m) (after (Resolves (ended_of settled (tag ∷ []) m)) records)
-  recorded-disposed false state tag = rw (resolves-none records) (recorded-changed (message_with_state (Some state)) (tag ∷ []) m records h)
-  recorded-disposed true state tag = by (entry_at m tag) refl
-    where
-      by : (o : Option UnsettledMessage) → entry_at m tag ≡ o → IsRecorded (without_entry m tag) (after (Resolves (ended_of true (tag ∷ []) m)) records)
-      by None e = rw (e, resolves-none records) (recorded-none_gone m records h tag e)
-      by (Some message) e = rw e (IsRecorded-resolves m records h ((tag, Ok message.state) ∷ []))
-
-pub recorded-disposing : {T : Type 0} (s : Sender T) (records : Records) → IsRecorded s.unsettled records → (settled : Bool) (state : DeliveryState) (tag : Tag)
-    → IsRecorded (after_disposing s settled state (tag ∷ [])).unsettled (after (Resolves (ended_at s settled (tag ∷ []))) records)
-recorded-disposing {T} s records h settled state tag = by (settles s.snd_settle_mode)
-  where
-    by : (b : Bool) → IsRecorded (if b then s else record s { unsettled = disposed settled state (tag ∷ []) s.unsettled }).unsettled
-        (after (Resolves (if b then [] else ended_of settled (tag ∷ []) s.unsettled)) records)
-    by true = rw (resolves-none records) h
-    by false = recorded-disposed s.unsettled records h settled state tag

@@ -10,7 +10,7 @@ use Rattle.amqp_link_ledger.specs.declared.fate.Fate.TheVariants.{Pending}
 use Rattle.amqp_link_ledger.specs.Fates.{Records, Enters, after, pending_count, registered, IsRecorded}
 use Rattle.amqp_link_ledger.proofs.RecordLemmas.{IsRecorded-enters}
 
-none_from : {A : Type 0} (o : Option A) → is_some o ≡ false → o ≡ None
+pub none_from : {A : Type 0} (o : Option A) → is_some o ≡ false → o ≡ None
 none_from None h = refl
 none_from (Some a) h = absurd (cc)
 

@@ -1,5 +1,7 @@
+pub mod BatchLemmas
 pub mod CountLemmas
 pub mod DisposeLemmas
+pub mod ExchangeLemmas
 pub mod FateLemmas
 pub mod LedgerLemmas
 pub mod ListSteps
@@ -7,3 +9,4 @@ pub mod LoopLemmas
 pub mod MoveLemmas
 pub mod NumberLemmas
 pub mod RecordLemmas
+pub mod SendLemmas

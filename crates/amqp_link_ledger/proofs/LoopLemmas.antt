@@ -2,22 +2,22 @@
 use Rattle.std.proofs.Common.{◌≡◌, ◌∙◌, sym, ap, false, List, [], ◌∷◌, refl, ℕ, zero, suc, ◌+◌, ◌<◌, ◌≤◌, map, drop, length, get_or, drop-cons, add-one, arith}
 use Rattle.amqp_link_types.specs.Entries.{Tag, Entries}
 use Rattle.amqp_link_ledger.specs.declared.fate.Fate.{Fate}
-use Rattle.amqp_link_ledger.specs.Fates.{Records, is_pending, with_fates}
+use Rattle.amqp_link_ledger.specs.Fates.{Records, is_pending_fate, with_fates}
 use Rattle.amqp_link_ledger.proofs.FateLemmas.{one_by_one, with_fates-none}
 
 module _ {X : Type 0} where
   -- the pair at the index, and the others
-  front : (list : List X) (i : ℕ) (e : X) → i < length list → e ≡ get_or list i e → drop i list ≡ e ∷ drop (i + 1) list
+  pub front : (list : List X) (i : ℕ) (e : X) → i < length list → e ≡ get_or list i e → drop i list ≡ e ∷ drop (i + 1) list
   front list i e within at =
       drop-cons list i e within ∙ ap (λ n. get_or list i e ∷ drop n list) (sym (add-one i)) ∙ ap (λ x. x ∷ drop (i + 1) list) (sym at)
 
-  none_after : (list : List X) (i : ℕ) → length list ≤ i → drop i list ≡ []
+  pub none_after : (list : List X) (i : ℕ) → length list ≤ i → drop i list ≡ []
   none_after [] zero h = refl
   none_after [] (suc i) h = refl
   none_after (x ∷ list) zero h = absurd (omega arith)
   none_after (x ∷ list) (suc i) h = none_after list i (omega arith)
 
-module _ {X : Type 0} (fate_of : X → Fate) (final : (x : X) → is_pending (fate_of x) ≡ false) where
+module _ {X : Type 0} (fate_of : X → Fate) (final : (x : X) → is_pending_fate (fate_of x) ≡ false) where
   -- the fates that a list gives
   abbrev pub given_by : Entries X → Entries Fate
   given_by list = map (λ e. (e.0, fate_of e.1)) list

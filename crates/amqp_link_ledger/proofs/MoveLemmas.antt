@@ -5,7 +5,7 @@ use Rattle.std.proofs.lemmas.Option.{slice_get-map, slice_get_within}
 use Rattle.amqp_link_types.specs.Entries.{Tag, Entries, entry_at}
 use Rattle.amqp_link_ledger.specs.declared.fate.Fate.{Fate}
 use Rattle.amqp_link_ledger.specs.declared.fate.Fate.TheVariants.{Pending, Withdrawn, HandedOut, Resolved}
-use Rattle.amqp_link_ledger.specs.Fates.{Records, Change, Enters, Withdraws, HandsOut, Resolves, after, after_all, moved, with_fates, registered, MovesOnce}
+use Rattle.amqp_link_ledger.specs.Fates.{Records, Change, Enters, Withdraws, HandsOut, Resolves, after, after_all, fate_given, with_fates, registered, MovesOnce}
 use Rattle.amqp_link_ledger.proofs.ListSteps.{get_push_old}
 use Rattle.amqp_link_ledger.proofs.FateLemmas.{moved-not_pending}
 
@@ -23,8 +23,8 @@ MovesOnce-registered tag records = λ n r at. (r.1, get_push_old records n (tag,
 
 pub MovesOnce-given : (given : Entries Fate) (records : Records) → MovesOnce records (with_fates given records)
 MovesOnce-given given records = λ n r at. (
-  moved (entry_at given r.0) r.1,
-  slice_get-map (λ (r : Tag × Fate). (r.0, moved (entry_at given r.0) r.1)) records n ∙ ap (option_map (λ (r : Tag × Fate). (r.0, moved (entry_at given r.0) r.1))) at,
+  fate_given (entry_at given r.0) r.1,
+  slice_get-map (λ (r : Tag × Fate). (r.0, fate_given (entry_at given r.0) r.1)) records n ∙ ap (option_map (λ (r : Tag × Fate). (r.0, fate_given (entry_at given r.0) r.1))) at,
   moved-not_pending (entry_at given r.0) r.1,
 )
 

@@ -6,7 +6,7 @@ use Rattle.std.proofs.lemmas.Option.{slice_get_within}
 use Rattle.amqp_link_types.specs.Entries.{Tag, Entries, entry_at}
 use Rattle.amqp_link_ledger.specs.declared.fate.Fate.{Fate}
 use Rattle.amqp_link_ledger.specs.declared.fate.Fate.TheVariants.{Pending}
-use Rattle.amqp_link_ledger.specs.Fates.{Records, is_pending, registered, with_fates, pending_count, IsNumbered}
+use Rattle.amqp_link_ledger.specs.Fates.{Records, is_pending_fate, registered, with_fates, pending_count, IsNumbered}
 use Rattle.amqp_link_ledger.proofs.ListSteps.{some_is, some_is_none, false_true, by_test, tag_is, is_tag, get_set_same, get_set_other, get_push_old, get_push_new}
 use Rattle.amqp_link_ledger.proofs.FateLemmas.{IsPendingAt, IsNowhere, untouched, set_at}
 use Rattle.amqp_link_ledger.proofs.CountLemmas.{count-nowhere, count-pending_at}
@@ -57,7 +57,7 @@ module _ (records : Records) (numbers : Entries ℕ) (h : IsNumbered records num
     at_same : (other : Tag) → bytes_eq tag other ≡ true → entry_at numbers2 other ≡ None
     at_same other e = now other ∙ ap (λ b. cond b None (entry_at numbers other)) e
 
-    pub IsNumbered-set : (n : ℕ) (fate : Fate) → entry_at numbers tag ≡ Some n → is_pending fate ≡ false → IsNumbered (slice_set records n (tag, fate)) numbers2
+    pub IsNumbered-set : (n : ℕ) (fate : Fate) → entry_at numbers tag ≡ Some n → is_pending_fate fate ≡ false → IsNumbered (slice_set records n (tag, fate)) numbers2
     IsNumbered-set n fate e over = record {
       stands = λ other k here. by_test (bytes_eq tag other)
           (λ y. absurd (some_is_none (sym here ∙ at_same other y)))
@@ -65,7 +65,7 @@ module _ (records : Records) (numbers : Entries ℕ) (h : IsNumbered records num
           let there = h.stands other k (sym (at_other other y) ∙ here) in
           get_set_other records n k done (λ z. false_true y (another other k there z)) ∙ there);
       found = λ other k here. elim (ℕ_discrete k n) [
-        | yes z ↦ absurd (false_true over (ap (λ (r : Tag × Fate). is_pending r.1) (some_is (sym (get_set_same records n (tag, Pending) done at) ∙ ap (slice_get (slice_set records n done)) (sym z) ∙ here))))
+        | yes z ↦ absurd (false_true over (ap (λ (r : Tag × Fate). is_pending_fate r.1) (some_is (sym (get_set_same records n (tag, Pending) done at) ∙ ap (slice_get (slice_set records n done)) (sym z) ∙ here))))
         | no apart ↦
             let there = sym (get_set_other records n k done apart) ∙ here in
             by_test (bytes_eq tag other)

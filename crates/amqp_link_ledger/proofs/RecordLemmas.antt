@@ -9,7 +9,7 @@ use Rattle.amqp_link_types.proofs.EntriesLemmas.{IsMap-none, IsMap-push}
 use Rattle.amqp_link_core.specs.declared.resumption.ResumingDelivery.{ResumingDelivery}
 use Rattle.amqp_link_ledger.specs.declared.fate.Fate.{Fate}
 use Rattle.amqp_link_ledger.specs.declared.fate.Fate.TheVariants.{Withdrawn, HandedOut, Resolved}
-use Rattle.amqp_link_ledger.specs.Fates.{Records, Enters, Withdraws, HandsOut, Resolves, after, is_pending, pending_count, with_fates, registered, IsRecorded}
+use Rattle.amqp_link_ledger.specs.Fates.{Records, Enters, Withdraws, HandsOut, Resolves, after, is_pending_fate, pending_count, with_fates, registered, IsRecorded}
 use Rattle.amqp_link_ledger.proofs.ListSteps.{some_is, some_is_none, false_true, by_test, tag_is, is_tag, entry_at-map, is_some-option_map}
 use Rattle.amqp_link_ledger.proofs.FateLemmas.{with_fates-none}
 use Rattle.amqp_link_ledger.proofs.CountLemmas.{count-registered, count-registered_other, count-given, count-not_given}
@@ -59,7 +59,7 @@ IsRecorded-changed m left records h is same = record {
 
 -- no fate that is given is pending
 abbrev pub AreFinal : Entries Fate → Type 0
-AreFinal given = (tag : Tag) (fate : Fate) → entry_at given tag ≡ Some fate → is_pending fate ≡ false
+AreFinal given = (tag : Tag) (fate : Fate) → entry_at given tag ≡ Some fate → is_pending_fate fate ≡ false
 
 -- the tags of these entries are gone, and the others are as they were
 abbrev pub LeavesOthers : {V W X : Type 0} → Entries V → Entries X → Entries W → Type 0
@@ -82,13 +82,13 @@ module _ {V W : Type 0} where
           ∙ sym (ap (λ b. if b then 1 else 0) (others tag ∙ ap (λ o. if is_some o then false else is_some (entry_at m tag)) e))
 
 -- the fates that a list gives
-module _ {X : Type 0} (fate_of : X → Fate) (final : (x : X) → is_pending (fate_of x) ≡ false) where
+module _ {X : Type 0} (fate_of : X → Fate) (final : (x : X) → is_pending_fate (fate_of x) ≡ false) where
   pub AreFinal-map : (list : Entries X) → AreFinal (map (λ e. (e.0, fate_of e.1)) list)
   AreFinal-map list tag fate e = by (entry_at list tag) (sym (entry_at-map fate_of list tag) ∙ e)
     where
-      by : (o : Option X) → option_map fate_of o ≡ Some fate → is_pending fate ≡ false
+      by : (o : Option X) → option_map fate_of o ≡ Some fate → is_pending_fate fate ≡ false
       by None e = absurd (some_is_none (sym e))
-      by (Some x) e = ap is_pending (sym (some_is e)) ∙ final x
+      by (Some x) e = ap is_pending_fate (sym (some_is e)) ∙ final x
 
   pub IsRecorded-gone : {V W : Type 0} (m : Entries V) (left : Entries W) (list : Entries X) (records : Records) → IsRecorded m records → IsMap left → LeavesOthers m list left
       → IsRecorded left (with_fates (map (λ e. (e.0, fate_of e.1)) list) records)

@@ -8,11 +8,11 @@ use Rattle.amqp_link_core.specs.declared.resumption.ResumingDelivery.{ResumingDe
 use Rattle.amqp_link_ledger.specs.declared.fate.Fate.{Fate}
 use Rattle.amqp_link_ledger.specs.declared.fate.Fate.TheVariants.{Pending, Withdrawn, HandedOut, Resolved}
 
-abbrev pub is_pending : Fate → Bool
-is_pending Pending = true
-is_pending Withdrawn = false
-is_pending HandedOut = false
-is_pending (Resolved outcome) = false
+abbrev pub is_pending_fate : Fate → Bool
+is_pending_fate Pending = true
+is_pending_fate Withdrawn = false
+is_pending_fate HandedOut = false
+is_pending_fate (Resolved outcome) = false
 
 -- the registrations by number: the tag of each, and its fate
 abbrev pub Records : Type 0
@@ -28,7 +28,7 @@ latest fates = last_or None fates
 
 -- how many registrations of the tag are pending
 abbrev pub pending_count : Tag → Records → ℕ
-pending_count tag records = count_by is_pending (fates_of tag records)
+pending_count tag records = count_by is_pending_fate (fates_of tag records)
 
 -- The map has each tag once, and a tag is pending as often as it stands there.
 pub record IsRecorded {V : Type 0} (unsettled : Entries V) (records : Records) : Type 0 where
@@ -38,13 +38,13 @@ pub record IsRecorded {V : Type 0} (unsettled : Entries V) (records : Records) :
 -- ---- what a call does to the records
 
 -- only a pending registration moves
-abbrev pub moved : Option Fate → Fate → Fate
-moved (Some fate) Pending = fate
-moved _ fate = fate
+abbrev pub fate_given : Option Fate → Fate → Fate
+fate_given (Some fate) Pending = fate
+fate_given _ fate = fate
 
 -- the pending registrations of these tags take these fates
 abbrev pub with_fates : Entries Fate → Records → Records
-with_fates given records = map (λ r. (r.0, moved (entry_at given r.0) r.1)) records
+with_fates given records = map (λ r. (r.0, fate_given (entry_at given r.0) r.1)) records
 
 -- an entry gets the next number
 abbrev pub registered : Tag → Records → Records

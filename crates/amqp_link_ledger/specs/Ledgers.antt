@@ -14,9 +14,15 @@ pub record Ledger (T : Type 0) : Type 0 where
   -- the registrations by number
   pub records : Records
 
--- A call that hands an entry back if it is refused, by the first test that holds; out of memory may come
--- before any of them.
-abbrev pub HandsBackOrOutOfMemory : {A : Type 0} → Result A (LinkStateError × UnsettledMessage) → UnsettledMessage → List (Bool × LinkStateError) → Type 0
-HandsBackOrOutOfMemory (Ok a) entry tests = refusal tests ≡ None
-HandsBackOrOutOfMemory (Err e) entry tests =
-    (e.1 ≡ entry) × ((e.0 ≡ error.OutOfMemory) ⊎ (refusal tests ≡ Some e.0))
+-- A result by the first test that holds; this error, that of a call which is out of memory, comes only if
+-- none of these first ones does.
+abbrev pub AnswersWithMemoryAfter : {A E : Type 0} → E → List (Bool × E) → Result A E → List (Bool × E) → Type 0
+AnswersWithMemoryAfter out_of_memory first (Ok a) tests = refusal tests ≡ None
+AnswersWithMemoryAfter out_of_memory first (Err e) tests =
+    ((e ≡ out_of_memory) × (refusal first ≡ None)) ⊎ (refusal tests ≡ Some e)
+
+-- the same of a call that hands an entry back if it is refused
+abbrev pub HandsBackWithMemoryAfter : {A : Type 0} → List (Bool × LinkStateError) → Result A (LinkStateError × UnsettledMessage) → UnsettledMessage → List (Bool × LinkStateError) → Type 0
+HandsBackWithMemoryAfter first (Ok a) entry tests = refusal tests ≡ None
+HandsBackWithMemoryAfter first (Err e) entry tests =
+    (e.1 ≡ entry) × (((e.0 ≡ error.OutOfMemory) × (refusal first ≡ None)) ⊎ (refusal tests ≡ Some e.0))

@@ -1,2 +1,5 @@
+pub mod Disposing
+pub mod Exchanging
 pub mod Fates
 pub mod Ledgers
+pub mod Sends

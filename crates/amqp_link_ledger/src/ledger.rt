@@ -10,20 +10,21 @@ ghost use Rattle.amqp_link_sender.specs.Senders.{is_pending};
 ghost use Rattle.amqp_link_ledger.specs.declared.fate.Fate.TheVariants.{Pending};
 ghost use Rattle.amqp_link_ledger.specs.Fates.{IsRecorded};
 
+mod attach;
 mod closing;
 mod detach;
 mod disposing;
 mod entering;
 mod incoming;
-#[cfg(test)]
-mod tests;
+mod sending;
+mod shown;
 
 use crate::fate::Fate;
 use crate::registrations::Registrations;
 use amqp_link_core::endpoint::LinkExt;
 use amqp_link_core::endpoint::target::LinkTarget;
 use amqp_link_sender::sender_link::SenderLink;
-use amqp_link_types::types::DeliveryTag;
+use amqp_link_types::types::{DeliveryTag, OutputHandle};
 use std::alloc::{AllocError, Global};
 use std::marker::Model;
 
@@ -102,6 +103,22 @@ impl<T: LinkTarget> OutcomeLedger<T> {
             link,
             registrations,
         })
+    }
+
+    /// The ledger of the endpoint with this output handle. Does not allocate.
+    pub fn with_output_handle(self, handle: OutputHandle) -> OutcomeLedger<T>
+        ensures { result ≡ record self { link = record self.link { output_handle = Some handle } } }
+    {
+        let OutcomeLedger {
+            alloc,
+            link,
+            registrations,
+        } = self;
+        OutcomeLedger {
+            alloc,
+            link: link.with_output_handle(handle),
+            registrations,
+        }
     }
 
     /// The endpoint, for reading.

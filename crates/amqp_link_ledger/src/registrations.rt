@@ -2,7 +2,7 @@
 ghost use Rattle.std.specs.Prelude.{◌≡◌, ◌==◌, [], ◌∷◌, if◌then◌else◌, map, length, slice_get, false};
 ghost use Rattle.std.specs.Prelude.{All, IsTrue, IfOk, OnOk, Err};
 ghost use Rattle.std.specs.Option.{option_map, option_copied};
-ghost use Rattle.amqp_link_ledger.specs.Fates.{Change, after, is_pending, pending_count, with_fates};
+ghost use Rattle.amqp_link_ledger.specs.Fates.{Change, after, is_pending_fate, pending_count, with_fates};
 
 use crate::fate::Fate;
 use crate::numbers::{has_number, push_pending, put_number, set_fate_at, take_number};
@@ -197,7 +197,7 @@ impl Registrations {
 
     // Gives the pending registration of the tag its last fate, if there is one.
     fn end(&mut self, tag: &DeliveryTag, fate: Fate)
-        requires { is_pending fate ≡ false }
+        requires { is_pending_fate fate ≡ false }
         ensures records { self.new.records ≡ with_fates ((tag.now, fate) ∷ []) self.old.records }
         ensures room { IsTrue self.old.has_room → IsTrue self.new.has_room }
     {
@@ -207,6 +207,3 @@ impl Registrations {
         }
     }
 }
-
-#[cfg(test)]
-mod tests;

@@ -24,12 +24,12 @@ has_entries [] = false
 has_entries (entry ∷ entries) = true
 
 -- what follows in this state, if the sender has stated a delivery or not
-abbrev pub exchange_in : LinkState → Bool → ReceiverAttachExchange
-exchange_in state false = exchange.Complete
-exchange_in IncompleteAttachSent true = exchange.IncompleteUnsettled
-exchange_in IncompleteAttachReceived true = exchange.IncompleteUnsettled
-exchange_in IncompleteAttachExchanged true = exchange.IncompleteUnsettled
-exchange_in _ true = exchange.Resume
+abbrev pub receiver_exchange_in : LinkState → Bool → ReceiverAttachExchange
+receiver_exchange_in state false = exchange.Complete
+receiver_exchange_in IncompleteAttachSent true = exchange.IncompleteUnsettled
+receiver_exchange_in IncompleteAttachReceived true = exchange.IncompleteUnsettled
+receiver_exchange_in IncompleteAttachExchanged true = exchange.IncompleteUnsettled
+receiver_exchange_in _ true = exchange.Resume
 
 module _ {T : Type 0} where
   -- what a receiver shows, if its target is sent so

@@ -2,7 +2,5 @@
 #![tactic(auto)]
 
 pub mod receiver_link;
-#[cfg(test)]
-mod samples;
 
 pub use receiver_link::{ReceiverAttachExchange, ReceiverLink, get_max_message_size};

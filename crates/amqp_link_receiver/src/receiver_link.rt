@@ -8,8 +8,6 @@ mod detach;
 mod disposing;
 mod flow;
 mod shown;
-#[cfg(test)]
-mod tests;
 
 pub use amqp_link_core::endpoint::attached::get_max_message_size;
 use amqp_link_core::endpoint::target::LinkTarget;

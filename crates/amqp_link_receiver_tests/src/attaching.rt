@@ -1,8 +1,16 @@
 //! Worked values of a receiver's attaches.
-use crate::samples::{coming, fields, parts};
+use crate::led::lead_to;
+use crate::samples::{attach_of, coming, fields, parts};
+use crate::transfers::{begins_next, transfer_arrives};
 use amqp_link_core::endpoint::{LinkAttach, LinkExt};
 use amqp_link_receiver::{ReceiverAttachExchange, ReceiverLink, get_max_message_size};
-use amqp_link_types::types::{Role, SenderSettleMode};
+use amqp_link_samples::nowhere::parts_to_nowhere;
+use amqp_link_state::state::LinkState;
+use amqp_link_types::types::{
+    Attach, Handle, InputHandle, OutputHandle, ReceiverAttachError, ReceiverSettleMode, Role,
+    SenderSettleMode, Target,
+};
+use std::process::Abort;
 
 #[test]
 fn smaller_limit_of_a_message_stands(rt: HostRuntime) {
@@ -41,4 +49,130 @@ fn properties_that_come_are_taken(rt: HostRuntime) {
 fn unfinished_exchanges_are_errors(rt: HostRuntime) {
     assert_eq!(rt; ReceiverAttachExchange::Complete.complete_or(7u8), Ok(()));
     assert_eq!(rt; ReceiverAttachExchange::Resume.complete_or(7u8), Err(7));
+    let incomplete = ReceiverAttachExchange::IncompleteUnsettled;
+    assert_eq!(rt; incomplete.complete_or(7u8), Err(7));
+}
+
+// The link "l" of mode second with output handle 0, led to this state at count 0. More transfers of a
+// delivery are to arrive.
+fn link_in(rt: &(impl Abort + AllocGlobal), state: LinkState) -> ReceiverLink<Target> {
+    let mut parts = parts(rt, SenderSettleMode::Mixed, 512);
+    parts.rcv_settle_mode = ReceiverSettleMode::Second;
+    let link = ReceiverLink::new(rt.alloc(), parts);
+    let mut link = link.with_output_handle(OutputHandle(0));
+    lead_to(rt, &mut link, 0, state);
+    transfer_arrives(rt, &mut link, true);
+    link
+}
+
+// What a link shows after an attach has arrived, and whether the next transfer begins a delivery.
+#[derive(Clone, Copy, Debug, PartialEq, Eq)]
+struct Left {
+    answer: Result<ReceiverAttachExchange, ReceiverAttachError>,
+    state: LinkState,
+    input_handle: Option<InputHandle>,
+    snd_settle_mode: SenderSettleMode,
+    count: u32,
+    begins: bool,
+}
+
+// What an attach leaves of a link in this state.
+fn left_by(rt: &(impl Abort + AllocGlobal), state: LinkState, attach: Attach) -> Left {
+    let mut link = link_in(rt, state);
+    let answer = link.on_incoming_attach(attach);
+    let left = Left {
+        answer,
+        state: *link.local_state(),
+        input_handle: link.input_handle(),
+        snd_settle_mode: link.snd_settle_mode(),
+        count: link.flow_state().delivery_count(),
+        begins: begins_next(rt, &mut link),
+    };
+    drop(link);
+    left
+}
+
+// The attach of a sender that settles, at handle 6, with this count, and a source or none.
+fn settling(rt: &(impl Abort + AllocGlobal), count: Option<u32>, has_source: bool) -> Attach {
+    let mut attach = attach_of(rt, Role::Sender, SenderSettleMode::Settled);
+    attach.handle = Handle(6);
+    attach.initial_delivery_count = count;
+    if !has_source {
+        drop(attach.source.take());
+    }
+    attach
+}
+
+#[test]
+fn incoming_attach_is_taken_as_far_as_it_goes(rt: HostRuntime) {
+    let taken = Left {
+        answer: Ok(ReceiverAttachExchange::Complete),
+        state: LinkState::AttachReceived,
+        input_handle: Some(InputHandle(6)),
+        snd_settle_mode: SenderSettleMode::Settled,
+        count: 5,
+        begins: true,
+    };
+    let uncounted = Left {
+        answer: Err(ReceiverAttachError::InitialDeliveryCountIsNone),
+        count: 0,
+        ..taken
+    };
+    let sourceless = Left {
+        answer: Err(ReceiverAttachError::IncomingSourceIsNone),
+        snd_settle_mode: SenderSettleMode::Mixed,
+        ..uncounted
+    };
+    let untouched = Left {
+        answer: Err(ReceiverAttachError::IllegalState),
+        state: LinkState::Attached,
+        input_handle: Some(InputHandle(0)),
+        begins: false,
+        ..sourceless
+    };
+    for (state, count, has_source, left) in [
+        (LinkState::Unattached, Some(5), true, taken),
+        (LinkState::Unattached, None, true, uncounted),
+        (LinkState::Unattached, Some(5), false, sourceless),
+        (LinkState::Attached, Some(5), true, untouched),
+    ] {
+        let attach = settling(&rt, count, has_source);
+        assert_eq!(rt;
+            left_by(&rt, state, attach),
+            left,
+            "{count:?} {has_source} in {state:?}"
+        );
+    }
+}
+
+// A target of another kind is refused once the source and the sender's mode are taken.
+#[test]
+fn target_of_another_kind_is_refused(rt: HostRuntime) {
+    let parts = parts_to_nowhere(rt.alloc(), SenderSettleMode::Mixed).expect(&rt, "memory");
+    let mut link = ReceiverLink::new(rt.alloc(), parts);
+    assert_eq!(rt; link.input_handle(), None);
+    let attach = attach_of(&rt, Role::Sender, SenderSettleMode::Settled);
+    let answer = link.on_incoming_attach(attach);
+    let left = (
+        *link.local_state(),
+        link.input_handle().is_some(),
+        link.snd_settle_mode(),
+    );
+    drop(link);
+    assert_eq!(rt;
+        answer,
+        Err(ReceiverAttachError::CoordinatorIsNotImplemented)
+    );
+    let wanted = (LinkState::AttachReceived, true, SenderSettleMode::Settled);
+    assert_eq!(rt; left, wanted, "what it leaves");
+}
+
+// A link shows the output handle that its session gives it.
+#[test]
+fn output_handle_is_shown(rt: HostRuntime) {
+    let link = ReceiverLink::new(rt.alloc(), parts(&rt, SenderSettleMode::Mixed, 512));
+    assert_eq!(rt; link.output_handle(), None);
+    let link = link.with_output_handle(OutputHandle(4));
+    assert_eq!(rt; link.output_handle(), Some(OutputHandle(4)));
+    drop(link);
 }

@@ -55,3 +55,96 @@ fn place_of_a_front_is_kept(rt: HostRuntime) {
     let kept = [(true, Some((0, 5))), (true, Some((1, 2)))];
     assert_eq!(rt; fronts_kept(&rt), (kept, 1));
 }
+
+// What is kept of a delivery.
+#[derive(Clone, Copy, Debug, PartialEq, Eq)]
+enum Kept {
+    Nothing,
+    NoState,
+    Accepted,
+    Released,
+    Place(u32, u64),
+    Other,
+}
+
+fn kept_of(link: &ReceiverLink<Target>, tag: &DeliveryTag) -> Kept {
+    match link.unsettled().get(tag) {
+        None => Kept::Nothing,
+        Some(None) => Kept::NoState,
+        Some(Some(DeliveryState::Accepted)) => Kept::Accepted,
+        Some(Some(DeliveryState::Released)) => Kept::Released,
+        Some(
+            Some(
+                DeliveryState::Received {
+                    section_number,
+                    section_offset,
+                },
+            ),
+        ) => Kept::Place(*section_number, *section_offset),
+        Some(Some(_)) => Kept::Other,
+    }
+}
+
+// The state that is kept, if one is named here.
+fn state_of(kept: Kept) -> Option<DeliveryState> {
+    match kept {
+        Kept::Accepted => Some(DeliveryState::Accepted),
+        Kept::Released => Some(DeliveryState::Released),
+        Kept::Place(section_number, section_offset) => Some(DeliveryState::Received {
+            section_number,
+            section_offset,
+        }),
+        Kept::Nothing | Kept::NoState | Kept::Other => None,
+    }
+}
+
+// A link that keeps this of a delivery: the sender's disposition sets the state of a place that has arrived.
+fn keeping(rt: &(impl Abort + AllocGlobal), tag: &DeliveryTag, kept: Kept) -> ReceiverLink<Target> {
+    let mut link = link_in(rt);
+    if kept != Kept::Nothing {
+        drop(link.on_incomplete_transfer(tag, 9, 9));
+        assert!(rt; !link.on_incoming_disposition(false, state_of(kept), tag));
+    }
+    assert_eq!(rt; kept_of(&link, tag), kept);
+    link
+}
+
+// Whether a transfer's state is taken with this settled flag, and what is kept of the delivery then.
+fn kept_after(
+    rt: &(impl Abort + AllocGlobal),
+    before: Kept,
+    settled: Option<bool>,
+    stated: Kept,
+) -> (bool, Kept) {
+    let tag = count_tag(rt, 1);
+    let mut link = keeping(rt, &tag, before);
+    let named = Some(count_tag(rt, 1));
+    let is_taken = match state_of(stated) {
+        Some(state) => link.on_transfer_state(&named, settled, state).is_ok(),
+        None => false,
+    };
+    let kept = kept_of(&link, &tag);
+    drop((tag, named));
+    drop(link);
+    (is_taken, kept)
+}
+
+#[test]
+fn states_that_transfers_carry(rt: HostRuntime) {
+    let (first, second) = (Kept::Place(0, 3), Kept::Place(1, 0));
+    for (before, settled, stated, wanted) in [
+        (Kept::Nothing, None, Kept::Accepted, Kept::Accepted),
+        (Kept::NoState, Some(false), first, first),
+        (first, None, second, second),
+        (Kept::Released, None, second, Kept::Released),
+        (first, Some(true), second, Kept::Nothing),
+        (Kept::Released, Some(true), Kept::Accepted, Kept::Nothing),
+        (Kept::Nothing, Some(true), second, Kept::Nothing),
+    ] {
+        assert_eq!(rt;
+            kept_after(&rt, before, settled, stated),
+            (true, wanted),
+            "{stated:?} after {before:?}, settled {settled:?}"
+        );
+    }
+}

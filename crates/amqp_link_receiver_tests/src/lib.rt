@@ -15,3 +15,5 @@ mod led;
 mod samples;
 #[cfg(test)]
 mod table;
+#[cfg(test)]
+mod transfers;

@@ -14,6 +14,14 @@ pub(crate) fn parts(
     links::parts(rt.alloc(), mode, max_frame_size).expect(rt, "memory")
 }
 
+pub(crate) fn attach_of(
+    rt: &(impl Abort + AllocGlobal),
+    role: Role,
+    mode: SenderSettleMode,
+) -> Attach {
+    links::attach_of(rt.alloc(), role, mode).expect(rt, "memory")
+}
+
 pub(crate) fn payload_of(rt: &(impl Abort + AllocGlobal), bytes: &[u8]) -> Payload {
     Payload::copy_from_slice(rt.alloc(), bytes).expect(rt, "memory")
 }

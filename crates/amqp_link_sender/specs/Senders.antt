@@ -129,8 +129,8 @@ settlement_of true tag = settlement.Settled tag
 settlement_of false tag = settlement.Unsettled tag
 
 -- the link after a delivery was sent: an unsettled one is registered with its whole payload
-abbrev pub registered : {T : Type 0} → Bool → Sender T → Tag → UnsettledMessage → Sender T
-registered settled s tag entry = record s {
+abbrev pub with_registration : {T : Type 0} → Bool → Sender T → Tag → UnsettledMessage → Sender T
+with_registration settled s tag entry = record s {
   unsettled = if settled then s.unsettled else with_entry s.unsettled tag entry;
 }
 
@@ -140,7 +140,7 @@ pub record SendsTransfer {T : Type 0} (old : Sender T) (message_format : ℕ) (t
     (told : Settlement) (frames : List LinkFrame) (new : Sender T) : Type 0 where
   pub sent : IsSent old t payload frames
   pub answered : told ≡ settlement_of (settled_on_send old t) tag
-  pub world : new ≡ registered (settled_on_send old t) old tag (new_entry message_format payload)
+  pub world : new ≡ with_registration (settled_on_send old t) old tag (new_entry message_format payload)
 
 -- A payload was sent as a new delivery at this output handle: its tag is the count before, its
 -- transfer was sent, and it took one credit.

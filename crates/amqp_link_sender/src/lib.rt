@@ -1,8 +1,6 @@
 //! The sender's end of a link of AMQP 1.0 (OASIS AMQP 1.0 core, 2.6).
 #![tactic(auto)]
 
-#[cfg(test)]
-mod samples;
 pub mod sender_link;
 
 pub use sender_link::{SenderAttachExchange, SenderLink, Sending, Waiting};

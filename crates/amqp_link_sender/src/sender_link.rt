@@ -14,8 +14,6 @@ mod flow;
 pub mod incoming;
 mod resending;
 mod shown;
-#[cfg(test)]
-mod tests;
 mod waits;
 
 use amqp_link_core::endpoint::target::LinkTarget;

@@ -194,6 +194,43 @@ fn sent_deliveries_are_resolved_in_order(rt: HostRuntime) {
     drop(link);
 }
 
+// What is sent of two deliveries without a state, of which the receiver has five bytes of the second, and of
+// one that it alone knows.
+fn wanted_of_incomplete(rt: &(impl Abort + AllocGlobal)) -> Exchanged {
+    let resumed = ResumingDelivery::Resume {
+        entry: entry_of(Known::Null),
+        rest: Payload::from_static(b"\x53\x77\x41"),
+    };
+    let deliveries = vec![in rt.alloc();
+        (
+            count_tag(rt, 0),
+            ResumingDelivery::Resend(entry_of(Known::Null))
+        ),
+        (count_tag(rt, 1), resumed),
+        (count_tag(rt, 9), UNKNOWN),
+    ];
+    Exchanged {
+        next: Next::IncompleteUnsettled,
+        deliveries: deliveries.expect(rt, "memory"),
+        outcomes: Vec::new(rt.alloc()),
+    }
+}
+
+// Each delivery of either map is answered also where the receiver does not state all of its own.
+#[test]
+fn incomplete_map_is_answered_in_full(rt: HostRuntime) {
+    let mut link = attaching_with(&rt, &[(0, Known::Null), (1, Known::Null)]);
+    let mut attach = attach_with(&rt, &[(1, Known::Received(0, 5)), (9, Known::Null)]);
+    attach.incomplete_unsettled = true;
+    let exchanged = exchange_on(&rt, &mut link, attach);
+    let wanted = wanted_of_incomplete(&rt);
+    assert_eq!(rt; exchanged, wanted);
+    drop((exchanged, wanted));
+    assert_eq!(rt; *link.local_state(), LinkState::IncompleteAttachExchanged);
+    assert_eq!(rt; link.unsettled().len(), 0);
+    drop(link);
+}
+
 // How one delivery is resolved: sent again, resumed with these bytes, aborted, its outcome stated once
 // more, or ended with this state.
 #[derive(Clone, Copy, Debug)]

@@ -8,10 +8,14 @@ mod exchanging;
 #[cfg(test)]
 mod flows;
 #[cfg(test)]
+mod led;
+#[cfg(test)]
 mod resending;
 #[cfg(test)]
 mod samples;
 #[cfg(test)]
 mod sending;
+#[cfg(test)]
+mod table;
 #[cfg(test)]
 mod waiting;

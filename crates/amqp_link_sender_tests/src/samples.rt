@@ -1,6 +1,6 @@
 //! Samples for tests that take memory: a test ends where it is wanting.
 use amqp_link_core::link_parts::LinkParts;
-use amqp_link_samples::links;
+use amqp_link_samples::{links, table};
 use amqp_link_types::types::{
     Attach, DeliveryTag, Fields, Payload, Role, SenderSettleMode, Target, Text,
 };
@@ -36,4 +36,8 @@ pub(crate) fn count_tag(rt: &(impl Abort + AllocGlobal), count: u8) -> DeliveryT
 
 pub(crate) fn fields(rt: &(impl Abort + AllocGlobal), name: &str) -> Fields {
     links::fields(rt.alloc(), name).expect(rt, "memory")
+}
+
+pub(crate) fn coming(rt: &(impl Abort + AllocGlobal), role: Role, incomplete: bool) -> Attach {
+    table::coming(rt.alloc(), role, incomplete).expect(rt, "memory")
 }

@@ -1,7 +1,6 @@
 //! Detaches that arrive at a ledger, and what becomes of its deliveries as the link is closed (2.6.6).
-ghost use Rattle.std.specs.Prelude.{◌≡◌, ◌⊎◌, ◌∷◌, ◌&&◌, ◌||◌, [], true, map, None, Err, IfOk, IfErr, OnOk, OnErr, is_none, is_some, if◌then◌else◌};
+ghost use Rattle.std.specs.Prelude.{◌≡◌, ◌⊎◌, ◌↔◌, ◌&&◌, ◌||◌, [], true, map, None, Err, IfOk, IfErr, IsErrOf, OnOk, OnErr, is_some, if◌then◌else◌};
 ghost use Rattle.std.specs.Option.{option_map};
-ghost use Rattle.amqp_link_types.specs.Refusals.{AnswersOrOutOfMemory};
 ghost use Rattle.amqp_link_dispositions.specs.Ending.{closed_for, all_closed, reply_of};
 ghost use Rattle.amqp_link_ledger.specs.Fates.{Change, after};
 
@@ -78,9 +77,9 @@ impl<T: LinkTarget> OutcomeLedger<T> {
     /// reply with, if there is one. If the peer initiated it and it closes the link, each pending delivery
     /// ends as by `fail_pending_unsettled`; else the registrations stay.
     ///
-    /// Refused with nothing changed: `UnattachedHandle` if the peer initiated it and there is no output
-    /// handle; `OutOfMemory`, which may come before that, and only if the peer initiated it and it
-    /// closes the link or carries an error.
+    /// Refused with nothing changed, in this order: `UnattachedHandle` if the peer initiated it and there is
+    /// no output handle; `OutOfMemory`, only if the peer initiated it and it closes the link or carries an
+    /// error.
     pub fn on_incoming_detach(
         &mut self,
         detach: &Detach,
@@ -96,8 +95,8 @@ impl<T: LinkTarget> OutcomeLedger<T> {
         ensures records { OnOk result (self.new.records ≡ after (Change.Resolves
             (if remote_initiated && detach.now.closed
             then all_closed detach.now.error self.old.link.unsettled else [])) self.old.records) }
-        ensures refused { AnswersOrOutOfMemory LinkRelayError.OutOfMemory result
-            ((remote_initiated && is_none self.old.link.output_handle, LinkRelayError.UnattachedHandle) ∷ []) }
+        ensures unattached { IsErrOf result LinkRelayError.UnattachedHandle
+            ↔ ((remote_initiated ≡ true) × (self.old.link.output_handle ≡ None)) }
         ensures memory { IfErr result (λ error. (error ≡ LinkRelayError.UnattachedHandle)
             ⊎ ((error ≡ LinkRelayError.OutOfMemory) × (remote_initiated ≡ true)
             × ((detach.now.closed || is_some detach.now.error) ≡ true))) }
@@ -105,6 +104,9 @@ impl<T: LinkTarget> OutcomeLedger<T> {
     {
         if !is_closing(remote_initiated, detach.closed) {
             return self.link.on_incoming_detach(detach, remote_initiated);
+        }
+        if self.link.output_handle().is_none() {
+            return Err(LinkRelayError::UnattachedHandle);
         }
         let pending = self.link.unsettled();
         let copies = closed_outcomes(self.alloc, &detach.error, pending.pairs())?;

@@ -1,21 +1,29 @@
 //! Dispositions that a ledger sends (2.6.12, 2.7.6).
-ghost use Rattle.std.specs.Prelude.{◌≡◌, ◌∷◌, [], false, IfOk, OnOk, OnErr};
+ghost use Rattle.std.specs.Prelude.{◌≡◌, ◌∷◌, [], false, map, IfOk, OnOk, OnErr};
+ghost use Rattle.std.specs.List.{filter_map};
 ghost use Rattle.std.specs.Option.{option_map, option_to_list};
+ghost use Rattle.amqp_link_types.specs.declared.delivery.UnsettledMessage.{UnsettledMessage as Message};
+ghost use Rattle.amqp_link_types.specs.Entries.{Entries};
+ghost use Rattle.amqp_link_dispositions.specs.Ending.{settled_at};
+ghost use Rattle.amqp_link_dispositions.specs.Listed.{tags_in_order};
 ghost use Rattle.amqp_link_sender.specs.Senders.{settles};
 ghost use Rattle.amqp_link_sender.specs.SenderDisposes.{Dispositions, ended_at, after_disposing};
+ghost use Rattle.amqp_link_ledger.specs.Disposing.{settled_outcome, copies_at};
 ghost use Rattle.amqp_link_ledger.specs.Fates.{Change, after};
 
 use crate::ledger::OutcomeLedger;
 use crate::ledger::incoming::resolve_if_ended;
+use crate::registrations::Registrations;
 use amqp_link_core::endpoint::LinkExt;
 use amqp_link_core::endpoint::target::LinkTarget;
-use amqp_link_types::delivery::{DeliveryOutcome, Outcomes};
+use amqp_link_types::delivery::{DeliveryOutcome, Outcomes, UnsettledMessage};
 use amqp_link_types::frame::LinkFrame;
+use amqp_link_types::types::unsettled_map::UnsettledMap;
 use amqp_link_types::types::{
-    DeliveryNumber, DeliveryState, DeliveryTag, DispositionError, Transfer,
+    DeliveryNumber, DeliveryState, DeliveryTag, DispositionError, SenderSettleMode,
 };
 use amqp_link_values::copy::copy_of;
-use std::alloc::AllocError;
+use std::alloc::{AllocError, Global};
 
 impl<T: LinkTarget> OutcomeLedger<T> {
     /// States of one delivery that it has this state, and is settled or not, as `SenderLink::dispose` does.
@@ -64,6 +72,72 @@ impl<T: LinkTarget> OutcomeLedger<T> {
         }
     }
 
+    /// States of several deliveries that they have this state, and are settled or not, as
+    /// `SenderLink::batch_dispose` does. The registrations of those that are settled by that are resolved
+    /// with the outcomes that are returned. In mode `Settled` nothing is stated and nothing ends.
+    ///
+    /// Refused only if it is out of memory, with nothing changed; in mode `Settled` it does not allocate.
+    ///
+    /// A delivery that is settled is looked up in the unsettled map once for the copy of its outcome and
+    /// once as it leaves.
+    pub fn batch_dispose(
+        &mut self,
+        ids_and_tags: &[(DeliveryNumber, DeliveryTag)],
+        settled: bool,
+        state: DeliveryState,
+        batchable: bool,
+    ) -> Result<(Vec<LinkFrame>, Outcomes), DispositionError>
+        ensures frames { IfOk result (λ said.
+            Dispositions self.old.link settled state batchable (map (λ pair. pair.0) ids_and_tags.now) said.0.items) }
+        ensures outcomes { IfOk result (λ said.
+            said.1.items ≡ ended_at self.old.link settled (tags_in_order ids_and_tags.now)) }
+        ensures link { OnOk result
+            (self.new.link ≡ after_disposing self.old.link settled state (tags_in_order ids_and_tags.now)) }
+        ensures records { OnOk result (self.new.records ≡ after (Change.Resolves
+            (ended_at self.old.link settled (tags_in_order ids_and_tags.now))) self.old.records) }
+        ensures memory { OnErr result (settles self.old.link.snd_settle_mode ≡ false) }
+        ensures left { OnErr result (self.new ≡ self.old) }
+    {
+        let copies = match self.copies_of_settled(settled, ids_and_tags) {
+            Ok(copies) => copies,
+            Err(refused) => {
+                drop(state);
+                return Err(refused.into());
+            }
+        };
+        match self
+            .link
+            .batch_dispose(ids_and_tags, settled, state, batchable)
+        {
+            Ok(said) => {
+                resolve_listed(&mut self.registrations, ids_and_tags, copies);
+                Ok(said)
+            }
+            Err(refused) => {
+                drop(copies);
+                Err(refused)
+            }
+        }
+    }
+
+    // Copies of the outcomes with which the listed deliveries end, in the order of the list: nothing for one
+    // that does not end, and an empty list if none is settled.
+    fn copies_of_settled(
+        &self,
+        settled: bool,
+        listed: &[(DeliveryNumber, DeliveryTag)],
+    ) -> Result<Vec<Option<DeliveryOutcome>>, AllocError>
+        ensures copies { IfOk result (λ copies.
+            copies.items ≡ copies_at self.now.link settled listed.now) }
+        ensures memory { OnErr result (settles self.now.link.snd_settle_mode ≡ false) }
+    {
+        if self.sends_settled() || !settled {
+            return Ok(Vec::new(self.alloc));
+        }
+        let copies = settled_copies(self.alloc, self.link.unsettled(), listed)?;
+        Ok(copies)
+    }
+
     // A copy of the outcome with which a delivery ends that its sender settles, if it ends.
     fn copy_of_settled(
         &self,
@@ -77,20 +151,63 @@ impl<T: LinkTarget> OutcomeLedger<T> {
         if self.sends_settled() || !settled {
             return Ok(None);
         }
-        match self.link.unsettled().get(tag) {
-            Some(entry) => Ok(Some(Ok(copy_of(&entry.state)?))),
-            None => Ok(None),
-        }
+        copy_of_settled_in(self.link.unsettled(), tag)
     }
 
     // Whether the endpoint sends all deliveries settled.
     fn sends_settled(&self) -> bool
         ensures { result ≡ settles self.now.link.snd_settle_mode }
     {
-        let unset = Transfer {
-            settled: None,
-            ..Transfer::default()
+        matches!(self.link.snd_settle_mode(), SenderSettleMode::Settled)
+    }
+}
+
+// A copy of the outcome with which a delivery of this map ends that its sender settles, if it is there.
+fn copy_of_settled_in(
+    unsettled: &UnsettledMap<UnsettledMessage>,
+    tag: &DeliveryTag,
+) -> Result<Option<DeliveryOutcome>, AllocError>
+    ensures { IfOk result (λ copy. copy ≡ settled_outcome unsettled.now tag.now) }
+{
+    match unsettled.get(tag) {
+        Some(entry) => Ok(Some(Ok(copy_of(&entry.state)?))),
+        None => Ok(None),
+    }
+}
+
+// The same of each listed delivery, in the order of the list.
+fn settled_copies(
+    alloc: Global,
+    unsettled: &UnsettledMap<UnsettledMessage>,
+    listed: &[(DeliveryNumber, DeliveryTag)],
+) -> Result<Vec<Option<DeliveryOutcome>>, AllocError>
+    ensures { IfOk result (λ copies.
+        copies.items ≡ map (λ pair. settled_outcome unsettled.now pair.1) listed.now) }
+{
+    let mut copies = Vec::with_capacity(alloc, listed.len())?;
+    for (_, tag) in listed {
+        copies.push(copy_of_settled_in(unsettled, tag)?)?;
+    }
+    Ok(copies)
+}
+
+// Resolves the pending registrations of the listed deliveries with these outcomes, of which there is one
+// for each, or none at all.
+fn resolve_listed(
+    registrations: &mut Registrations,
+    listed: &[(DeliveryNumber, DeliveryTag)],
+    outcomes: Vec<Option<DeliveryOutcome>>,
+)
+    ensures none { outcomes.items ≡ [] → registrations.new.records ≡ registrations.old.records }
+    ensures each { (own : Entries Message) → outcomes.items ≡ map (λ pair. settled_outcome own pair.1) listed.now
+        → registrations.new.records ≡ after (Change.Resolves
+        (filter_map (settled_at own) (map (λ pair. pair.1) listed.now))) registrations.old.records }
+{
+    let mut outcomes = outcomes.into_iter();
+    for (_, tag) in listed {
+        let Some(outcome) = outcomes.next() else {
+            return;
         };
-        self.link.is_settled_on_send(&unset)
+        resolve_if_ended(registrations, tag, outcome);
     }
 }

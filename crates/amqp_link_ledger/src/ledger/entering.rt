@@ -1,11 +1,13 @@
 //! Deliveries that are sent again or registered again, and such as are withdrawn (2.6.13).
 ghost use Rattle.std.specs.Prelude.{◌≡◌, ◌∷◌, [], IfOk, OnOk, OnErr, length};
 ghost use Rattle.amqp_link_types.specs.Entries.{entry_at, with_entry, without_entry};
-ghost use Rattle.amqp_link_sender.specs.Room.{payload_limit as limit_of_payload};
-ghost use Rattle.amqp_link_sender.specs.Split.{IsFewestPieces};
+ghost use Rattle.amqp_link_types.specs.Refusals.{refusal};
+ghost use Rattle.amqp_link_split.specs.Room.{payload_limit as limit_of_payload};
+ghost use Rattle.amqp_link_split.specs.Split.{IsFewestPieces};
 ghost use Rattle.amqp_link_sender.specs.Senders.{IsSent, is_pending, unsettled_transfer_tests, HandsBackThenOutOfMemory};
 ghost use Rattle.amqp_link_ledger.specs.Fates.{Change, after};
-ghost use Rattle.amqp_link_ledger.specs.Ledgers.{HandsBackOrOutOfMemory};
+ghost use Rattle.amqp_link_ledger.specs.Ledgers.{HandsBackWithMemoryAfter};
+ghost use Rattle.amqp_link_ledger.specs.Sends.{entry_tests};
 
 use crate::ledger::OutcomeLedger;
 use amqp_link_core::endpoint::target::LinkTarget;
@@ -69,7 +71,7 @@ impl<T: LinkTarget> OutcomeLedger<T> {
     /// `SenderLink::send_unsettled_transfer` does. It is a registration with the next number.
     ///
     /// Refused with nothing changed and the entry handed back, in this order: `IllegalState` without input
-    /// handle; `TagPending`; `NoRoom`; `OutOfMemory`. Only `OutOfMemory` may come before the others.
+    /// handle; `TagPending`; `NoRoom`; `OutOfMemory`, which may come before `NoRoom`.
     pub fn send_unsettled_transfer(
         &mut self,
         transfer: Transfer,
@@ -84,10 +86,14 @@ impl<T: LinkTarget> OutcomeLedger<T> {
           unsettled = with_entry self.old.link.unsettled tag entry;
         }) }
         ensures records { OnOk result (self.new.records ≡ after (Change.Enters tag) self.old.records) }
-        ensures refused { HandsBackOrOutOfMemory result entry
+        ensures refused { HandsBackWithMemoryAfter (entry_tests self.old.link tag) result entry
             (unsettled_transfer_tests self.old.link transfer tag rest.now) }
         ensures left { OnErr result (self.new ≡ self.old) }
     {
+        if let Some(refused) = self.entry_refusal(&tag) {
+            drop((transfer, tag));
+            return Err((refused, entry));
+        }
         let Ok(reserved) = self.registrations.reserve(self.alloc, tag.as_bytes()) else {
             drop((transfer, tag));
             return Err((LinkStateError::OutOfMemory, entry));
@@ -105,5 +111,18 @@ impl<T: LinkTarget> OutcomeLedger<T> {
                 Err(refused)
             }
         }
+    }
+
+    // Why an entry is not sent again, as far as that is known before its transfer is measured.
+    fn entry_refusal(&self, tag: &DeliveryTag) -> Option<LinkStateError>
+        ensures { result ≡ refusal (entry_tests self.now.link tag.now) }
+    {
+        if self.link.input_handle().is_none() {
+            return Some(LinkStateError::IllegalState);
+        }
+        if self.is_pending(tag) {
+            return Some(LinkStateError::TagPending);
+        }
+        None
     }
 }

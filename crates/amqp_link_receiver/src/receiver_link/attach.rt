@@ -8,7 +8,7 @@ ghost use Rattle.amqp_link_core.specs.AttachSent.{SendsAttach, IsTooLarge};
 ghost use Rattle.amqp_link_core.specs.Shown.{counted_attach};
 ghost use Rattle.amqp_link_core.specs.Attaching.{FitsFrame, with_entries};
 ghost use Rattle.amqp_link_core.specs.LinkStates.{Call, next_state};
-ghost use Rattle.amqp_link_receiver.specs.ReceiverAttaches.{has_entries as names_any, exchange_in as exchanged_in};
+ghost use Rattle.amqp_link_receiver.specs.ReceiverAttaches.{has_entries as names_any, receiver_exchange_in as exchanged_in};
 ghost use Rattle.amqp_link_receiver.specs.ReceiverAttaches.{receiver_shown};
 
 use crate::receiver_link::ReceiverLink;
@@ -272,7 +272,7 @@ impl<T: LinkTarget> ReceiverLink<T> {
 impl<T: LinkTarget> LinkAttach for ReceiverLink<T> {
     ghost use Rattle.std.specs.Prelude.{◌≡◌, [], option_map, refl};
     ghost use Rattle.amqp_link_types.specs.declared.types.errors.ReceiverAttachError.TheVariants.{IllegalState, AttachTooLarge, OutOfMemory};
-    ghost use Rattle.amqp_link_receiver.specs.ReceiverAttaches.{receiver_refusal, receiver_taken, receiver_left, has_entries, exchange_in};
+    ghost use Rattle.amqp_link_receiver.specs.ReceiverAttaches.{receiver_refusal, receiver_taken, receiver_left, has_entries, receiver_exchange_in};
     ghost use Rattle.amqp_link_receiver.specs.ReceiverAttaches.{receiver_shown_after_refusal};
 
     type AttachExchange = ReceiverAttachExchange;
@@ -299,7 +299,7 @@ impl<T: LinkTarget> LinkAttach for ReceiverLink<T> {
 
     ghost target_taken = { λ link attach. option_map T.sent_as link.target };
 
-    ghost exchanged = { λ _ remote state answer. answer ≡ exchange_in state (has_entries remote) };
+    ghost exchanged = { λ _ remote state answer. answer ≡ receiver_exchange_in state (has_entries remote) };
 
     ghost left = { receiver_left };
 

@@ -1,4 +1,6 @@
 //! What a receiver's end shows of itself.
+ghost use Rattle.std.specs.Prelude.{◌≡◌};
+
 use crate::receiver_link::ReceiverLink;
 use amqp_link_core::endpoint::attached::sent_limit;
 use amqp_link_core::endpoint::target::LinkTarget;
@@ -7,6 +9,29 @@ use amqp_link_state::role::ReceiverMarker;
 use amqp_link_state::state::{LinkFlowState, LinkState};
 use amqp_link_types::types::unsettled_map::UnsettledMap;
 use amqp_link_types::types::{self, DeliveryState, Fields};
+
+impl<T: LinkTarget> ReceiverLink<T> {
+    /// The handle under which this endpoint sends, if its session has given it one (2.6.2).
+    pub fn output_handle(&self) -> Option<types::OutputHandle>
+        ensures { result ≡ self.now.output_handle }
+    {
+        self.output_handle
+    }
+
+    /// The handle under which the peer sends, once its attach has arrived.
+    pub fn input_handle(&self) -> Option<types::InputHandle>
+        ensures { result ≡ self.now.input_handle }
+    {
+        self.input_handle
+    }
+
+    /// Whether the sender sends its deliveries settled.
+    pub fn snd_settle_mode(&self) -> types::SenderSettleMode
+        ensures { result ≡ self.now.snd_settle_mode }
+    {
+        self.snd_settle_mode
+    }
+}
 
 impl<T: LinkTarget> Link for ReceiverLink<T> {}
 

@@ -3,7 +3,7 @@ use Rattle.std.specs.List.{filter_map}
 use Rattle.amqp_link_types.specs.Entries.{Entries}
 use Rattle.amqp_link_core.specs.declared.resumption.ResumingDelivery.{ResumingDelivery}
 use Rattle.amqp_link_exchange.specs.Exchanges.{resolutions, to_resume, to_return}
-use Rattle.amqp_link_exchange.specs.Plans.{Planned, resumed_by, ended_by, resumed_count}
+use Rattle.amqp_link_exchange.specs.Plans.{Planned, resumed_by, ended_by_steps, resumed_count}
 use Rattle.amqp_link_exchange.proofs.PlanLemmas.{plan_is_able, resolved_by-plan, length-resumed_by}
 use Rattle.amqp_link_exchange.proofs.planning.exchange.Goals as goal
 
@@ -29,7 +29,7 @@ returns-clause-list c = λ remote plan.
 
 pub returns-clause-outcomes : goal.returns-clause-outcomes
 returns-clause-outcomes c = λ remote plan.
-    c.resolve_each.ensures.outcomes ∙ ap (λ l. l ++ ended_by c.into_pairs.result.items c.plan.inside.steps.items) c.plan.invariant.1
-    ∙ ap (λ l. ended_by l c.plan.inside.steps.items) c.into_pairs.ensures
-    ∙ ap (λ (p : Planned). ended_by c.args.own p.steps) c.plan.view_is
+    c.resolve_each.ensures.outcomes ∙ ap (λ l. l ++ ended_by_steps c.into_pairs.result.items c.plan.inside.steps.items) c.plan.invariant.1
+    ∙ ap (λ l. ended_by_steps l c.plan.inside.steps.items) c.into_pairs.ensures
+    ∙ ap (λ (p : Planned). ended_by_steps c.args.own p.steps) c.plan.view_is
     ∙ ap (λ l. filter_map to_return l) (resolved_by-plan c.args.own remote c.args.plan.steps plan.steps)

@@ -2,7 +2,7 @@ use Rattle.std.proofs.Common.{◌∙◌, ap, sym, length, map}
 use Rattle.std.specs.List.{filter_map}
 use Rattle.amqp_link_types.specs.Entries.{entry_at}
 use Rattle.amqp_link_exchange.specs.Exchanges.{to_return}
-use Rattle.amqp_link_exchange.specs.Plans.{Planned, IsStepFor, ended_by}
+use Rattle.amqp_link_exchange.specs.Plans.{Planned, IsStepFor, ended_by_steps}
 use Rattle.amqp_link_exchange.proofs.PlanLemmas.{Pairwise-length, resolved_by-plan}
 use Rattle.amqp_link_exchange.proofs.planning.ExchangePlan.copies_of_outcomes.Goals as goal
 
@@ -14,6 +14,6 @@ copies_by-requires c =
 pub returns : goal.returns
 returns c = λ remote plan.
     c.in_ok-copies.ensures
-    ∙ ap (λ l. map (λ ended. ended.1) (ended_by l c.as_slice.result.now)) c.pairs.ensures
-    ∙ ap (λ l. map (λ ended. ended.1) (ended_by c.args.own.now l)) (c.as_slice.ensures.value ∙ ap (λ (p : Planned). p.steps) c.self.view_is)
+    ∙ ap (λ l. map (λ ended. ended.1) (ended_by_steps l c.as_slice.result.now)) c.pairs.ensures
+    ∙ ap (λ l. map (λ ended. ended.1) (ended_by_steps c.args.own.now l)) (c.as_slice.ensures.value ∙ ap (λ (p : Planned). p.steps) c.self.view_is)
     ∙ ap (λ l. map (λ ended. ended.1) (filter_map to_return l)) (resolved_by-plan c.args.own.now remote c.args.self.now.steps plan.steps)

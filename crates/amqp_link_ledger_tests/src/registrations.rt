@@ -1,9 +1,9 @@
 //! Registrations worked by hand.
 ghost use Rattle.std.specs.Prelude.{◌≡◌, IfOk};
 
-use crate::fate::Fate;
-use crate::registrations::Registrations;
 use amqp_link_core::resumption::ResumingDelivery;
+use amqp_link_ledger::fate::Fate;
+use amqp_link_ledger::registrations::Registrations;
 use amqp_link_types::types::{DeliveryState, DeliveryTag, LinkStateError};
 use std::alloc::{AllocError, Global};
 use std::process::Abort;

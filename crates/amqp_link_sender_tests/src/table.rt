@@ -1,25 +1,25 @@
-//! The table of link states, pair by pair, at a sender's end.
-use crate::samples::{coming, count_tag, parts, payload_of};
-use crate::sender_link::SenderLink;
-use amqp_link_core::endpoint::LinkDetach;
+//! A sender in each of its states: the rows of the standard's table (2.6.3 to 2.6.6).
+use crate::led::{lead_to, put};
+use crate::samples::{coming, parts};
+use amqp_link_core::endpoint::{LinkDetach, LinkExt};
 use amqp_link_samples::table::{
     Call, STATES, answered, attached, detach, is_illegal, is_illegal_outcome, left, let_go, taken,
     wanted,
 };
+use amqp_link_sender::SenderLink;
 use amqp_link_state::state::LinkState;
-use amqp_link_types::delivery::UnsettledMessage;
 use amqp_link_types::types::{OutputHandle, Role, SenderSettleMode, Target};
 use std::process::Abort;
 
-// A link in this state. One delivery is pending, which an attach names only where the limit is more
-// than 30.
+// The link "l" with output handle 0, led to this state. A delivery is pending, which an attach names only
+// where the limit is more than 30.
 fn link_in(rt: &(impl Abort + AllocGlobal), state: LinkState, limit: u32) -> SenderLink<Target> {
-    let link = SenderLink::new(rt.alloc(), parts(rt, SenderSettleMode::Mixed, limit));
+    let link = SenderLink::new(rt.alloc(), parts(rt, SenderSettleMode::Mixed, 512));
     let mut link = link.with_output_handle(OutputHandle(0));
-    let entry = UnsettledMessage::new(payload_of(rt, &[7]), None, 0);
-    drop(link.unsettled.put(count_tag(rt, 0), entry));
-    link.local_state = state;
-    link
+    lead_to(rt, &mut link, state);
+    put(rt, &mut link, 0);
+    link.set_max_frame_size(limit);
+    link.with_output_handle(OutputHandle(0))
 }
 
 fn attached_in(rt: &(impl Abort + AllocGlobal), state: LinkState, limit: u32) -> (bool, LinkState) {
@@ -110,7 +110,7 @@ fn left_in(rt: &(impl Abort + AllocGlobal), state: LinkState, closed: bool) -> (
 }
 
 #[test]
-fn detaches_of_the_other_end(rt: HostRuntime) {
+fn detaches_of_the_peer(rt: HostRuntime) {
     for closed in [false, true] {
         let call = Call::RemoteDetach(closed);
         for (place, state) in STATES.iter().enumerate() {
@@ -120,10 +120,10 @@ fn detaches_of_the_other_end(rt: HostRuntime) {
     }
 }
 
-// Whether a link without output handle detaches, and where it is left.
+// Whether a link without output handle detaches, and its state then.
 fn let_go_without_handle(rt: &(impl Abort + AllocGlobal)) -> (bool, LinkState) {
     let mut link = link_in(rt, LinkState::Attached, 512);
-    link.output_handle = None;
+    *link.output_handle_mut() = None;
     let told = let_go(&mut link, false);
     drop(link);
     told
@@ -138,14 +138,14 @@ fn detach_without_handle_moves_the_state(rt: HostRuntime) {
 // closing reply to it.
 fn refused_without_handle(rt: &(impl Abort + AllocGlobal)) -> (bool, bool) {
     let mut link = link_in(rt, LinkState::Attached, 512);
-    link.output_handle = None;
+    *link.output_handle_mut() = None;
     let sent = is_illegal(link.send_detach(false, None));
     let replied = is_illegal(link.on_detach_reply(detach(true)));
     drop(link);
     (sent, replied)
 }
 
-// So of a detach of the other end on a link that was never attached.
+// The same of a detach that the peer initiates on a link that was never attached.
 fn refused_unattached(rt: &(impl Abort + AllocGlobal)) -> bool {
     let mut link = link_in(rt, LinkState::Unattached, 512);
     let left = is_illegal_outcome(link.apply_remote_detach_outcome(detach(false)));
@@ -159,7 +159,7 @@ fn refused_detaches_name_the_state(rt: HostRuntime) {
     assert!(rt; refused_unattached(&rt));
 }
 
-// Where a detached link is left by an incomplete attach that comes and the own one after it.
+// The state of a detached link after an incomplete attach has arrived and its own is sent.
 fn attached_after_an_incomplete_one(rt: &(impl Abort + AllocGlobal)) -> (bool, LinkState) {
     let mut link = link_in(rt, LinkState::Detached, 512);
     let _ = taken(&mut link, coming(rt, Role::Receiver, true));

@@ -1,0 +1,198 @@
+//! Payloads that a ledger sends as new deliveries (2.7.5). One that awaits its outcome is a registration.
+ghost use Rattle.std.specs.Prelude.{◌≡◌, Ok, Err, Some, IfOk, IfSome, IsSome, IsSomeAnd, IsTrue, OnOk, OnErr, MatchOption, length};
+ghost use Rattle.amqp_link_split.specs.Room.{payload_limit as limit_of_payload};
+ghost use Rattle.amqp_link_split.specs.Split.{IsFewestPieces};
+ghost use Rattle.amqp_link_sender.specs.Senders.{SendsOrLacksCredit, SendsTransfer, SendsFewest, delivery_of, payload_tests, tagged_transfer_tests};
+ghost use Rattle.amqp_link_sender.specs.Waits.{waiting_error, after_waiting};
+ghost use Rattle.amqp_link_ledger.specs.Ledgers.{AnswersWithMemoryAfter};
+ghost use Rattle.amqp_link_ledger.specs.Sends.{tag_to_register, tag_of_unsettled, endpoint_tests, named_tests, records_after_sending, after_settlement, does_await, SendAnswersWithMemoryAfter, IsRoomFor};
+
+use crate::ledger::OutcomeLedger;
+use crate::registrations::{Registrations, Reserved};
+use amqp_link_core::endpoint::LinkExt;
+use amqp_link_core::endpoint::target::LinkTarget;
+use amqp_link_sender::sender_link::{SenderLink, Sending, Waiting};
+use amqp_link_types::delivery::Settlement;
+use amqp_link_types::frame::LinkFrame;
+use amqp_link_types::types::{
+    DeliveryState, LinkStateError, MessageFormat, Payload, SenderSettleMode, Transfer,
+};
+use std::alloc::{AllocError, Global};
+
+impl<T: LinkTarget> OutcomeLedger<T> {
+    /// Sends a payload as a new delivery, for one credit, as `SenderLink::send_payload` does. An unsettled
+    /// delivery is a registration with the next number.
+    ///
+    /// A detach that waits is recorded, and the refusals come in their order, as there. `OutOfMemory` comes
+    /// only if nothing waits, both handles are there and there is credit; it may come before `TagPending`
+    /// and `NoRoom`. Nothing has changed then.
+    pub fn send_payload(
+        &mut self,
+        waiting: Waiting,
+        payload: &Payload,
+        message_format: MessageFormat,
+        settled: Option<bool>,
+        state: Option<DeliveryState>,
+        batchable: bool,
+    ) -> Result<Sending, LinkStateError>
+        ensures sent { IfOk result (λ sending. SendsOrLacksCredit self.old.link
+            (delivery_of message_format settled state batchable) payload.now sending self.new.link) }
+        ensures fewest { IfOk result (λ sending. SendsFewest self.old.link
+            (delivery_of message_format settled state batchable) payload.now sending) }
+        ensures records { IfOk result (λ sending. self.new.records ≡ records_after_sending sending self.old.records) }
+        ensures refused { MatchOption (waiting_error self.old.link.local_state waiting)
+            (SendAnswersWithMemoryAfter (endpoint_tests self.old.link) result (payload_tests self.old.link
+            (delivery_of message_format settled state batchable) payload.now))
+            (λ error. result ≡ Err error) }
+        ensures left { OnErr result (self.new
+            ≡ record self.old { link = after_waiting self.old.link waiting }) }
+    {
+        let room = room_for_payload(
+            self.alloc,
+            &self.link,
+            &mut self.registrations,
+            &waiting,
+            settled,
+        );
+        let reserved = match room {
+            Ok(reserved) => reserved,
+            Err(refused) => {
+                drop((waiting, state));
+                return Err(refused.into());
+            }
+        };
+        let sending = self.link.send_payload(
+            waiting,
+            payload,
+            message_format,
+            settled,
+            state,
+            batchable,
+        );
+        match sending {
+            Ok(Sending::Sent { settlement, frames }) => {
+                register_unsettled(&mut self.registrations, &settlement, reserved);
+                Ok(Sending::Sent { settlement, frames })
+            }
+            Ok(Sending::CreditMissing) => {
+                drop(reserved);
+                Ok(Sending::CreditMissing)
+            }
+            Err(error) => {
+                drop(reserved);
+                Err(error)
+            }
+        }
+    }
+
+    /// Sends a payload with this transfer, as `SenderLink::send_payload_with_transfer` does. An unsettled
+    /// delivery is a registration with the next number.
+    ///
+    /// Refused in this order, with nothing changed: `IllegalState` without tag, then without input handle;
+    /// `TagPending` for an unsettled delivery; `NoRoom`; `OutOfMemory`, which may come before the last two.
+    pub fn send_payload_with_transfer(
+        &mut self,
+        message_format: MessageFormat,
+        transfer: Transfer,
+        payload: &Payload,
+    ) -> Result<(Settlement, Vec<LinkFrame>), LinkStateError>
+        ensures sent { IfOk result (λ sent. IsSomeAnd transfer.delivery_tag (λ tag.
+            SendsTransfer self.old.link message_format transfer tag payload.now sent.0 sent.1.items self.new.link)) }
+        ensures fewest { IfOk result (λ sent. IsFewestPieces payload.now
+            (limit_of_payload transfer self.old.link.max_frame_size) (length sent.1.items)) }
+        ensures records { IfOk result (λ sent. self.new.records ≡ after_settlement sent.0 self.old.records) }
+        ensures refused { AnswersWithMemoryAfter LinkStateError.OutOfMemory (named_tests self.old.link transfer) result
+            (tagged_transfer_tests self.old.link transfer payload.now) }
+        ensures left { OnErr result (self.new ≡ self.old) }
+    {
+        let room = room_for_transfer(self.alloc, &self.link, &mut self.registrations, &transfer);
+        let reserved = match room {
+            Ok(reserved) => reserved,
+            Err(refused) => {
+                drop(transfer);
+                return Err(refused.into());
+            }
+        };
+        match self
+            .link
+            .send_payload_with_transfer(message_format, transfer, payload)
+        {
+            Ok((settlement, frames)) => {
+                register_unsettled(&mut self.registrations, &settlement, reserved);
+                Ok((settlement, frames))
+            }
+            Err(refused) => {
+                drop(reserved);
+                Err(refused)
+            }
+        }
+    }
+}
+
+// Room for the registration of a payload that is sent now, if the endpoint may register one.
+fn room_for_payload<T: LinkTarget>(
+    alloc: Global,
+    link: &SenderLink<T>,
+    registrations: &mut Registrations,
+    waiting: &Waiting,
+    settled: Option<bool>,
+) -> Result<Option<Reserved>, AllocError>
+    ensures tag { IfOk result (λ reserved. reserved ≡ tag_to_register link.now waiting.now settled) }
+    ensures room { IfOk result (λ reserved. IsSome reserved → IsTrue registrations.new.has_room) }
+    ensures records { registrations.new.records ≡ registrations.old.records }
+    ensures memory { OnErr result (IsSome (tag_to_register link.now waiting.now settled)) }
+{
+    if !matches!(waiting, Waiting::Nothing) || !may_await(link, settled) {
+        return Ok(None);
+    }
+    let tag = link.flow_state().delivery_count().to_be_bytes();
+    Ok(Some(registrations.reserve(alloc, &tag)?))
+}
+
+// Room for the registration of a delivery that is sent with this transfer, if the endpoint may register it.
+fn room_for_transfer<T: LinkTarget>(
+    alloc: Global,
+    link: &SenderLink<T>,
+    registrations: &mut Registrations,
+    transfer: &Transfer,
+) -> Result<Option<Reserved>, AllocError>
+    ensures tag { IfOk result (λ reserved. reserved ≡ tag_of_unsettled link.now transfer.now) }
+    ensures room { IfOk result (λ reserved. IsSome reserved → IsTrue registrations.new.has_room) }
+    ensures records { registrations.new.records ≡ registrations.old.records }
+    ensures memory { OnErr result (IsSome (tag_of_unsettled link.now transfer.now)) }
+{
+    if link.input_handle().is_none() || link.is_settled_on_send(transfer) {
+        return Ok(None);
+    }
+    match &transfer.delivery_tag {
+        Some(tag) => Ok(Some(registrations.reserve(alloc, tag.as_bytes())?)),
+        None => Ok(None),
+    }
+}
+
+// Whether a payload that is sent now may await its outcome.
+fn may_await<T: LinkTarget>(link: &SenderLink<T>, settled: Option<bool>) -> bool
+    ensures { result ≡ does_await link.now settled }
+{
+    let is_settled = matches!(
+        (link.snd_settle_mode(), settled),
+        (SenderSettleMode::Settled, _) | (SenderSettleMode::Mixed, Some(true))
+    );
+    let has_handles = link.output_handle().is_some() && link.input_handle().is_some();
+    has_handles && link.flow_state().link_credit() != 0 && !is_settled
+}
+
+// Registers a delivery that was sent, if it awaits its outcome, in the room that was made for it.
+fn register_unsettled(
+    registrations: &mut Registrations,
+    settlement: &Settlement,
+    reserved: Option<Reserved>,
+)
+    requires { IsRoomFor settlement.now reserved registrations.old }
+    ensures { registrations.new.records ≡ after_settlement settlement.now registrations.old.records }
+{
+    match (settlement, reserved) {
+        (Settlement::Unsettled(_), Some(reserved)) => registrations.register(reserved),
+        (_, reserved) => drop(reserved),
+    }
+}

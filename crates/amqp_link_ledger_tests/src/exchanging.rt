@@ -1,0 +1,184 @@
+//! What becomes of the registrations as a ledger is attached again, by each kind of answer (2.6.13).
+use crate::ledgers::{accepted, assert_fates, new_ledger};
+use crate::samples::{attach_of, count_tag};
+use amqp_link_core::endpoint::{LinkAttach, LinkExt};
+use amqp_link_core::resumption::ResumingDelivery;
+use amqp_link_ledger::fate::Fate;
+use amqp_link_ledger::ledger::OutcomeLedger;
+use amqp_link_samples::links::went;
+use amqp_link_sender::SenderAttachExchange;
+use amqp_link_state::state::LinkState;
+use amqp_link_types::delivery::{DeliveryOutcome, Outcomes, UnsettledMessage};
+use amqp_link_types::types::{
+    Attach, DeliveryState, DeliveryTag, Payload, Role, SenderSettleMode, Target, UnsettledMap,
+};
+use std::process::Abort;
+
+// The payload of the deliveries, of two sections: the second begins at the fifth byte.
+const WHOLE: &[u8] = b"\x00\x53\x70\xc0\x00\x53\x77\x41";
+
+fn place(section_number: u32, section_offset: u64) -> Option<DeliveryState> {
+    Some(DeliveryState::Received {
+        section_number,
+        section_offset,
+    })
+}
+
+fn failed() -> DeliveryState {
+    DeliveryState::Modified {
+        delivery_failed: Some(true),
+        undeliverable_here: None,
+        message_annotations: None,
+    }
+}
+
+fn rejected() -> Option<DeliveryState> {
+    Some(DeliveryState::Rejected { error: None })
+}
+
+// The entry of a delivery with this state, of format 5.
+fn entry_with(state: Option<DeliveryState>) -> UnsettledMessage {
+    UnsettledMessage::new(Payload::from_static(WHOLE), state, 5)
+}
+
+// Registers a delivery with this state.
+fn register(
+    rt: &(impl Abort + AllocGlobal),
+    ledger: &mut OutcomeLedger<Target>,
+    count: u8,
+    state: Option<DeliveryState>,
+) {
+    let put = went(ledger.put_back(count_tag(rt, count), entry_with(state)));
+    assert!(rt; put, "a free tag");
+}
+
+// A ledger that has sent its attach, with six deliveries: the last two have an outcome, one of their own and
+// one of the receiver.
+fn attaching_with_six(rt: &(impl Abort + AllocGlobal)) -> OutcomeLedger<Target> {
+    let mut ledger = new_ledger(rt, SenderSettleMode::Mixed);
+    register(rt, &mut ledger, 0, None);
+    register(rt, &mut ledger, 1, None);
+    register(rt, &mut ledger, 2, place(1, 5));
+    register(rt, &mut ledger, 3, Some(failed()));
+    register(rt, &mut ledger, 4, Some(DeliveryState::Accepted));
+    register(rt, &mut ledger, 5, None);
+    let sent = went(ledger.send_attach(false));
+    assert!(rt; sent, "the attach is sent");
+    ledger
+}
+
+fn put(
+    rt: &(impl Abort + AllocGlobal),
+    map: &mut UnsettledMap<Option<DeliveryState>>,
+    count: u8,
+    state: Option<DeliveryState>,
+) {
+    let put = went(map.put(count_tag(rt, count), state));
+    assert!(rt; put, "memory");
+}
+
+// The attach of a receiver that knows nothing of the deliveries 0 and 4, and one that the sender does not.
+fn attach_with_five(rt: &(impl Abort + AllocGlobal)) -> Attach {
+    let mut map = UnsettledMap::new(rt.alloc());
+    put(rt, &mut map, 9, None);
+    put(rt, &mut map, 1, place(0, 5));
+    put(rt, &mut map, 2, place(1, 2));
+    put(rt, &mut map, 3, rejected());
+    put(rt, &mut map, 5, Some(DeliveryState::Released));
+    let mut attach = attach_of(rt, Role::Receiver, SenderSettleMode::Mixed);
+    attach.unsettled = Some(map);
+    attach
+}
+
+// The deliveries that are handed out: one is sent again, one resumed, one aborted, the outcome of one stated
+// once more, and the receiver's own is aborted.
+fn wanted_deliveries(rt: &(impl Abort + AllocGlobal)) -> Vec<(DeliveryTag, ResumingDelivery)> {
+    let resumed = ResumingDelivery::Resume {
+        entry: entry_with(None),
+        rest: Payload::from_static(b"\x53\x77\x41"),
+    };
+    let aborted = ResumingDelivery::Abort {
+        message_format: 5,
+        tag: Some(count_tag(rt, 2)),
+    };
+    let restated = ResumingDelivery::RestateOutcome {
+        tag: count_tag(rt, 3),
+        payload: Payload::from_static(WHOLE),
+        local_state: failed(),
+        message_format: 5,
+    };
+    let unknown = ResumingDelivery::Abort {
+        message_format: 0,
+        tag: None,
+    };
+    let deliveries = vec![in rt.alloc();
+        (count_tag(rt, 0), ResumingDelivery::Resend(entry_with(None))),
+        (count_tag(rt, 1), resumed),
+        (count_tag(rt, 2), aborted),
+        (count_tag(rt, 3), restated),
+        (count_tag(rt, 9), unknown),
+    ];
+    deliveries.expect(rt, "memory")
+}
+
+// The outcomes that are returned, the sender's and the receiver's.
+fn wanted_outcomes(rt: &(impl Abort + AllocGlobal)) -> Outcomes {
+    let own: DeliveryOutcome = Ok(Some(DeliveryState::Accepted));
+    let remote: DeliveryOutcome = Ok(Some(DeliveryState::Released));
+    let outcomes = vec![in rt.alloc(); (count_tag(rt, 4), own), (count_tag(rt, 5), remote)];
+    outcomes.expect(rt, "memory")
+}
+
+// The list of an exchange of complete maps.
+fn list_of(exchange: SenderAttachExchange) -> Option<Vec<(DeliveryTag, ResumingDelivery)>> {
+    match exchange {
+        SenderAttachExchange::Resume(list) => Some(list.into_vec()),
+        _ => None,
+    }
+}
+
+fn assert_six_fates(rt: &impl Abort, ledger: &OutcomeLedger<Target>) {
+    let wanted = [
+        Fate::HandedOut,
+        Fate::HandedOut,
+        Fate::HandedOut,
+        Fate::HandedOut,
+        accepted(),
+        Fate::Resolved(Ok(Some(DeliveryState::Released))),
+    ];
+    assert_fates(rt, ledger, &wanted);
+}
+
+// The delivery that only the receiver knows is in the list, and has no number.
+#[test]
+fn exchange_moves_each_fate(rt: HostRuntime) {
+    let mut ledger = attaching_with_six(&rt);
+    let answer = ledger.on_incoming_attach(attach_with_five(&rt));
+    let (exchange, outcomes) = answer.expect(&rt, "an attach that is accepted");
+    let deliveries = list_of(exchange).expect(&rt, "complete maps");
+    assert_six_fates(&rt, &ledger);
+    let wanted = wanted_deliveries(&rt);
+    assert_eq!(rt; deliveries, wanted);
+    drop((deliveries, wanted));
+    let wanted = wanted_outcomes(&rt);
+    assert_eq!(rt; outcomes, wanted);
+    drop((outcomes, wanted));
+    assert_eq!(rt; *ledger.local_state(), LinkState::Attached);
+    assert_eq!(rt; ledger.unsettled().len(), 0);
+    drop(ledger);
+}
+
+// An incomplete exchange hands out as well.
+#[test]
+fn incomplete_exchange_moves_each_fate(rt: HostRuntime) {
+    let mut ledger = attaching_with_six(&rt);
+    let mut attach = attach_with_five(&rt);
+    attach.incomplete_unsettled = true;
+    let answer = ledger.on_incoming_attach(attach);
+    let (exchange, outcomes) = answer.expect(&rt, "an attach that is accepted");
+    let is_incomplete = matches!(&exchange, SenderAttachExchange::IncompleteUnsettled(_));
+    assert_six_fates(&rt, &ledger);
+    drop((exchange, outcomes));
+    drop(ledger);
+    assert!(rt; is_incomplete);
+}

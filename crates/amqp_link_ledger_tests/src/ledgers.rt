@@ -1,0 +1,153 @@
+//! Ledgers that are led by public calls, and the fates that they show.
+use crate::samples::{attach_of, count_tag, parts, payload_of};
+use amqp_link_core::endpoint::{LinkAttach, LinkDetach, LinkExt};
+use amqp_link_ledger::fate::Fate;
+use amqp_link_ledger::ledger::OutcomeLedger;
+use amqp_link_samples::links::went;
+use amqp_link_samples::table::detach;
+use amqp_link_sender::{SenderLink, Sending, Waiting};
+use amqp_link_state::state::LinkState;
+use amqp_link_types::delivery::{Settlement, UnsettledMessage};
+use amqp_link_types::types::{
+    DeliveryState, LinkFlow, LinkStateError, OutputHandle, Payload, Role, SenderSettleMode, Target,
+};
+use std::process::Abort;
+
+// The link "l" with output handle 0 in this mode, that is not attached.
+pub(crate) fn new_link(
+    rt: &(impl Abort + AllocGlobal),
+    mode: SenderSettleMode,
+) -> SenderLink<Target> {
+    SenderLink::new(rt.alloc(), parts(rt, mode)).with_output_handle(OutputHandle(0))
+}
+
+pub(crate) fn ledger_round(
+    rt: &(impl Abort + AllocGlobal),
+    link: SenderLink<Target>,
+) -> OutcomeLedger<Target> {
+    OutcomeLedger::new(rt.alloc(), link)
+        .ok()
+        .expect(rt, "memory")
+}
+
+// A ledger round such a link.
+pub(crate) fn new_ledger(
+    rt: &(impl Abort + AllocGlobal),
+    mode: SenderSettleMode,
+) -> OutcomeLedger<Target> {
+    ledger_round(rt, new_link(rt, mode))
+}
+
+// The same once it is attached and has this credit.
+pub(crate) fn attached(
+    rt: &(impl Abort + AllocGlobal),
+    mode: SenderSettleMode,
+    credit: u32,
+) -> OutcomeLedger<Target> {
+    let mut ledger = new_ledger(rt, mode);
+    drop(ledger.send_attach(false));
+    drop(ledger.on_incoming_attach(attach_of(rt, Role::Receiver, mode)));
+    drop(ledger.on_incoming_flow(LinkFlow {
+        link_credit: Some(credit),
+        ..LinkFlow::default()
+    }));
+    assert_eq!(rt; *ledger.local_state(), LinkState::Attached);
+    ledger
+}
+
+// How a send is answered.
+#[derive(Clone, Copy, Debug, PartialEq, Eq)]
+pub(crate) enum Sent {
+    Unsettled,
+    Settled,
+    CreditMissing,
+    NoRoom,
+    OutOfMemory,
+    Other,
+}
+
+pub(crate) fn sent_as(settlement: &Settlement) -> Sent {
+    match settlement {
+        Settlement::Unsettled(_) => Sent::Unsettled,
+        Settlement::Settled(_) => Sent::Settled,
+    }
+}
+
+fn sent_of(sending: &Result<Sending, LinkStateError>) -> Sent {
+    match sending {
+        Ok(Sending::Sent { settlement, .. }) => sent_as(settlement),
+        Ok(Sending::CreditMissing) => Sent::CreditMissing,
+        Err(LinkStateError::NoRoom) => Sent::NoRoom,
+        Err(LinkStateError::OutOfMemory) => Sent::OutOfMemory,
+        Err(_) => Sent::Other,
+    }
+}
+
+// Sends a payload with this flag.
+pub(crate) fn send_flagged(
+    ledger: &mut OutcomeLedger<Target>,
+    payload: &Payload,
+    settled: Option<bool>,
+) -> Sent {
+    let sending = ledger.send_payload(Waiting::Nothing, payload, 0, settled, None, false);
+    let sent = sent_of(&sending);
+    drop(sending);
+    sent
+}
+
+pub(crate) fn send(ledger: &mut OutcomeLedger<Target>, payload: &Payload) -> Sent {
+    send_flagged(ledger, payload, None)
+}
+
+// An attached ledger that has sent deliveries of one byte, with the tags 00000000 to 00000002.
+pub(crate) fn three_sent(
+    rt: &(impl Abort + AllocGlobal),
+    mode: SenderSettleMode,
+) -> OutcomeLedger<Target> {
+    let mut ledger = attached(rt, mode, 3);
+    let payload = payload_of(rt, &[7]);
+    for _ in 0..3 {
+        assert_eq!(rt; send(&mut ledger, &payload), Sent::Unsettled);
+    }
+    drop(payload);
+    ledger
+}
+
+// The entry of a delivery of one byte with this state.
+pub(crate) fn entry_of(
+    rt: &(impl Abort + AllocGlobal),
+    state: Option<DeliveryState>,
+) -> UnsettledMessage {
+    UnsettledMessage::new(payload_of(rt, &[7]), state, 0)
+}
+
+// Whether an entry without a state is registered under the tag of this count.
+pub(crate) fn put(
+    rt: &(impl Abort + AllocGlobal),
+    ledger: &mut OutcomeLedger<Target>,
+    count: u8,
+) -> bool {
+    went(ledger.put_back(count_tag(rt, count), entry_of(rt, None)))
+}
+
+// Detaches an attached link, and sends its attach again.
+pub(crate) fn reattach(rt: &(impl Abort + AllocGlobal), ledger: &mut OutcomeLedger<Target>) {
+    drop(ledger.send_detach(false, None));
+    drop(ledger.on_detach_reply(detach(false)));
+    *ledger.output_handle_mut() = Some(OutputHandle(0));
+    let sent = went(ledger.send_attach(false));
+    assert!(rt; sent, "the attach is sent again");
+}
+
+pub(crate) fn accepted() -> Fate {
+    Fate::Resolved(Ok(Some(DeliveryState::Accepted)))
+}
+
+// The registrations have these fates, and there is no other.
+pub(crate) fn assert_fates(rt: &impl Abort, ledger: &OutcomeLedger<Target>, wanted: &[Fate]) {
+    for (number, fate) in wanted.iter().enumerate() {
+        assert_eq!(rt; ledger.fate(number), Some(fate), "registration {number}");
+    }
+    assert_eq!(rt; ledger.fate(wanted.len()), None, "past the last number");
+    assert_eq!(rt; ledger.fate(usize::MAX), None, "the greatest number");
+}

@@ -1,0 +1,51 @@
+//! A ledger of ten thousand deliveries.
+use crate::ledgers::{Sent, attached, send};
+use crate::samples::payload_of;
+use amqp_link_core::endpoint::LinkExt;
+use amqp_link_ledger::fate::Fate;
+use amqp_link_ledger::ledger::OutcomeLedger;
+use amqp_link_types::types::{DeliveryState, DeliveryTag, SenderSettleMode, Target};
+use std::process::Abort;
+
+const MANY: u32 = 10_000;
+
+fn tag_of(rt: &(impl Abort + AllocGlobal), count: u32) -> DeliveryTag {
+    DeliveryTag::from(count.to_be_bytes().to_vec(rt.alloc()).expect(rt, "memory"))
+}
+
+fn send_many(rt: &(impl Abort + AllocGlobal), ledger: &mut OutcomeLedger<Target>) {
+    let payload = payload_of(rt, &[7]);
+    for count in 0..MANY {
+        assert_eq!(rt; send(ledger, &payload), Sent::Unsettled, "{count}");
+    }
+    drop(payload);
+}
+
+// The receiver accepts and settles the delivery of this count.
+fn accept(rt: &(impl Abort + AllocGlobal), ledger: &mut OutcomeLedger<Target>, count: u32) {
+    let tag = tag_of(rt, count);
+    let state = Some(DeliveryState::Accepted);
+    let answer = ledger.on_incoming_disposition(true, state, &tag);
+    let (_, ended) = answer.expect(rt, "memory");
+    let is_ended = ended.is_some();
+    drop((ended, tag));
+    assert!(rt; is_ended, "{count}");
+}
+
+// The last delivery is settled first.
+#[test]
+fn ten_thousand_deliveries_are_accepted(rt: HostRuntime) {
+    let mut ledger = attached(&rt, SenderSettleMode::Unsettled, MANY);
+    send_many(&rt, &mut ledger);
+    assert_eq!(rt; ledger.unsettled().len(), 10_000);
+    for count in (0..MANY).rev() {
+        accept(&rt, &mut ledger, count);
+    }
+    assert_eq!(rt; ledger.unsettled().len(), 0);
+    let accepted = Fate::Resolved(Ok(Some(DeliveryState::Accepted)));
+    for number in 0..10_000usize {
+        assert_eq!(rt; ledger.fate(number), Some(&accepted), "{number}");
+    }
+    assert_eq!(rt; ledger.fate(10_000), None);
+    drop((accepted, ledger));
+}

@@ -1,0 +1,210 @@
+//! What ends all registrations at once: a new attach and a detach that closes; and what ends none.
+use crate::ledgers::{assert_fates, attached, new_ledger, put, reattach, three_sent};
+use crate::samples::{attach_of, count_tag};
+use amqp_link_core::endpoint::{LinkAttach, LinkDetach, LinkExt};
+use amqp_link_ledger::fate::Fate;
+use amqp_link_ledger::ledger::OutcomeLedger;
+use amqp_link_samples::table::detach;
+use amqp_link_sender::SenderAttachExchange;
+use amqp_link_state::state::LinkState;
+use amqp_link_types::delivery::{DeliveryOutcome, Outcomes};
+use amqp_link_types::frame::LinkFrame;
+use amqp_link_types::types::{
+    Detach, Error, Handle, LinkStateError, OutputHandle, Role, SenderAttachError, SenderSettleMode,
+    Symbol, Target,
+};
+use std::process::Abort;
+
+// Why a delivery ends.
+#[derive(Clone, Copy)]
+enum Ended {
+    Illegal,
+    Closed,
+}
+
+fn outcome_of(ended: Ended) -> DeliveryOutcome {
+    match ended {
+        Ended::Illegal => Err(LinkStateError::IllegalState),
+        Ended::Closed => Err(LinkStateError::RemoteClosed),
+    }
+}
+
+// The outcomes of the three deliveries, in order.
+fn all_three(rt: &(impl Abort + AllocGlobal), ended: Ended) -> Outcomes {
+    let outcomes = vec![in rt.alloc();
+        (count_tag(rt, 0), outcome_of(ended)),
+        (count_tag(rt, 1), outcome_of(ended)),
+        (count_tag(rt, 2), outcome_of(ended)),
+    ];
+    outcomes.expect(rt, "memory")
+}
+
+// The fates of the three deliveries that have ended.
+fn assert_resolved(rt: &impl Abort, ledger: &OutcomeLedger<Target>, ended: Ended) {
+    let wanted = [
+        Fate::Resolved(outcome_of(ended)),
+        Fate::Resolved(outcome_of(ended)),
+        Fate::Resolved(outcome_of(ended)),
+    ];
+    assert_fates(rt, ledger, &wanted);
+    assert_eq!(rt; ledger.unsettled().len(), 0);
+}
+
+// The fates of the three deliveries that are pending.
+fn assert_pending(rt: &impl Abort, ledger: &OutcomeLedger<Target>) {
+    assert_fates(rt, ledger, &[Fate::Pending, Fate::Pending, Fate::Pending]);
+    assert_eq!(rt; ledger.unsettled().len(), 3);
+}
+
+// An attach and its answer are those of the link.
+#[test]
+fn attaches_are_those_of_the_link(rt: HostRuntime) {
+    let mode = SenderSettleMode::Mixed;
+    let mut ledger = new_ledger(&rt, mode);
+    let sent = ledger.send_attach(false).expect(&rt, "an attach is sent");
+    let wanted = (
+        LinkFrame::Attach(attach_of(&rt, Role::Sender, mode)),
+        Vec::new(rt.alloc()),
+    );
+    assert_eq!(rt; sent, wanted);
+    drop((sent, wanted));
+    let answer = ledger.on_incoming_attach(attach_of(&rt, Role::Receiver, mode));
+    let (exchange, outcomes) = answer.expect(&rt, "an attach that is accepted");
+    let is_complete = matches!(&exchange, SenderAttachExchange::Complete);
+    assert_eq!(rt; outcomes.len(), 0);
+    drop((exchange, outcomes));
+    assert!(rt; is_complete);
+    assert_fates(&rt, &ledger, &[]);
+    drop(ledger);
+}
+
+// A link that attaches anew gives its deliveries up.
+#[test]
+fn new_attach_resolves_all(rt: HostRuntime) {
+    let mut ledger = three_sent(&rt, SenderSettleMode::Mixed);
+    drop(ledger.send_detach(false, None));
+    drop(ledger.on_detach_reply(detach(false)));
+    *ledger.output_handle_mut() = Some(OutputHandle(0));
+    assert_pending(&rt, &ledger);
+    let sent = ledger.send_attach(true);
+    let (frame, outcomes) = sent.expect(&rt, "an attach is sent");
+    drop(frame);
+    let wanted = all_three(&rt, Ended::Illegal);
+    assert_eq!(rt; outcomes, wanted);
+    drop((outcomes, wanted));
+    assert_resolved(&rt, &ledger, Ended::Illegal);
+    drop(ledger);
+}
+
+// Where the state has no transition for it, nothing is given up.
+#[test]
+fn refused_new_attach_resolves_nothing(rt: HostRuntime) {
+    let mut ledger = three_sent(&rt, SenderSettleMode::Mixed);
+    let refused = ledger.send_attach(true).err();
+    assert_eq!(rt; refused, Some(SenderAttachError::IllegalState));
+    assert_pending(&rt, &ledger);
+    drop(ledger);
+}
+
+// A sender that leaves all unsettled, and a receiver that wants all settled.
+#[test]
+fn refused_attach_resolves_nothing(rt: HostRuntime) {
+    let mut ledger = three_sent(&rt, SenderSettleMode::Unsettled);
+    reattach(&rt, &mut ledger);
+    assert_pending(&rt, &ledger);
+    let attach = attach_of(&rt, Role::Receiver, SenderSettleMode::Settled);
+    let refused = ledger.on_incoming_attach(attach).err();
+    assert_eq!(rt; refused, Some(SenderAttachError::SndSettleModeNotSupported));
+    assert_pending(&rt, &ledger);
+    drop(ledger);
+}
+
+// A detach that the peer initiates, and that closes, resolves all; the reply closes as well.
+#[test]
+fn closing_detach_resolves_all(rt: HostRuntime) {
+    let mut ledger = three_sent(&rt, SenderSettleMode::Mixed);
+    let closing = detach(true);
+    let answer = ledger.on_incoming_detach(&closing, true);
+    let (reply, outcomes) = answer.expect(&rt, "memory");
+    assert_eq!(rt; reply, Some(closing));
+    drop(reply);
+    let wanted = all_three(&rt, Ended::Closed);
+    assert_eq!(rt; outcomes, wanted);
+    drop((outcomes, wanted));
+    assert_resolved(&rt, &ledger, Ended::Closed);
+    drop(ledger);
+}
+
+// A detach that does not close resolves nothing, and neither does one that the link has sent.
+#[test]
+fn other_detaches_resolve_nothing(rt: HostRuntime) {
+    let mut ledger = three_sent(&rt, SenderSettleMode::Mixed);
+    for (closed, remote_initiated) in [(false, true), (true, false)] {
+        let detach = detach(closed);
+        let answer = ledger.on_incoming_detach(&detach, remote_initiated);
+        let (reply, outcomes) = answer.expect(&rt, "memory");
+        let answered = (reply.is_some(), outcomes.len());
+        drop((reply, outcomes));
+        drop(detach);
+        assert_eq!(rt; answered, (remote_initiated, 0), "{closed}");
+        assert_pending(&rt, &ledger);
+    }
+    drop(ledger);
+}
+
+// The detaches of a ledger are those of its link, and its registrations stay.
+#[test]
+fn detaches_are_those_of_the_link(rt: HostRuntime) {
+    let mut ledger = three_sent(&rt, SenderSettleMode::Mixed);
+    let sent = ledger.send_detach(true, None);
+    let frame = sent.expect(&rt, "a detach is sent");
+    assert_eq!(rt; frame, LinkFrame::Detach(detach(true)));
+    drop(frame);
+    assert_eq!(rt; *ledger.local_state(), LinkState::CloseSent);
+    assert_pending(&rt, &ledger);
+    let is_taken = ledger.on_detach_reply(detach(true)).is_ok();
+    assert!(rt; is_taken, "the reply");
+    assert_eq!(rt; *ledger.local_state(), LinkState::Closed);
+    assert_pending(&rt, &ledger);
+    drop(ledger);
+    let mut ledger = attached(&rt, SenderSettleMode::Mixed, 0);
+    let is_taken = ledger.apply_remote_detach_outcome(detach(false)).is_ok();
+    assert!(rt; is_taken, "a detach that the peer initiates");
+    assert_eq!(rt; *ledger.local_state(), LinkState::Detached);
+    drop(ledger);
+}
+
+// An error of the condition x:y.
+fn error_of(rt: &(impl Abort + AllocGlobal)) -> Error {
+    let condition = String::from_str(rt.alloc(), "x:y").expect(rt, "memory");
+    Error {
+        condition: Symbol::from(condition),
+        description: None,
+        info: None,
+    }
+}
+
+fn closed_with_error(rt: &(impl Abort + AllocGlobal)) -> DeliveryOutcome {
+    Err(LinkStateError::RemoteClosedWithError(error_of(rt)))
+}
+
+// The error of a detach is that of each delivery which it ends.
+#[test]
+fn error_of_a_detach_is_the_outcome(rt: HostRuntime) {
+    let mut ledger = new_ledger(&rt, SenderSettleMode::Mixed);
+    assert!(rt; put(&rt, &mut ledger, 3), "a free tag");
+    let closing = Detach {
+        handle: Handle(0),
+        closed: true,
+        error: Some(error_of(&rt)),
+    };
+    let outcomes = ledger.fail_pending_unsettled(&closing);
+    drop(closing);
+    let outcomes = outcomes.expect(&rt, "memory");
+    let wanted = vec![in rt.alloc(); (count_tag(&rt, 3), closed_with_error(&rt))];
+    let wanted: Outcomes = wanted.expect(&rt, "memory");
+    assert_eq!(rt; outcomes, wanted);
+    drop((outcomes, wanted));
+    assert_fates(&rt, &ledger, &[Fate::Resolved(closed_with_error(&rt))]);
+    drop(ledger);
+}

@@ -1,0 +1,71 @@
+//! What a ledger shows of its link, and the flows that it takes.
+use crate::ledgers::{assert_fates, attached, new_ledger, three_sent};
+use crate::samples::fields;
+use amqp_link_core::endpoint::LinkExt;
+use amqp_link_ledger::fate::Fate;
+use amqp_link_samples::links::{FlowTold, told_back};
+use amqp_link_types::types::{
+    InputHandle, LinkFlow, LinkRelayError, OutputHandle, ReceiverSettleMode, SenderSettleMode,
+};
+
+#[test]
+fn ledger_shows_its_link(rt: HostRuntime) {
+    let ledger = new_ledger(&rt, SenderSettleMode::Unsettled);
+    assert_eq!(rt; ledger.name(), "l");
+    assert_eq!(rt; *ledger.rcv_settle_mode(), ReceiverSettleMode::First);
+    assert_eq!(rt; ledger.max_message_size(), None);
+    assert_eq!(rt; ledger.unsettled().len(), 0);
+    assert_eq!(rt; ledger.link().output_handle(), Some(OutputHandle(0)));
+    assert_eq!(rt; ledger.link().input_handle(), None);
+    assert_eq!(rt;
+        ledger.link().snd_settle_mode(),
+        SenderSettleMode::Unsettled
+    );
+    drop(ledger);
+    let ledger = attached(&rt, SenderSettleMode::Mixed, 2);
+    assert_eq!(rt; ledger.link().input_handle(), Some(InputHandle(0)));
+    assert_eq!(rt; ledger.flow_state().link_credit(), 2);
+    drop(ledger);
+}
+
+#[test]
+fn properties_are_those_of_the_link(rt: HostRuntime) {
+    let mut ledger = new_ledger(&rt, SenderSettleMode::Mixed);
+    let has_none = ledger.properties().is_none();
+    drop(ledger.properties_mut().replace(fields(&rt, "k")));
+    let wanted = Some(fields(&rt, "k"));
+    let is_set = *ledger.properties() == wanted && *ledger.link().properties() == wanted;
+    drop(wanted);
+    drop(ledger);
+    assert!(rt; has_none, "none at first");
+    assert!(rt; is_set, "the property of the link");
+}
+
+// A flow that asks for an answer gets one, and the registrations stay.
+#[test]
+fn flow_is_answered(rt: HostRuntime) {
+    let mut ledger = three_sent(&rt, SenderSettleMode::Mixed);
+    let flow = LinkFlow {
+        delivery_count: Some(3),
+        link_credit: Some(8),
+        echo: true,
+        ..LinkFlow::default()
+    };
+    let wanted = FlowTold {
+        handle: 0,
+        count: Some(3),
+        credit: Some(8),
+        available: Some(0),
+        drain: false,
+        echo: false,
+    };
+    let answer = told_back(ledger.on_incoming_flow(flow));
+    assert_eq!(rt; answer, Ok(Some(wanted)));
+    assert_eq!(rt; ledger.flow_state().link_credit(), 8);
+    assert_fates(&rt, &ledger, &[Fate::Pending, Fate::Pending, Fate::Pending]);
+    *ledger.output_handle_mut() = None;
+    let answer = told_back(ledger.on_incoming_flow(LinkFlow::default()));
+    assert_eq!(rt; answer, Err(LinkRelayError::UnattachedHandle));
+    assert_fates(&rt, &ledger, &[Fate::Pending, Fate::Pending, Fate::Pending]);
+    drop(ledger);
+}

@@ -1,0 +1,74 @@
+//! A sender that is led to each of its states by public calls.
+use crate::samples::{coming, count_tag, payload_of};
+use amqp_link_core::endpoint::{LinkAttach, LinkDetach, LinkExt};
+use amqp_link_samples::links::went;
+use amqp_link_samples::table::detach;
+use amqp_link_sender::SenderLink;
+use amqp_link_state::state::LinkState;
+use amqp_link_types::delivery::UnsettledMessage;
+use amqp_link_types::types::{Role, Target};
+use std::process::Abort;
+
+// Makes the delivery of this count pending.
+pub(crate) fn put(rt: &(impl Abort + AllocGlobal), link: &mut SenderLink<Target>, count: u8) {
+    let entry = UnsettledMessage::new(payload_of(rt, &[7]), None, 0);
+    let put = went(link.put_back(count_tag(rt, count), entry));
+    assert!(rt; put, "a free tag");
+}
+
+// The receiver's attach arrives, with a whole map or not.
+fn attach_arrives(
+    rt: &(impl Abort + AllocGlobal),
+    link: &mut SenderLink<Target>,
+    incomplete: bool,
+) {
+    drop(link.on_incoming_attach(coming(rt, Role::Receiver, incomplete)));
+}
+
+// Leads a link that is not attached to this state, or to `Attached` if it is reached by a detach.
+fn attach_up_to(rt: &(impl Abort + AllocGlobal), link: &mut SenderLink<Target>, state: LinkState) {
+    match state {
+        LinkState::Unattached => {}
+        LinkState::AttachSent => drop(link.send_attach(false)),
+        LinkState::IncompleteAttachSent => {
+            put(rt, link, 9);
+            link.set_max_frame_size(31);
+            drop(link.send_attach(false));
+        }
+        LinkState::AttachReceived => attach_arrives(rt, link, false),
+        LinkState::IncompleteAttachReceived => attach_arrives(rt, link, true),
+        LinkState::IncompleteAttachExchanged => {
+            drop(link.send_attach(false));
+            attach_arrives(rt, link, true);
+        }
+        _ => {
+            drop(link.send_attach(false));
+            attach_arrives(rt, link, false);
+        }
+    }
+}
+
+// Leads a link that is not attached, and has no pending delivery, to this state. It has no output handle
+// after a detach. Before an incomplete attach the delivery of tag 9 is made pending, and its frames get a
+// limit of 31 bytes.
+pub(crate) fn lead_to(
+    rt: &(impl Abort + AllocGlobal),
+    link: &mut SenderLink<Target>,
+    state: LinkState,
+) {
+    attach_up_to(rt, link, state);
+    match state {
+        LinkState::DetachSent => drop(link.send_detach(false, None)),
+        LinkState::CloseSent => drop(link.send_detach(true, None)),
+        LinkState::Detached => {
+            drop(link.send_detach(false, None));
+            drop(link.on_detach_reply(detach(false)));
+        }
+        LinkState::Closed => {
+            drop(link.send_detach(true, None));
+            drop(link.on_detach_reply(detach(true)));
+        }
+        _ => {}
+    }
+    assert_eq!(rt; *link.local_state(), state);
+}
