@@ -1,0 +1,183 @@
+-- Values of the definitions that were worked out by hand.
+use Rattle.std.proofs.Common.{◌≡◌, sym, refl, true, false, List, [], ◌∷◌, ◌++◌, Some, None, Ok, ℕ}
+use Rattle.amqp_link_payloads.specs.Header.{header_len}
+use Rattle.amqp_link_payloads.specs.Position.{starts}
+use Rattle.amqp_link_types.specs.Entries.{Tag}
+use Rattle.amqp_link_types.specs.Refusals.{refusal}
+use Rattle.amqp_link_types.specs.Size.{attach_len, before, list_of}
+use Rattle.amqp_link_types.specs.declared.delivery.UnsettledMessage.{UnsettledMessage}
+use Rattle.amqp_link_types.specs.declared.frame.LinkFrame.{LinkFrame}
+use Rattle.amqp_link_types.specs.declared.frame.LinkFrame.TheVariants.{FirstTransfer, TransferContinuation}
+use Rattle.amqp_link_types.specs.declared.types.delivery_state.DeliveryState.TheVariants.{Accepted, Received}
+use Rattle.amqp_link_types.specs.declared.types.terminus.Target.{Target}
+use Rattle.amqp_link_types.proofs.MapLemmas.{false_is_not_true}
+use Rattle.amqp_link_core.specs.declared.resumption.ResumingDelivery.TheVariants.{Resend, Resume, Abort}
+use Rattle.amqp_link_sender.specs.Senders.{Sender, new_entry}
+use Rattle.amqp_link_receiver.specs.Receivers.{Receiver}
+use Rattle.amqp_link_ledger.specs.Fates.{HandsOut, Resolves, after}
+use Rattle.amqp_link_ledger.specs.declared.fate.Fate.TheVariants.{Pending, HandedOut, Resolved}
+use Rattle.amqp_link_worlds.specs.Resumptions.{entry_of, rest_of, resumes}
+use Rattle.amqp_link_worlds.specs.Steps.{delivery_transfer, begun, received, new_sender, new_receiver, new_world, attaches_fit, is_halfway_at_other, attach_tests, grant_tests, send_tests, arrive_tests, cut_tests, next_tests, settle_tests}
+use Rattle.amqp_link_worlds.specs.Wires.{OnWire, under, frames_of, payload_of_all}
+use Rattle.amqp_link_worlds.specs.Worlds.{World, Apart, Halfway, Together, IsGood, is_out, bytes_in, receiver_entry}
+use Rattle.amqp_link_worlds.specs.declared.error.PairError.TheVariants as error
+use Rattle.amqp_link_worlds.specs.declared.progress.Progress.{Progress}
+
+-- ---- a delivery of three bytes, in two transfers, and resumed after the first
+
+abbrev tag : Tag
+tag = 0 ∷ 0 ∷ 0 ∷ 7 ∷ []
+
+abbrev other : Tag
+other = 0 ∷ 0 ∷ 0 ∷ 8 ∷ []
+
+abbrev first : LinkFrame
+first =
+    let t = delivery_transfer tag false in
+    FirstTransfer (record { input_handle = record { 0 = 0 }; performative = record t { more = true }; payload = 1 ∷ 2 ∷ [] })
+
+abbrev last : LinkFrame
+last =
+    let t = delivery_transfer tag false in
+    TransferContinuation (record {
+      input_handle = record { 0 = 0 };
+      performative = record t { delivery_tag = None; message_format = None; settled = None };
+      payload = 3 ∷ [];
+    })
+
+abbrev again : LinkFrame
+again = FirstTransfer (record { input_handle = record { 0 = 0 }; performative = delivery_transfer tag true; payload = 3 ∷ [] })
+
+-- both under way, with a frame of another delivery between
+abbrev wire : List OnWire
+wire = under tag (first ∷ []) ++ under other (first ∷ []) ++ under tag (last ∷ [])
+
+own_frames : frames_of tag wire ≡ first ∷ last ∷ []
+own_frames = refl
+
+own_bytes : payload_of_all (frames_of tag wire) ≡ 1 ∷ 2 ∷ 3 ∷ []
+own_bytes = refl
+
+abbrev after_one : Progress
+after_one = received begun 5 first
+
+held_then : (bytes_in after_one.held ≡ 1 ∷ 2 ∷ []) × (after_one.whole ≡ false)
+held_then = (refl, refl)
+
+-- its last transfer keeps the id
+held_after_last : received after_one 6 last ≡ record {
+  held = Some (record {
+    performative = let t = delivery_transfer tag false in record t { more = true; delivery_id = Some 5 };
+    pieces = (1 ∷ 2 ∷ []) ∷ (3 ∷ []) ∷ [];
+  });
+  whole = true;
+  put_back = false;
+  taken = false;
+}
+held_after_last = refl
+
+-- a resumption gives it another one
+held_after_again : received after_one 6 again ≡ record {
+  held = Some (record {
+    performative = let t = delivery_transfer tag false in record t { more = true; delivery_id = Some 6 };
+    pieces = (1 ∷ 2 ∷ []) ∷ (3 ∷ []) ∷ [];
+  });
+  whole = true;
+  put_back = false;
+  taken = false;
+}
+held_after_again = refl
+
+reported_then : receiver_entry after_one.held ≡ Some (Some (Received 0 2))
+unfolding starts header_len
+reported_then = refl
+
+-- one transfer has arrived, and the other is under way
+good_while_out : IsGood (1 ∷ 2 ∷ 3 ∷ []) after_one true (receiver_entry after_one.held) (last ∷ []) None
+good_while_out = record {
+  front = (3 ∷ [], refl);
+  report = refl;
+  all = λ _. refl;
+  ends = λ _. refl;
+  quiet = λ off. absurd (false_is_not_true (sym off));
+  complete = λ whole. absurd (false_is_not_true whole);
+  rest_is = tt;
+}
+
+-- the wire was lost, and the last byte is to be sent
+good_while_listed : IsGood (1 ∷ 2 ∷ 3 ∷ []) after_one false (receiver_entry after_one.held) [] (Some (3 ∷ []))
+good_while_listed = record {
+  front = (3 ∷ [], refl);
+  report = refl;
+  all = λ out. absurd (false_is_not_true out);
+  ends = λ out. absurd (false_is_not_true out);
+  quiet = λ _. refl;
+  complete = λ whole. absurd (false_is_not_true whole);
+  rest_is = refl;
+}
+
+-- ---- whether it is out
+
+abbrev entry : List ℕ → UnsettledMessage
+entry payload = new_entry 0 payload
+
+out_values : (is_out true (Some (entry [])) begun ≡ true) × (is_out true (Some (entry [])) (record begun { put_back = true }) ≡ false)
+    × (is_out false (Some (entry [])) begun ≡ false) × (is_out true None begun ≡ false)
+out_values = (refl, refl, refl, refl)
+
+-- ---- deliveries of a list to resume
+
+resumption_values : (entry_of (Resend (entry (9 ∷ []))) ≡ Some (entry (9 ∷ []))) × (rest_of (Resend (entry (9 ∷ []))) ≡ Some (9 ∷ [])) × (resumes (Resend (entry (9 ∷ []))) ≡ false)
+    × (rest_of (Resume (entry (8 ∷ 9 ∷ [])) (9 ∷ [])) ≡ Some (9 ∷ [])) × (resumes (Resume (entry (8 ∷ 9 ∷ [])) (9 ∷ [])) ≡ true) × (entry_of (Abort 0 None) ≡ None)
+resumption_values = (refl, refl, refl, refl, refl, refl)
+
+-- ---- outcomes are resolved before the list is handed out
+
+fates_then : after (HandsOut ((tag, Resend (entry [])) ∷ [])) (after (Resolves ((other, Ok (Some Accepted)) ∷ [])) ((tag, Pending) ∷ (other, Pending) ∷ []))
+    ≡ (tag, HandedOut) ∷ (other, Resolved (Ok (Some Accepted))) ∷ []
+fates_then = refl
+
+-- ---- whether the attaches fit: one delivery of eight bytes with a tag of four, at count 1
+
+abbrev eight : List ℕ
+eight = 0 ∷ 83 ∷ 112 ∷ 192 ∷ 0 ∷ 83 ∷ 119 ∷ 65 ∷ []
+
+abbrev s : Sender Target
+s = let plain = new_sender 0 in record plain { flow_state = record plain.flow_state { delivery_count = 1 }; unsettled = (0 ∷ 0 ∷ 0 ∷ 0 ∷ [], entry eight) ∷ [] }
+
+-- the receiver reports it at this position
+abbrev r : ℕ → ℕ → Receiver Target
+r section offset = let plain = new_receiver 0 in record plain { unsettled = (0 ∷ 0 ∷ 0 ∷ 0 ∷ [], Some (Received section offset)) ∷ [] }
+
+fit_in_section_0 : (attaches_fit s (r 0 5) 45 ≡ false) × (attaches_fit s (r 0 5) 46 ≡ true)
+unfolding attach_len before list_of
+fit_in_section_0 = (refl, refl)
+
+fit_in_section_1 : (attaches_fit s (r 1 19) 46 ≡ false) × (attaches_fit s (r 1 19) 47 ≡ true)
+unfolding attach_len before list_of
+fit_in_section_1 = (refl, refl)
+
+fit_unreported : (attaches_fit s (new_receiver 0) 37 ≡ false) × (attaches_fit s (new_receiver 0) 38 ≡ true)
+unfolding attach_len before list_of
+fit_unreported = (refl, refl)
+
+-- ---- refusals
+
+abbrev in_phase_together : World
+in_phase_together = let w = new_world 0 in record w { phase = Together 30 }
+
+apart_refusals : (refusal (grant_tests (new_world 0)) ≡ Some error.NotAttached) × (refusal (send_tests (new_world 0) []) ≡ Some error.NotAttached)
+    × (refusal (arrive_tests (new_world 0)) ≡ Some error.NotAttached) × (refusal (attach_tests (new_world 0) 28) ≡ Some error.LimitTooSmall)
+apart_refusals = (refl, refl, refl, refl)
+
+together_refusals : (refusal (attach_tests in_phase_together 30) ≡ Some error.AlreadyAttached) × (refusal (send_tests in_phase_together []) ≡ Some error.CreditMissing)
+    × (refusal (arrive_tests in_phase_together) ≡ Some error.WireEmpty) × (refusal (next_tests in_phase_together) ≡ Some error.NothingToResume)
+    × (refusal (settle_tests in_phase_together tag) ≡ Some error.UnknownTag) × (refusal (cut_tests in_phase_together) ≡ None)
+together_refusals = (refl, refl, refl, refl, refl, refl)
+
+listed_refusals : (refusal (send_tests (record in_phase_together { resuming = (tag, Resend (entry [])) ∷ [] }) []) ≡ Some error.ResumeFirst)
+    × (refusal (cut_tests (record in_phase_together { resuming = (tag, Resend (entry [])) ∷ [] })) ≡ Some error.StillHandedOut)
+listed_refusals = (refl, refl)
+
+halfway_values : (is_halfway_at_other 40 (Halfway 30) ≡ true) × (is_halfway_at_other 30 (Halfway 30) ≡ false) × (is_halfway_at_other 40 Apart ≡ false)
+halfway_values = (refl, refl, refl)

@@ -1,0 +1,77 @@
+-- When the endpoints of a pair refuse a call only if they are out of memory.
+use Rattle.std.specs.Prelude.{◌≡◌, ◌<◌, ◌≤◌, ℕ, List, [], Some, None, true, false, is_some, IsSome}
+use Rattle.amqp_link_payloads.specs.Position.{position}
+use Rattle.amqp_link_types.specs.Entries.{Tag, entry_at}
+use Rattle.amqp_link_types.specs.Refusals.{refusal}
+use Rattle.amqp_link_types.specs.declared.delivery.UnsettledMessage.{UnsettledMessage}
+use Rattle.amqp_link_types.specs.declared.types.definitions.SenderSettleMode.TheVariants.{Mixed}
+use Rattle.amqp_link_types.specs.declared.types.terminus.Target.{Target}
+use Rattle.amqp_link_core.specs.Held.{Held, held_bytes}
+use Rattle.amqp_link_core.specs.declared.resumption.ResumingDelivery.{ResumingDelivery}
+use Rattle.amqp_link_core.specs.LinkStates.{Call, next_state}
+use Rattle.amqp_link_state.specs.declared.state.LinkState.TheVariants.{DetachSent, Detached}
+use Rattle.amqp_link_receiver.specs.Receivers.{Receiver}
+use Rattle.amqp_link_sender.specs.Senders.{Sender, next_tag, unsettled_transfer_tests}
+use Rattle.amqp_link_receiver.specs.Completing.{may_receive, transfer_refusal, entered, spent}
+use Rattle.amqp_link_worlds.specs.Resumptions.{entry_of, rest_of, resumes}
+use Rattle.amqp_link_worlds.specs.Steps.{delivery_transfer}
+use Rattle.amqp_link_worlds.specs.Wires.{frames_of}
+use Rattle.amqp_link_worlds.specs.Worlds.{World}
+use Rattle.amqp_link_worlds.specs.declared.progress.Progress.{Progress}
+
+-- both handles are 0, deliveries state themselves whether they are settled, there is credit, the next tag
+-- is free, and the frames have room
+pub record CanSend (s : Sender Target) : Type 0 where
+  pub output : s.output_handle ≡ Some (record { 0 = 0 })
+  pub input : s.input_handle ≡ Some (record { 0 = 0 })
+  pub mode : s.snd_settle_mode ≡ Mixed
+  pub credit : 0 < s.flow_state.link_credit
+  pub free : entry_at s.unsettled (next_tag s) ≡ None
+  pub room : 29 ≤ s.max_frame_size
+
+-- nothing is there of a tag
+pub record IsFree (w : World) (tag : Tag) : Type 0 where
+  pub delivery : entry_at w.deliveries tag ≡ None
+  pub report : entry_at w.receiver.unsettled tag ≡ None
+  pub quiet : frames_of tag w.wire ≡ []
+
+-- both endpoints have their handles, and neither drains
+pub record CanGrant (s : Sender Target) (r : Receiver Target) : Type 0 where
+  pub sender_output : s.output_handle ≡ Some (record { 0 = 0 })
+  pub receiver_output : r.output_handle ≡ Some (record { 0 = 0 })
+  pub sender_drain : s.flow_state.drain ≡ false
+  pub receiver_drain : r.flow_state.drain ≡ false
+
+-- the sender can send a detach that does not close, and the receiver can take it; both have their handles
+pub record CanCut (s : Sender Target) (r : Receiver Target) : Type 0 where
+  pub sender_output : s.output_handle ≡ Some (record { 0 = 0 })
+  pub receiver_output : r.output_handle ≡ Some (record { 0 = 0 })
+  pub sent : next_state Call.SendDetach false s.local_state ≡ Some DetachSent
+  pub taken : next_state Call.RemoteDetach false r.local_state ≡ Some Detached
+
+-- a delivery of the list has an entry and a rest, its tag is free, and its frames have room
+pub record CanResume (w : World) (tag : Tag) (next : ResumingDelivery) : Type 0 where
+  pub entry : UnsettledMessage
+  pub rest : List ℕ
+  pub before : Progress
+  pub kept : entry_of next ≡ Some entry
+  pub format : entry.message_format ≡ 0
+  pub sends : rest_of next ≡ Some rest
+  pub known : entry_at w.deliveries tag ≡ Some before
+  pub free : entry_at w.ledger.link.unsettled tag ≡ None
+  pub allowed : refusal (unsettled_transfer_tests w.ledger.link (delivery_transfer tag (resumes next)) tag rest) ≡ None
+  -- its transfer says resume exactly if the receiver reports it
+  pub flag : resumes next ≡ is_some (entry_at w.receiver.unsettled tag)
+
+-- if it has credit, the link takes the delivery that is held, and its report stays as it is
+pub record CanComplete (w : World) (held : Held) : Type 0 where
+  pub attached : may_receive w.receiver.local_state ≡ true
+  pub handle : w.receiver.output_handle ≡ Some (record { 0 = 0 })
+  pub allowed : transfer_refusal w.receiver held.performative ≡ None
+  pub same : entered held.performative (position (held_bytes held)).0 (position (held_bytes held)).1 w.receiver ≡ spent w.receiver
+
+-- both endpoints have the delivery, and a pair knows how far it has come
+pub record CanSettle (w : World) (tag : Tag) : Type 0 where
+  pub own : IsSome (entry_at w.ledger.link.unsettled tag)
+  pub report : IsSome (entry_at w.receiver.unsettled tag)
+  pub known : IsSome (entry_at w.deliveries tag)

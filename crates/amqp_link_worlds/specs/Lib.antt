@@ -1,0 +1,9 @@
+pub mod Wires
+pub mod Resumptions
+pub mod Worlds
+pub mod Steps
+pub mod Invariants
+pub mod Attachable
+pub mod Receiving
+pub mod Callable
+pub mod Runs

@@ -1,0 +1,22 @@
+-- One delivery of the list that an exchange of unsettled maps leaves to resume (OASIS AMQP 1.0 core, 2.6.13).
+use Rattle.std.specs.Prelude.{ℕ, Bool, true, false, List, Option, Some, None}
+use Rattle.amqp_link_core.specs.declared.resumption.ResumingDelivery.{ResumingDelivery}
+use Rattle.amqp_link_core.specs.declared.resumption.ResumingDelivery.TheVariants.{Resend, Resume}
+use Rattle.amqp_link_types.specs.declared.delivery.UnsettledMessage.{UnsettledMessage}
+
+-- its entry at the sender, with the whole payload
+abbrev pub entry_of : ResumingDelivery → Option UnsettledMessage
+entry_of (Resend entry) = Some entry
+entry_of (Resume entry rest) = Some entry
+entry_of _ = None
+
+-- the bytes still to be sent
+abbrev pub rest_of : ResumingDelivery → Option (List ℕ)
+rest_of (Resend entry) = Some entry.payload
+rest_of (Resume entry rest) = Some rest
+rest_of _ = None
+
+-- whether the receiver has something of it already, so that its transfer says resume
+abbrev pub resumes : ResumingDelivery → Bool
+resumes (Resume entry rest) = true
+resumes _ = false

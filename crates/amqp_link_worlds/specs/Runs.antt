@@ -1,0 +1,177 @@
+-- Whole runs of a pair: events, their answers, and the worlds between.
+use Rattle.std.specs.Prelude.{◌≡◌, ◌⊎◌, ◌<◌, ℕ, Bool, true, false, not, map, take, length, ◌&&◌, ◌||◌, List, [], ◌∷◌, ◌++◌, flat_map, None, Some, Result, Ok, Err, if◌then◌else◌}
+use Rattle.std.specs.List.{list_any}
+use Rattle.std.specs.Str.{bytes_eq}
+use Rattle.amqp_link_payloads.specs.declared.error.DecodeError.{DecodeError}
+use Rattle.amqp_link_payloads.specs.declared.message.Message.{Message}
+use Rattle.amqp_link_types.specs.Deliveries.{Delivered}
+use Rattle.amqp_link_types.specs.Entries.{Tag}
+use Rattle.amqp_link_types.specs.Frames.{payload_of}
+use Rattle.amqp_link_types.specs.Refusals.{refusal}
+use Rattle.amqp_link_worlds.specs.Steps.{Tests, Attaches, StaysOrStops, Grants, Sends, Arrives, Cuts, Resumes, PutsBack, HandsOutDelivery, Settles, IsUndecoded, attach_tests, grant_tests, send_tests, arrive_tests, cut_tests, next_tests, hand_out_tests, settle_tests}
+use Rattle.amqp_link_worlds.specs.Wires.{OnWire}
+use Rattle.amqp_link_worlds.specs.Worlds.{World, bytes_in, held_at}
+use Rattle.amqp_link_worlds.specs.declared.error.PairError.{PairError}
+use Rattle.amqp_link_worlds.specs.declared.error.PairError.TheVariants as error
+
+-- a call of a pair, with its arguments
+pub data Event : Type 0 where
+  Attach : ℕ → Event
+  Grant : ℕ → Event
+  Send : List ℕ → Event
+  Arrive : ℕ → Event
+  Cut : Event
+  ResumeNext : Event
+  PutBackNext : Event
+  HandOut : Tag → Event
+  Settle : Tag → Event
+
+-- the answer to a call that was not refused
+pub data Answer (B : Type 0) : Type 0 where
+  ToAttach : ℕ → Answer B
+  ToGrant : ℕ → Answer B
+  ToSend : Tag → ℕ → Answer B
+  ToArrive : Tag → ℕ → ℕ → Bool → Answer B
+  ToCut : Answer B
+  ToResumeNext : Tag → ℕ → Bool → Answer B
+  ToPutBackNext : Tag → Answer B
+  ToHandOut : Delivered B → Answer B
+  ToSettle : Answer B
+
+-- the payload of the first transfer on a wire
+abbrev pub first_payload : List OnWire → List ℕ
+first_payload [] = []
+first_payload (next ∷ wire) = payload_of next.frame
+
+module _ {B : Type 0} where
+  -- whether an answer is that a delivery with this tag was sent
+  abbrev pub is_send_of : Tag → Result (Answer B) PairError → Bool
+  is_send_of tag (Ok (ToSend sent count)) = bytes_eq tag sent
+  is_send_of tag _ = false
+
+  -- whether it is that a transfer of this tag arrived
+  abbrev pub is_arrival_of : Tag → Result (Answer B) PairError → Bool
+  is_arrival_of tag (Ok (ToArrive came section offset whole)) = bytes_eq tag came
+  is_arrival_of tag _ = false
+
+  -- whether an event was out of memory
+  abbrev pub is_out_of_memory : Result (Answer B) PairError → Bool
+  is_out_of_memory (Err error.OutOfMemory) = true
+  is_out_of_memory _ = false
+
+  -- whether the last of these was
+  abbrev pub ends_out_of_memory : List (Result (Answer B) PairError) → Bool
+  ends_out_of_memory [] = false
+  ends_out_of_memory (answer ∷ []) = is_out_of_memory answer
+  ends_out_of_memory (answer ∷ next ∷ answers) = ends_out_of_memory (next ∷ answers)
+
+  -- of these answers only the last may be that
+  abbrev pub StopsInTime : List (Result (Answer B) PairError) → Type 0
+  StopsInTime [] = Unit {0}
+  StopsInTime (answer ∷ []) = Unit {0}
+  StopsInTime (answer ∷ next ∷ answers) = (is_out_of_memory answer ≡ false) × StopsInTime (next ∷ answers)
+
+  -- whether a delivery is out after an answered event: from its send or its resumption on, until a cut, an
+  -- attach or its settlement
+  abbrev pub is_out_after : Tag → Event → Answer B → Bool → Bool
+  is_out_after tag (Attach limit) answer out = false
+  is_out_after tag (Send payload) (ToSend sent count) out = bytes_eq tag sent || out
+  is_out_after tag Cut answer out = false
+  is_out_after tag ResumeNext (ToResumeNext next count resume) out = bytes_eq tag next || out
+  is_out_after tag (Settle settled) answer out = not (bytes_eq tag settled) && out
+  is_out_after tag event answer out = out
+
+  module _ (decoded : List ℕ → Result (Message B) DecodeError) where
+    -- why an event is refused, in the order of the tests
+    abbrev pub tests_of : World → Event → Tests
+    tests_of w (Attach limit) = attach_tests w limit
+    tests_of w (Grant n) = grant_tests w
+    tests_of w (Send payload) = send_tests w payload
+    tests_of w (Arrive id) = arrive_tests w
+    tests_of w Cut = cut_tests w
+    tests_of w ResumeNext = next_tests w
+    tests_of w PutBackNext = next_tests w
+    tests_of w (HandOut tag) = hand_out_tests decoded w tag
+    tests_of w (Settle tag) = settle_tests w tag
+
+    -- what an event that is not refused does
+    abbrev pub Does : World → Event → Answer B → World → Type 0
+    Does old (Attach limit) (ToAttach count) new = Attaches old limit count new
+    Does old (Grant n) (ToGrant credit) new = Grants old n credit new
+    Does old (Send payload) (ToSend tag count) new = Sends old payload tag count new
+    Does old (Arrive id) (ToArrive tag section offset whole) new = Arrives old id tag (section, offset) whole new
+    Does old Cut ToCut new = Cuts old new
+    Does old ResumeNext (ToResumeNext tag count resume) new = Resumes old tag count resume new
+    Does old PutBackNext (ToPutBackNext tag) new = PutsBack old tag new
+    Does old (HandOut tag) (ToHandOut delivery) new = HandsOutDelivery decoded old tag delivery new
+    Does old (Settle tag) ToSettle new = Settles old tag new
+    Does old _ _ new = ⊥
+
+    -- What an event that is out of memory leaves: all as it was, unless an attach is on its way. A grant
+    -- and a cut do not allocate.
+    abbrev pub IsLeft : World → Event → World → Type 0
+    IsLeft old (Attach limit) new = StaysOrStops old limit new
+    IsLeft old (Grant n) new = ⊥
+    IsLeft old Cut new = ⊥
+    IsLeft old _ new = new ≡ old
+
+    -- what a refused event leaves: all as it was, but a delivery that cannot be decoded counts as handed
+    -- out
+    abbrev pub IsRefused : World → Event → PairError → World → Type 0
+    IsRefused old (HandOut tag) error.Decode new = IsUndecoded old tag new
+    IsRefused old e error new = new ≡ old
+
+    abbrev pub Step : World → Event → Result (Answer B) PairError → World → Type 0
+    Step old e (Ok answer) new = (refusal (tests_of old e) ≡ None) × Does old e answer new
+    Step old e (Err error.OutOfMemory) new = IsLeft old e new
+    Step old e (Err error) new = (refusal (tests_of old e) ≡ Some error) × IsRefused old e error new
+
+    -- one event with its answer, and the worlds before and after it
+    pub record Moment : Type 0 where
+      pub before : World
+      pub event : Event
+      pub answer : Result (Answer B) PairError
+      pub after : World
+
+    -- each event is a step from the world that the one before has left
+    abbrev pub IsRun : World → List Moment → World → Type 0
+    IsRun old [] new = new ≡ old
+    IsRun old (m ∷ moments) new = (m.before ≡ old) × Step m.before m.event m.answer m.after × IsRun m.after moments new
+
+    -- ---- a list of events
+
+    -- The events were done in order, as far as there are answers. If the run finished, all were done and none
+    -- was out of memory; otherwise it stopped after the first that was, or before an event for whose answer
+    -- there was no room.
+    pub record RunsEvents (old : World) (events : List Event) (answers : List (Result (Answer B) PairError)) (finished : Bool)
+        (new : World) : Type 0 where
+      pub moments : List Moment
+      pub steps : IsRun old moments new
+      pub answers_are : answers ≡ map (λ m. m.answer) moments
+      pub events_are : take (length answers) events ≡ map (λ m. m.event) moments
+      pub in_time : StopsInTime answers
+      pub all : finished ≡ true → (length answers ≡ length events) × (ends_out_of_memory answers ≡ false)
+      pub not_all : finished ≡ false → (length answers < length events) ⊎ (ends_out_of_memory answers ≡ true)
+
+    -- ---- what arrived
+
+    -- the payload that a step takes off the wire for a tag
+    abbrev pub payload_arrived : Tag → Moment → List ℕ
+    payload_arrived tag m = if is_arrival_of tag m.answer then first_payload m.before.wire else []
+
+    -- whether a step sends the tag
+    abbrev pub does_send : Tag → Moment → Bool
+    does_send tag m = is_send_of tag m.answer
+
+    -- what follows the last send of a tag, or all if there is none
+    abbrev pub since_send : Tag → List Moment → List Moment
+    since_send tag [] = []
+    since_send tag (m ∷ moments) =
+        if list_any (does_send tag) moments then since_send tag moments
+        else if does_send tag m then moments else m ∷ moments
+
+    -- What arrived of a tag: what was held as the run began, if its send came earlier, and then the
+    -- payloads that its arrivals took off the wire since its send.
+    abbrev pub arrived : World → List Moment → Tag → List ℕ
+    arrived old moments tag =
+        (if list_any (does_send tag) moments then [] else bytes_in (held_at old tag)) ++ flat_map (payload_arrived tag) (since_send tag moments)

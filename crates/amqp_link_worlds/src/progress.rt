@@ -1,0 +1,19 @@
+//! How far one delivery of a pair has come.
+
+use amqp_link_core::incomplete_transfer::IncompleteTransfer;
+
+/// How far a delivery has come, from its send until it is settled.
+///
+/// Whether it was sent or resumed in this attachment follows from these fields, the sender's map and the
+/// pair's phase (`is_out` in specs/Worlds.antt), so that a cut changes no delivery.
+#[derive(Debug, Drop)]
+pub struct Progress {
+    /// What the receiver holds of it, once a transfer has arrived.
+    pub held: Option<IncompleteTransfer>,
+    /// Whether its last transfer has arrived.
+    pub whole: bool,
+    /// Whether its entry was last put back unsent, and neither sent nor resumed.
+    pub put_back: bool,
+    /// Whether the receiver has handed it out.
+    pub taken: bool,
+}
