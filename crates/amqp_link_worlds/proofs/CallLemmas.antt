@@ -160,7 +160,11 @@ module _ (w : World) (tag : Tag) (held : Held) (k : IsWorld w) (is : held_at w t
   pub held_is_reported : entry_at w.receiver.unsettled tag ≡ receiver_entry (Some held)
   held_is_reported = held_there.1
 
-pub can_complete : (w : World) (tag : Tag) (held : Held) → IsWorld w → is_together w.phase ≡ true → held_at w tag ≡ Some held → CanComplete w held
+  -- and it has an id
+  pub held_has_id : IsSome held.performative.delivery_id
+  held_has_id = let h = held_there.0 in h.has_id
+
+pub can_complete : (w : World) (tag : Tag) (held : Held) → IsWorld w → is_together w.phase ≡ true → held_at w tag ≡ Some held → CanComplete w.receiver held
 can_complete w tag held k on is =
     let e = ends_together w.phase w.ledger.link w.receiver on k.ends in
     let ends = e.1 in

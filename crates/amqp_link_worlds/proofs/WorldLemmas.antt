@@ -57,10 +57,10 @@ stands p q r s t u = λ i. mk (p i) (q i) (r i) (s i) (t i) (u i)
 
 -- ---- the frames of a tag
 
-frames_first : (s : OnWire) (wire : List OnWire) → frames_of s.tag (s ∷ wire) ≡ s.frame ∷ frames_of s.tag wire
+pub frames_first : (s : OnWire) (wire : List OnWire) → frames_of s.tag (s ∷ wire) ≡ s.frame ∷ frames_of s.tag wire
 frames_first s wire = ap (λ b. map (λ (t : OnWire). t.frame) (cond b (s ∷ filter (λ t. bytes_eq s.tag t.tag) wire) (filter (λ t. bytes_eq s.tag t.tag) wire))) (same_tag s.tag)
 
-frames_other : (other : Tag) (s : OnWire) (wire : List OnWire) → other ≢ s.tag → frames_of other (s ∷ wire) ≡ frames_of other wire
+pub frames_other : (other : Tag) (s : OnWire) (wire : List OnWire) → other ≢ s.tag → frames_of other (s ∷ wire) ≡ frames_of other wire
 frames_other other s wire n = ap (λ b. map (λ (t : OnWire). t.frame) (cond b (s ∷ filter (λ t. bytes_eq other t.tag) wire) (filter (λ t. bytes_eq other t.tag) wire))) (other_tag other s.tag n)
 
 frames-append : (tag : Tag) (xs ys : List OnWire) → frames_of tag (xs ++ ys) ≡ frames_of tag xs ++ frames_of tag ys
@@ -74,10 +74,10 @@ frames_under_other : (other tag : Tag) (frames : List LinkFrame) → other ≢ t
 frames_under_other other tag [] n = refl
 frames_under_other other tag (f ∷ frames) n = frames_other other (record { tag = tag; frame = f }) (under tag frames) n ∙ frames_under_other other tag frames n
 
-frames_sent : (tag : Tag) (wire : List OnWire) (frames : List LinkFrame) → frames_of tag wire ≡ [] → frames_of tag (wire ++ under tag frames) ≡ frames
+pub frames_sent : (tag : Tag) (wire : List OnWire) (frames : List LinkFrame) → frames_of tag wire ≡ [] → frames_of tag (wire ++ under tag frames) ≡ frames
 frames_sent tag wire frames quiet = frames-append tag wire (under tag frames) ∙ ap (λ l. l ++ frames_of tag (under tag frames)) quiet ∙ frames_under tag frames
 
-frames_sent_other : (other tag : Tag) (wire : List OnWire) (frames : List LinkFrame) → other ≢ tag → frames_of other (wire ++ under tag frames) ≡ frames_of other wire
+pub frames_sent_other : (other tag : Tag) (wire : List OnWire) (frames : List LinkFrame) → other ≢ tag → frames_of other (wire ++ under tag frames) ≡ frames_of other wire
 frames_sent_other other tag wire frames n =
     frames-append other wire (under tag frames) ∙ ap (λ l. frames_of other wire ++ l) (frames_under_other other tag frames n) ∙ append-nil (frames_of other wire)
 
@@ -249,7 +249,7 @@ ends_stay Apart s t r q is a b c d e f k = absurd (false_is_not_true is)
 ends_stay (Halfway limit) s t r q is a b c d e f k = absurd (false_is_not_true is)
 ends_stay (Together limit) s t r q is a b c d e f k = sent_ends limit s t r q a b c d e f k
 
-input_of : (phase : Phase) (s : Sender Target) (r : Receiver Target) → is_together phase ≡ true → AreEnds phase s r → s.input_handle ≡ Some (record { 0 = 0 })
+pub input_of : (phase : Phase) (s : Sender Target) (r : Receiver Target) → is_together phase ≡ true → AreEnds phase s r → s.input_handle ≡ Some (record { 0 = 0 })
 input_of Apart s r is k = absurd (false_is_not_true is)
 input_of (Halfway limit) s r is k = absurd (false_is_not_true is)
 input_of (Together limit) s r is k = k.sender_input

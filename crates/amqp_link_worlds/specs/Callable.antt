@@ -63,12 +63,12 @@ pub record CanResume (w : World) (tag : Tag) (next : ResumingDelivery) : Type 0 
   -- its transfer says resume exactly if the receiver reports it
   pub flag : resumes next ≡ is_some (entry_at w.receiver.unsettled tag)
 
--- if it has credit, the link takes the delivery that is held, and its report stays as it is
-pub record CanComplete (w : World) (held : Held) : Type 0 where
-  pub attached : may_receive w.receiver.local_state ≡ true
-  pub handle : w.receiver.output_handle ≡ Some (record { 0 = 0 })
-  pub allowed : transfer_refusal w.receiver held.performative ≡ None
-  pub same : entered held.performative (position (held_bytes held)).0 (position (held_bytes held)).1 w.receiver ≡ spent w.receiver
+-- if it has credit, the receiver takes the delivery that is held, and its report stays as it is
+pub record CanComplete (r : Receiver Target) (held : Held) : Type 0 where
+  pub attached : may_receive r.local_state ≡ true
+  pub handle : r.output_handle ≡ Some (record { 0 = 0 })
+  pub allowed : transfer_refusal r held.performative ≡ None
+  pub same : entered held.performative (position (held_bytes held)).0 (position (held_bytes held)).1 r ≡ spent r
 
 -- both endpoints have the delivery, and a pair knows how far it has come
 pub record CanSettle (w : World) (tag : Tag) : Type 0 where

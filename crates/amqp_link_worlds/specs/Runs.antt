@@ -38,6 +38,10 @@ pub data Answer (B : Type 0) : Type 0 where
   ToHandOut : Delivered B → Answer B
   ToSettle : Answer B
 
+-- how a message is read of its bytes
+abbrev pub Decoder : Type 0 → Type 0
+Decoder B = List ℕ → Result (Message B) DecodeError
+
 -- the payload of the first transfer on a wire
 abbrev pub first_payload : List OnWire → List ℕ
 first_payload [] = []
@@ -137,6 +141,16 @@ module _ {B : Type 0} where
     abbrev pub IsRun : World → List Moment → World → Type 0
     IsRun old [] new = new ≡ old
     IsRun old (m ∷ moments) new = (m.before ≡ old) × Step m.before m.event m.answer m.after × IsRun m.after moments new
+
+    -- an event is done, whatever its answer
+    abbrev pub IsStep : World → Event → World → Type 0
+    IsStep old e new = (answer : Result (Answer B) PairError) × Step old e answer new
+
+    -- these events are done one after the other
+    pub record IsRunOf (old : World) (events : List Event) (new : World) : Type 0 where
+      pub moments : List Moment
+      pub steps : IsRun old moments new
+      pub events_are : events ≡ map (λ m. m.event) moments
 
     -- ---- a list of events
 

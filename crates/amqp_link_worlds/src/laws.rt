@@ -75,7 +75,7 @@ pub fn endpoints_refuse_only_for_memory()
     ensures resume_next { (w : World) (tag : Tag) (next : ResumingDelivery) (others : Entries ResumingDelivery) → IsWorld w
         → is_together w.phase ≡ true → w.resuming ≡ (tag, next) ∷ others → CanResume w tag next }
     ensures hand_out { (w : World) (tag : Tag) (held : Held) → IsWorld w → is_together w.phase ≡ true
-        → held_at w tag ≡ Some held → CanComplete w held }
+        → held_at w tag ≡ Some held → CanComplete w.receiver held }
     ensures settle { (w : World) (tag : Tag) → IsWorld w → refusal (settle_tests w tag) ≡ None
         → CanSettle w tag }
 {}

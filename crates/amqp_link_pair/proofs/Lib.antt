@@ -1,0 +1,13 @@
+pub mod SendLemmas
+pub mod ProgressLemmas
+pub mod SettleLemmas
+pub mod MarkLemmas
+pub mod StepLemmas
+pub mod KeptLemmas
+pub mod WireLemmas
+pub mod ArriveLemmas
+pub mod ResumeLemmas
+pub mod AttachedLemmas
+pub mod AttachLemmas
+pub mod EndsLemmas
+pub mod HandOutLemmas

@@ -1,0 +1,74 @@
+use Rattle.std.proofs.Common.{◌≡◌, ◌∙◌, ap, sym, subst, rules, refl, true, None, ◌∷◌}
+use Rattle.amqp_link_types.specs.Entries.{with_entry}
+use Rattle.amqp_link_types.specs.Refusals.{refusal}
+use Rattle.amqp_link_worlds.specs.Invariants.{IsWorld}
+use Rattle.amqp_link_worlds.specs.Steps.{Arrives, arrive_tests}
+use Rattle.amqp_link_worlds.specs.Wires.{OnWire}
+use Rattle.amqp_link_worlds.specs.Worlds.{World, is_together}
+use Rattle.amqp_link_worlds.proofs.WorldLemmas.{IsWorld-arrives, Good-from_world}
+use Rattle.amqp_link_pair.specs.Keeping.{IsReceived, kept_after}
+use Rattle.amqp_link_pair.specs.PairViews.{AreMarked, world_of}
+use Rattle.amqp_link_pair.specs.declared.deliveries.Kept.{Kept}
+use Rattle.amqp_link_pair.specs.declared.ends.Ends.{Ends}
+use Rattle.amqp_link_pair.proofs.ArriveLemmas.{arrives, can_receive, first_and_rest}
+use Rattle.amqp_link_pair.proofs.MarkLemmas.{marks_arrived}
+use Rattle.amqp_link_pair.proofs.StepLemmas.{IsEnds-together, with_parts}
+use Rattle.amqp_link_pair.proofs.pair.Pair.arrive.Goals as goal
+
+pub receive-requires : goal.receive-requires
+receive-requires c =
+    let same : c.in_ok-tag.tag ≡ c.in-Some.tag.now = search rules in
+    let s : OnWire = record { tag = c.in-Some.tag.now; frame = c.in-Some.frame.now } in
+    can_receive (world_of c.self.inside) c.self.inside.deliveries s _ c.in_ok-tag.tag c.args.id c.self.invariant.world refl
+    (first_and_rest c.self.inside.wire.transfers s (sym c.in-Some.ensures)) same
+
+-- the transfer that arrives
+abbrev first : goal.After-drop_first → OnWire
+first c = record { tag = c.in-Some.tag.now; frame = c.in-Some.frame.now }
+
+-- the endpoints after it, and the world
+abbrev ends : goal.After-drop_first → Ends
+ends c = record c.self.inside.ends { receiver = c.receive.new.receiver }
+
+abbrev new : goal.After-drop_first → World
+new c = record (with_parts (world_of c.self.inside) (ends c) c.receive.new.self) { wire = c.drop_first.new.self.transfers }
+
+on : (c : goal.After-drop_first) → is_together (world_of c.self.inside).phase ≡ true
+on c = search rules
+
+may : (c : goal.After-drop_first) → refusal (arrive_tests (world_of c.self.inside)) ≡ None
+may c = search rules
+
+same : (c : goal.After-drop_first) → c.in_ok-tag.tag ≡ c.in-Some.tag.now
+same c = search rules
+
+wire : (c : goal.After-drop_first) → c.self.inside.wire.transfers ≡ first c ∷ c.drop_first.new.self.transfers
+wire c = first_and_rest c.self.inside.wire.transfers (first c) (sym c.in-Some.ensures) ∙ ap (λ l. first c ∷ l) (sym c.drop_first.ensures)
+
+got : (c : goal.After-drop_first) → IsReceived c.self.inside.deliveries c.self.inside.ends.receiver c.in_ok-tag.tag c.args.id c.in-Some.frame.now (c.in_ok-section_number.section_number, c.in_ok-section_number.section_offset) c.in_ok-section_number.whole c.receive.new.self c.receive.new.receiver
+got c = search rules
+
+did : (c : goal.After-drop_first) → Arrives (world_of c.self.inside) c.args.id c.in_ok-tag.tag (c.in_ok-section_number.section_number, c.in_ok-section_number.section_offset) c.in_ok-section_number.whole (new c)
+did c =
+    arrives (world_of c.self.inside) c.self.inside.deliveries c.receive.new.self c.receive.new.receiver (first c) c.drop_first.new.self.transfers c.args.id c.in_ok-tag.tag
+    (c.in_ok-section_number.section_number, c.in_ok-section_number.section_offset) c.in_ok-section_number.whole refl (wire c) (same c) (got c)
+
+kept : (c : goal.After-drop_first) → IsWorld (new c)
+kept c = IsWorld-arrives (world_of c.self.inside) (new c) _ _ _ _ c.self.invariant.world (may c) (did c)
+
+pub invariant_of-self-2 : goal.invariant_of-self-2
+invariant_of-self-2 c =
+    let g = got c in
+    let k : Kept = g.before in
+    record {
+      ends = IsEnds-together c.self.inside.ends (ends c) c.self.invariant.ends (on c) refl refl refl;
+      world = kept c;
+      marks = subst (AreMarked (new c)) (ap (λ t. with_entry c.self.inside.deliveries t (kept_after k c.args.id c.in-Some.frame.now)) (sym (same c)) ∙ sym g.map)
+          (marks_arrived (world_of c.self.inside) (new c) c.self.inside.deliveries c.self.invariant.marks c.self.invariant.world (first c) c.args.id k refl refl (wire c));
+    }
+
+pub returns-clause-done : goal.returns-clause-done
+returns-clause-done c = subst (λ w. Arrives w c.args.id c.in_ok-tag.tag (c.in_ok-section_number.section_number, c.in_ok-section_number.section_offset) c.in_ok-section_number.whole (new c)) c.self.view_is (did c)
+
+pub returns-clause-good : goal.returns-clause-good
+returns-clause-good c = Good-from_world (new c) (kept c)

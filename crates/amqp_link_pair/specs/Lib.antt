@@ -1,0 +1,7 @@
+pub mod Queues
+pub mod QueueViews
+pub mod Keeping
+pub mod HandingOut
+pub mod Endpoints
+pub mod PairViews
+pub mod Before

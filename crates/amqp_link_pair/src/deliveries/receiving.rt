@@ -1,0 +1,192 @@
+//! A transfer arrives: its payload is added to what is held of its delivery, and the receiver reports that
+//! (2.6.12, 2.7.5, 3.4.1).
+ghost use Rattle.std.specs.Prelude.{◌≡◌, ◌++◌, None, Some, IfOk, IsSomeAnd, OnOk, OnErr};
+ghost use Rattle.amqp_link_payloads.specs.Position.{position};
+ghost use Rattle.amqp_link_types.specs.Entries.{entry_at};
+ghost use Rattle.amqp_link_types.specs.Frames.{payload_of};
+ghost use Rattle.amqp_link_core.specs.Held.{held_bytes};
+ghost use Rattle.amqp_link_worlds.specs.Receiving.{CanReceive};
+ghost use Rattle.amqp_link_worlds.specs.Steps.{held_after, received};
+ghost use Rattle.amqp_link_worlds.specs.Worlds.{bytes_in, receiver_entry};
+ghost use Rattle.amqp_link_pair.specs.Keeping.{IsReceived, kept_after, with_report};
+
+use crate::deliveries::{Deliveries, Kept};
+use amqp_link_core::incomplete_transfer::IncompleteTransfer;
+use amqp_link_receiver::receiver_link::ReceiverLink;
+use amqp_link_types::frame::{LinkFrame, LinkTransfer};
+use amqp_link_types::types::{DeliveryNumber, DeliveryTag, ReceiverTransferError, Target};
+use std::alloc::{AllocError, Global};
+
+// An arrival that is out of memory. There is no other reason to refuse it.
+fn out_of_memory(error: ReceiverTransferError) -> AllocError
+    requires { error ≡ ReceiverTransferError.OutOfMemory }
+{
+    drop(error);
+    AllocError
+}
+
+// A delivery begins with its first transfer, which has this id.
+fn begin(
+    alloc: Global,
+    frame: &LinkFrame,
+    id: DeliveryNumber,
+) -> Result<IncompleteTransfer, AllocError>
+    requires { CanReceive None id frame.now }
+    ensures { IfOk result (λ held. held ≡ held_after None id frame.now) }
+{
+    let LinkFrame::FirstTransfer(first) = frame else {
+        unreachable!()
+    };
+    let payload = first.payload.clone()?;
+    let mut transfer = first.performative.clone()?;
+    transfer.delivery_id = Some(id);
+    IncompleteTransfer::start(alloc, transfer, payload).map_err(out_of_memory)
+}
+
+// A delivery goes on, or is resumed by a first transfer, which has this id.
+fn go_on(
+    held: &mut IncompleteTransfer,
+    frame: &LinkFrame,
+    id: DeliveryNumber,
+) -> Result<(), AllocError>
+    requires { CanReceive (Some held.old) id frame.now }
+    ensures ok { OnOk result (held.new ≡ held_after (Some held.old) id frame.now) }
+    ensures err { OnErr result (held.new ≡ held.old) }
+{
+    match frame {
+        LinkFrame::FirstTransfer(first) => resume(held, first, id),
+        LinkFrame::TransferContinuation(next) => append(held, next),
+        _ => unreachable!(),
+    }
+}
+
+// A first transfer resumes a delivery, and gives it this id.
+fn resume(
+    held: &mut IncompleteTransfer,
+    first: &LinkTransfer,
+    id: DeliveryNumber,
+) -> Result<(), AllocError>
+    requires { CanReceive (Some held.old) id (LinkFrame.FirstTransfer first.now) }
+    ensures ok { OnOk result
+        (held.new ≡ held_after (Some held.old) id (LinkFrame.FirstTransfer first.now)) }
+    ensures err { OnErr result (held.new ≡ held.old) }
+{
+    let payload = first.payload.clone()?;
+    let mut transfer = first.performative.clone()?;
+    transfer.delivery_id = Some(id);
+    held.try_resume(transfer, payload).map_err(out_of_memory)
+}
+
+// A further transfer of a delivery.
+fn append(held: &mut IncompleteTransfer, next: &LinkTransfer) -> Result<(), AllocError>
+    requires { CanReceive (Some held.old) 0 (LinkFrame.TransferContinuation next.now) }
+    ensures ok { OnOk result
+        (held.new ≡ held_after (Some held.old) 0 (LinkFrame.TransferContinuation next.now)) }
+    ensures err { OnErr result (held.new ≡ held.old) }
+{
+    let payload = next.payload.clone()?;
+    let transfer = next.performative.clone()?;
+    held.try_append(transfer, payload).map_err(out_of_memory)
+}
+
+// The receiver reports that a front of a delivery has arrived. Does not allocate if it reports one already.
+fn report(
+    receiver: &mut ReceiverLink<Target>,
+    tag: &DeliveryTag,
+    place: (u32, u64),
+) -> Result<(), AllocError>
+    ensures after { OnOk result (receiver.new ≡ with_report tag.now place receiver.old) }
+    ensures memory { OnErr result (entry_at receiver.old.unsettled tag.now ≡ None) }
+    ensures left { OnErr result (receiver.new ≡ receiver.old) }
+{
+    receiver.on_incomplete_transfer(tag, place.0, place.1)
+}
+
+// What is held once a transfer arrived, and the receiver's report of it. The position of what is held.
+fn hold(
+    held: &mut Option<IncompleteTransfer>,
+    receiver: &mut ReceiverLink<Target>,
+    alloc: Global,
+    tag: &DeliveryTag,
+    frame: &LinkFrame,
+    id: DeliveryNumber,
+) -> Result<(u32, u64), AllocError>
+    requires can { CanReceive held.old id frame.now }
+    requires reported { entry_at receiver.old.unsettled tag.now ≡ receiver_entry held.old }
+    ensures held { OnOk result (held.new ≡ Some (held_after held.old id frame.now)) }
+    ensures place { IfOk result (λ place. place ≡ position (bytes_in held.old ++ payload_of frame.now)) }
+    ensures report { IfOk result (λ place. receiver.new ≡ with_report tag.now place receiver.old) }
+    ensures left { OnErr result ((held.new ≡ held.old) × (receiver.new ≡ receiver.old)) }
+{
+    match held {
+        Some(held) => {
+            go_on(held, frame, id)?;
+            let place = held.position();
+            report(receiver, tag, place)?;
+            Ok(place)
+        }
+        None => {
+            let begun = begin(alloc, frame, id)?;
+            let place = begun.position();
+            if let Err(refused) = report(receiver, tag, place) {
+                drop(begun);
+                return Err(refused);
+            }
+            *held = Some(begun);
+            Ok(place)
+        }
+    }
+}
+
+impl Kept {
+    // The next transfer of the delivery arrives. The position of what is held, and whether it was the last.
+    fn receive(
+        &mut self,
+        receiver: &mut ReceiverLink<Target>,
+        alloc: Global,
+        tag: &DeliveryTag,
+        frame: &LinkFrame,
+        id: DeliveryNumber,
+    ) -> Result<(u32, u64, bool), AllocError>
+        requires can { CanReceive self.old.progress.held id frame.now }
+        requires reported { entry_at receiver.old.unsettled tag.now
+            ≡ receiver_entry self.old.progress.held }
+        ensures done { OnOk result (self.new ≡ kept_after self.old id frame.now) }
+        ensures place { IfOk result (λ came. (came.0, came.1)
+            ≡ position (bytes_in self.old.progress.held ++ payload_of frame.now)) }
+        ensures whole { IfOk result (λ came. came.2 ≡ (received self.old.progress id frame.now).whole) }
+        ensures report { IfOk result (λ came.
+            receiver.new ≡ with_report tag.now (came.0, came.1) receiver.old) }
+        ensures left { OnErr result ((self.new ≡ self.old) × (receiver.new ≡ receiver.old)) }
+    {
+        let (number, offset) = hold(&mut self.progress.held, receiver, alloc, tag, frame, id)?;
+        let has_more = frame.has_more();
+        self.progress.whole = self.progress.whole || !has_more;
+        self.is_under_way = has_more;
+        Ok((number, offset, self.progress.whole))
+    }
+}
+
+impl Deliveries {
+    // The next transfer of a delivery arrives, with this id if it is a first one. The position of what is held,
+    // and whether the last has arrived. Refused only if it is out of memory, with nothing changed.
+    pub(crate) fn receive(
+        &mut self,
+        receiver: &mut ReceiverLink<Target>,
+        alloc: Global,
+        tag: &DeliveryTag,
+        frame: &LinkFrame,
+        id: DeliveryNumber,
+    ) -> Result<(u32, u64, bool), AllocError>
+        requires { IsSomeAnd (entry_at self.old tag.now) (λ kept. CanReceive kept.progress.held id frame.now
+            × (entry_at receiver.old.unsettled tag.now ≡ receiver_entry kept.progress.held)) }
+        ensures done { IfOk result (λ came. IsReceived self.old receiver.old tag.now id frame.now
+            (came.0, came.1) came.2 self.new receiver.new) }
+        ensures left { OnErr result ((self.new ≡ self.old) × (receiver.new ≡ receiver.old)) }
+    {
+        let Some(kept) = self.entries.get_mut(tag) else {
+            unreachable!()
+        };
+        kept.receive(receiver, alloc, tag, frame, id)
+    }
+}

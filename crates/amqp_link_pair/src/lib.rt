@@ -1,0 +1,17 @@
+//! Two endpoints of a link through any interruptions (OASIS AMQP 1.0 core, 2.6.12, 2.6.13 and 2.7.5), without
+//! IO.
+//!
+//! A `Pair` joins a sender that keeps what became of its deliveries, a receiver, and the wire from the one to the
+//! other. What holds of it is defined and proved in `amqp_link_worlds`.
+#![tactic(auto)]
+
+mod deliveries;
+mod ends;
+pub mod pair;
+mod resuming;
+mod sending;
+mod wire;
+
+pub use amqp_link_worlds::error::PairError;
+pub use amqp_link_worlds::progress::Progress;
+pub use pair::{Arrived, Pair, Resumed, Sent};
