@@ -1,13 +1,11 @@
 //! Links and deliveries of AMQP 1.0 (OASIS AMQP 1.0 core, 2.6, 2.7 and 3.4), without IO.
 //!
 //! Payloads and incoming frames go in; outgoing frames, deliveries and resolved outcomes come out;
-//! no call waits. Names follow fe2o3-amqp 0.18.4. What takes memory answers a `Result`, and a call
-//! that answers want of memory has changed nothing; `Pair::attach` alone has steps, and says so.
+//! no call waits. Names follow fe2o3-amqp 0.18.4. What allocates returns a `Result`, and a call that is out of
+//! memory has changed nothing; `Pair::attach` alone has steps, and says so.
 //!
-//! The crates below hold the modules; this one joins the two ends and passes their names on.
+//! The crates below hold the modules; this one passes their names on.
 #![tactic(auto)]
-
-pub mod pair;
 
 pub use amqp_link_core::endpoint::target::LinkTarget;
 pub use amqp_link_core::endpoint::{Link, LinkAttach, LinkDetach, LinkExt};
@@ -17,6 +15,7 @@ pub use amqp_link_core::resumption::{Resolution, ResumingDelivery, resume_delive
 pub use amqp_link_exchange::ResumingDeliveries;
 pub use amqp_link_ledger::fate::Fate;
 pub use amqp_link_ledger::ledger::OutcomeLedger;
+pub use amqp_link_pair::{Arrived, Pair, PairError, Progress, Resumed, Sent};
 pub use amqp_link_payloads::position::{place_of, position_of};
 pub use amqp_link_receiver::receiver_link::{
     ReceiverAttachExchange, ReceiverLink, get_max_message_size,
@@ -44,4 +43,3 @@ pub use amqp_link_types::types::{
     UnsettledMap, Value, Whole,
 };
 pub use amqp_link_values::length::EncodedLen;
-pub use pair::{Arrived, Pair, PairError, Sent};

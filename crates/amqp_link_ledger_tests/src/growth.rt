@@ -13,9 +13,9 @@ use amqp_link_state::state::LinkState;
 use amqp_link_types::delivery::{Outcomes, UnsettledMessage};
 use amqp_link_types::frame::LinkFrame;
 use amqp_link_types::types::{
-    Attach, DeliveryState, DeliveryTag, Detach, DispositionError, LinkFlow, LinkRelayError,
-    LinkStateError, OutputHandle, Payload, Role, SenderAttachError, SenderSettleMode, Target,
-    Transfer, UnsettledMap,
+    Attach, DeliveryState, DeliveryTag, Detach, DispositionError, LinkFlow, LinkStateError,
+    OutputHandle, Payload, Role, SenderAttachError, SenderSettleMode, Target, Transfer,
+    UnsettledMap,
 };
 use std::process::Abort;
 
@@ -200,14 +200,13 @@ fn attach_arrives(
 ) -> Exchanged {
     let before = standing_of(ledger);
     let answer = ledger.on_incoming_attach(attach_that(rt, accepts));
-    match answer {
-        Err(SenderAttachError::OutOfMemory) => {
-            assert_eq!(rt; standing_of(ledger), before, "an attach that is not taken");
-            let answer = ledger.on_incoming_attach(attach_that(rt, accepts));
-            answer.expect(rt, "memory")
-        }
-        answer => answer.expect(rt, "an attach that is accepted"),
+    if !matches!(&answer, Err(SenderAttachError::OutOfMemory)) {
+        return answer.expect(rt, "an attach that is accepted");
     }
+    drop(answer);
+    assert_eq!(rt; standing_of(ledger), before, "an attach that is not taken");
+    let answer = ledger.on_incoming_attach(attach_that(rt, accepts));
+    answer.expect(rt, "memory")
 }
 
 fn send_again(rt: &impl Abort, ledger: &mut OutcomeLedger<Target>, payload: &Payload) -> Sent {
@@ -220,26 +219,29 @@ fn send_again(rt: &impl Abort, ledger: &mut OutcomeLedger<Target>, payload: &Pay
     send(ledger, payload)
 }
 
-// Whether a settled disposition that accepts the delivery of this tag ends it.
+// Whether a settled disposition that accepts the delivery of this tag ends it; nothing if it is refused.
+fn accepted(ledger: &mut OutcomeLedger<Target>, tag: &DeliveryTag) -> Option<bool> {
+    let state = Some(DeliveryState::Accepted);
+    let answer = ledger.on_incoming_disposition(true, state, tag);
+    let is_ended = match &answer {
+        Ok((_, ended)) => Some(ended.is_some()),
+        Err(_) => None,
+    };
+    drop(answer);
+    is_ended
+}
+
 fn accept(rt: &impl Abort, ledger: &mut OutcomeLedger<Target>, tag: &DeliveryTag) -> bool {
     let before = standing_of(ledger);
-    let state = Some(DeliveryState::Accepted);
-    let answer = match ledger.on_incoming_disposition(true, state, tag) {
-        Err(DispositionError::OutOfMemory) => {
-            assert_eq!(rt;
-                standing_of(ledger),
-                before,
-                "a disposition that is not taken"
-            );
-            let state = Some(DeliveryState::Accepted);
-            ledger.on_incoming_disposition(true, state, tag)
-        }
-        answer => answer,
-    };
-    let (_, ended) = answer.expect(rt, "a disposition that is taken");
-    let is_ended = ended.is_some();
-    drop(ended);
-    is_ended
+    if let Some(is_ended) = accepted(ledger, tag) {
+        return is_ended;
+    }
+    assert_eq!(rt;
+        standing_of(ledger),
+        before,
+        "a disposition that is not taken"
+    );
+    accepted(ledger, tag) == Some(true)
 }
 
 // Registers an entry.
@@ -349,63 +351,72 @@ fn transfer_of(rt: &(impl Abort + AllocGlobal), count: u8) -> Transfer {
     }
 }
 
+fn sent_with(ledger: &mut OutcomeLedger<Target>, transfer: Transfer, payload: &Payload) -> Sent {
+    let answer = ledger.send_payload_with_transfer(0, transfer, payload);
+    let sent = match &answer {
+        Ok((settlement, _)) => sent_as(settlement),
+        Err(LinkStateError::OutOfMemory) => Sent::OutOfMemory,
+        Err(_) => Sent::Other,
+    };
+    drop(answer);
+    sent
+}
+
 fn send_transfer(
     rt: &(impl Abort + AllocGlobal),
     ledger: &mut OutcomeLedger<Target>,
     payload: &Payload,
-) -> Option<Sent> {
+) -> Sent {
     let before = standing_of(ledger);
-    let answer = ledger.send_payload_with_transfer(0, transfer_of(rt, 0), payload);
-    let answer = match answer {
-        Err(LinkStateError::OutOfMemory) => {
-            assert_eq!(rt; standing_of(ledger), before, "a transfer that is not sent");
-            ledger.send_payload_with_transfer(0, transfer_of(rt, 0), payload)
-        }
-        answer => answer,
+    let sent = sent_with(ledger, transfer_of(rt, 0), payload);
+    if sent != Sent::OutOfMemory {
+        return sent;
+    }
+    assert_eq!(rt; standing_of(ledger), before, "a transfer that is not sent");
+    sent_with(ledger, transfer_of(rt, 0), payload)
+}
+
+// Sends the rest of a delivery under the tag of this count: how many frames it takes, if it is sent.
+fn frames_of_rest(
+    rt: &(impl Abort + AllocGlobal),
+    ledger: &mut OutcomeLedger<Target>,
+    rest: &Payload,
+) -> Option<usize> {
+    let entry = UnsettledMessage::new(payload_of(rt), None, 0);
+    let tag = tag_of(rt, 1);
+    let answer = ledger.send_unsettled_transfer(transfer_of(rt, 1), rest, tag, entry);
+    let count = match &answer {
+        Ok(frames) => Some(frames.len()),
+        Err(_) => None,
     };
-    let (settlement, frames) = answer.ok()?;
-    let sent = sent_as(&settlement);
-    drop((settlement, frames));
-    Some(sent)
+    drop(answer);
+    count
 }
 
-// How a rest is sent: its frames, or the entry.
-type Resumed = Result<Vec<LinkFrame>, (LinkStateError, UnsettledMessage)>;
-
-fn frames_of(answer: Resumed) -> Option<usize> {
-    let frames = answer.ok()?;
-    let count = frames.len();
-    drop(frames);
-    Some(count)
-}
-
-// Sends the rest of a delivery under the tag of this count: how many frames it takes.
 fn resume(
     rt: &(impl Abort + AllocGlobal),
     ledger: &mut OutcomeLedger<Target>,
     rest: &Payload,
 ) -> Option<usize> {
     let before = standing_of(ledger);
-    let entry = UnsettledMessage::new(payload_of(rt), None, 0);
-    let tag = tag_of(rt, 1);
-    match ledger.send_unsettled_transfer(transfer_of(rt, 1), rest, tag, entry) {
-        Err((LinkStateError::OutOfMemory, entry)) => {
-            assert_eq!(rt; standing_of(ledger), before, "a rest that is not sent");
-            let tag = tag_of(rt, 1);
-            frames_of(ledger.send_unsettled_transfer(transfer_of(rt, 1), rest, tag, entry))
-        }
-        answer => frames_of(answer),
+    let count = frames_of_rest(rt, ledger, rest);
+    if count.is_some() {
+        return count;
     }
+    assert_eq!(rt; standing_of(ledger), before, "a rest that is not sent");
+    frames_of_rest(rt, ledger, rest)
 }
 
 // How many frames and outcomes a disposition makes.
 type Disposed = Option<(usize, usize)>;
 
 fn counts_of(answer: Result<(Vec<LinkFrame>, Outcomes), DispositionError>) -> Disposed {
-    let (frames, outcomes) = answer.ok()?;
-    let counts = (frames.len(), outcomes.len());
-    drop((frames, outcomes));
-    Some(counts)
+    let counts = match &answer {
+        Ok((frames, outcomes)) => Some((frames.len(), outcomes.len())),
+        Err(_) => None,
+    };
+    drop(answer);
+    counts
 }
 
 // The sender knows the delivery of tag 0 as accepted.
@@ -452,31 +463,38 @@ fn settle_both(rt: &(impl Abort + AllocGlobal), ledger: &mut OutcomeLedger<Targe
 }
 
 // How many outcomes a closing detach of the peer makes, if it is replied to.
+fn closed(ledger: &mut OutcomeLedger<Target>) -> Option<usize> {
+    let closing: Detach = detach(true);
+    let answer = ledger.on_incoming_detach(&closing, true);
+    drop(closing);
+    let count = match &answer {
+        Ok((reply, outcomes)) => reply.is_some().then_some(outcomes.len()),
+        Err(_) => None,
+    };
+    drop(answer);
+    count
+}
+
 fn close(rt: &impl Abort, ledger: &mut OutcomeLedger<Target>) -> Option<usize> {
     let before = standing_of(ledger);
-    let closing: Detach = detach(true);
-    let answer = match ledger.on_incoming_detach(&closing, true) {
-        Err(LinkRelayError::OutOfMemory) => {
-            assert_eq!(rt; standing_of(ledger), before, "a detach that is not taken");
-            ledger.on_incoming_detach(&closing, true)
-        }
-        answer => answer,
-    };
-    drop(closing);
-    let (reply, outcomes) = answer.ok()?;
-    let count = reply.is_some().then_some(outcomes.len());
-    drop((reply, outcomes));
-    count
+    let count = closed(ledger);
+    if count.is_some() {
+        return count;
+    }
+    assert_eq!(rt; standing_of(ledger), before, "a detach that is not taken");
+    closed(ledger)
+}
+
+// Whether an entry is put back under tag 5.
+fn put_five(rt: &(impl Abort + AllocGlobal), link: &mut SenderLink<Target>) -> bool {
+    let entry = UnsettledMessage::new(payload_of(rt), None, 0);
+    went(link.put_back(tag_of(rt, 5), entry))
 }
 
 // A link that has sent no attach, with the delivery of tag 5.
 fn link_of_one(rt: &(impl Abort + AllocGlobal)) -> SenderLink<Target> {
     let mut link = link_of(rt);
-    let entry = UnsettledMessage::new(payload_of(rt), None, 0);
-    let put = match link.put_back(tag_of(rt, 5), entry) {
-        Err((LinkStateError::OutOfMemory, entry)) => went(link.put_back(tag_of(rt, 5), entry)),
-        answer => went(answer),
-    };
+    let put = put_five(rt, &mut link) || put_five(rt, &mut link);
     assert!(rt; put, "memory");
     link
 }
@@ -490,10 +508,7 @@ fn refused_growth_resolves_nothing(rt: HostRuntime) {
     assert_eq!(rt; outcomes.len(), 1);
     drop((exchange, outcomes));
     let payload = payload_of(&rt);
-    assert_eq!(rt;
-        send_transfer(&rt, &mut ledger, &payload),
-        Some(Sent::Unsettled)
-    );
+    assert_eq!(rt; send_transfer(&rt, &mut ledger, &payload), Sent::Unsettled);
     assert_eq!(rt; resume(&rt, &mut ledger, &payload), Some(1));
     drop(payload);
     assert_eq!(rt; dispose(&rt, &mut ledger), Some((1, 0)));

@@ -8,13 +8,13 @@ use Rattle.amqp_link_worlds.specs.Worlds.{World, is_together}
 use Rattle.amqp_link_worlds.specs.declared.error.PairError.{PairError}
 use Rattle.amqp_link_worlds.specs.declared.error.PairError.TheVariants as error
 use Rattle.amqp_link_worlds.proofs.WorldLemmas.{IsWorld-stops}
-use Rattle.amqp_link_pair.specs.Endpoints.{IsLeft, with_ends}
+use Rattle.amqp_link_pair.specs.Endpoints.{HasStopped, with_ends}
 use Rattle.amqp_link_pair.specs.PairViews.{AreMarked}
 use Rattle.amqp_link_pair.specs.declared.deliveries.Kept.{Kept}
 use Rattle.amqp_link_pair.specs.declared.ends.Ends.{Ends}
 use Rattle.amqp_link_pair.proofs.MarkLemmas.{marks_apart}
 
-module _ (limit : ℕ) (w : World) (old new : Ends) (left : IsLeft limit w old new) where
+module _ (limit : ℕ) (w : World) (old new : Ends) (left : HasStopped limit w old new) where
   -- the world stays, or stops
   pub stays_or_stops : StaysOrStops (with_ends w old) limit (with_ends w new)
   stays_or_stops =

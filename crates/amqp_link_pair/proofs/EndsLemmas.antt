@@ -29,7 +29,7 @@ use Rattle.amqp_link_worlds.specs.Steps.{zero_output, sender_asking, receiver_at
 use Rattle.amqp_link_worlds.specs.Worlds.{World, Halfway, Together}
 use Rattle.amqp_link_worlds.proofs.AttachSteps.{world_can_ask, world_can_take_asked, world_can_answer, world_can_take_answered, asking_stays, asked_stays, taken_stays, together_stays, may_go_on, stops_on, attaches_on}
 use Rattle.amqp_link_worlds.proofs.WorldLemmas.{IsWorld-stops, none_hold, not_is_false}
-use Rattle.amqp_link_pair.specs.Endpoints.{IsAttached, IsEnds, IsLeft, MayAttach, IsOnWayAt, phase_of, with_ends}
+use Rattle.amqp_link_pair.specs.Endpoints.{IsAttached, IsEnds, HasStopped, MayAttach, IsOnWayAt, phase_of, with_ends}
 use Rattle.amqp_link_pair.specs.Queues.{ListAndRoom}
 use Rattle.amqp_link_pair.specs.declared.ends.Ends.{Ends}
 use Rattle.amqp_link_pair.specs.declared.ends.Stage.{Stage}
@@ -84,7 +84,7 @@ goes_on limit w old mid m g = record {
 }
 
 -- what the rest of the attach leaves is left by the whole
-pub left_on : (limit : ℕ) (w : World) (old mid new : Ends) → Goes limit w old mid → IsLeft limit w mid new → IsLeft limit w old new
+pub left_on : (limit : ℕ) (w : World) (old mid new : Ends) → Goes limit w old mid → HasStopped limit w mid new → HasStopped limit w old new
 left_on limit w old mid new g l = record {
   ends = l.ends;
   stays = elim (l.stays) as (λ _. (new ≡ old) ⊎ ((stop : AttachStop) × StopsAt stop (with_ends w old) limit (with_ends w new))) [
@@ -266,9 +266,9 @@ done_on r limit w old mid new m g done =
 
 -- and so is what it leaves
 pub refused_on : {A E : Type 0} (r : Result A E) (limit : ℕ) (w : World) (old mid new : Ends) → MayAttach limit w old → Goes limit w old mid
-    → (MayAttach limit w mid → OnErr r (IsLeft limit w mid new)) → OnErr r (IsLeft limit w old new)
+    → (MayAttach limit w mid → OnErr r (HasStopped limit w mid new)) → OnErr r (HasStopped limit w old new)
 refused_on r limit w old mid new m g left =
-    on_err r (IsLeft limit w mid new) (IsLeft limit w old new) (left_on limit w old mid new g) (left (goes_on limit w old mid m g))
+    on_err r (HasStopped limit w mid new) (HasStopped limit w old new) (left_on limit w old mid new g) (left (goes_on limit w old mid m g))
 
 -- endpoints by their parts
 abbrev pub mk : Stage → ℕ → Option Attach → Ledger Target → Receiver Target → Ends

@@ -84,8 +84,8 @@ pub record MayAttach (limit : ℕ) (w : World) (e : Ends) : Type 0 where
   pub ends : IsEnds e
   pub allowed : refusal (attach_tests (with_ends w e) limit) ≡ None
 
--- What an attach that is out of memory leaves: all as it was, or the endpoints on the way.
-pub record IsLeft (limit : ℕ) (w : World) (old new : Ends) : Type 0 where
+-- An attach that is out of memory has stopped: all is as it was, or the endpoints are on the way.
+pub record HasStopped (limit : ℕ) (w : World) (old new : Ends) : Type 0 where
   pub ends : IsEnds new
   pub stays : (new ≡ old) ⊎ ((stop : AttachStop) × StopsAt stop (with_ends w old) limit (with_ends w new))
 

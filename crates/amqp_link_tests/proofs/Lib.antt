@@ -1,2 +1,1 @@
-pub mod PutLemmas
-pub mod RunLemmas
+mod RunLemmas

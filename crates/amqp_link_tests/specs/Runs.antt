@@ -1,9 +1,15 @@
--- What any sends, grants and arrivals keep of a pair's deliveries.
-use Rattle.std.specs.Prelude.{◌≡◌, Some, IfSome}
-use Rattle.amqp_link.specs.Entries.{Tag, entry_at}
-use Rattle.amqp_link.specs.Worlds.{World, IsFront, bytes_in, held_at}
+-- The events of a list as the calls of a pair.
+use Rattle.amqp_link.specs.PairRuns as call
+use Rattle.amqp_link_tests.specs.declared.runs.Event.{Event}
+use Rattle.amqp_link_tests.specs.declared.runs.Event.TheVariants as event
 
--- No registered payload changes, and what is held of a delivery is only added to.
-pub record Follows (old new : World) : Type 0 where
-  pub payloads : (tag : Tag) → IfSome (entry_at old.sender.unsettled tag) (λ entry. entry_at new.sender.unsettled tag ≡ Some entry)
-  pub held : (tag : Tag) → IsFront (bytes_in (held_at old tag)) (bytes_in (held_at new tag))
+abbrev pub call_of : Event → call.Event
+call_of (event.Attach limit) = call.Attach limit
+call_of (event.Grant credit) = call.Grant credit
+call_of (event.Send payload) = call.Send payload
+call_of (event.Arrive id) = call.Arrive id
+call_of event.Cut = call.Cut
+call_of event.ResumeNext = call.ResumeNext
+call_of event.PutBackNext = call.PutBackNext
+call_of (event.HandOut tag) = call.HandOut tag
+call_of (event.Settle tag) = call.Settle tag

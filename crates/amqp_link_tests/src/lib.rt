@@ -3,6 +3,8 @@
 #![tactic(auto)]
 
 #[cfg(test)]
+mod interrupted;
+#[cfg(test)]
 mod pair;
 #[cfg(test)]
 mod runs;

@@ -1,70 +1,98 @@
-//! Sends, grants and arrivals in any order, by the contracts of the calls alone.
-ghost use Rattle.amqp_link_tests.specs.Runs.{Follows};
+//! Calls in any order, by the contracts of the calls alone: any list of them is a run.
+ghost use Rattle.std.specs.Prelude.{map};
+ghost use Rattle.amqp_link.specs.PairRuns.{IsRunOf, IsStep};
 ghost use Rattle.amqp_link.specs.Worlds.{Good};
+ghost use Rattle.amqp_link_tests.specs.Runs.{call_of};
 
-use amqp_link::{Pair, PairError, Payload};
+use amqp_link::{DeliveryTag, FromBody, LinkExt, Pair, PairError, Payload, Whole};
 use std::alloc::{AllocError, Global};
 
-// What is done with a pair.
+// A call of a pair.
 #[derive(Debug, Drop)]
 enum Event {
+    Attach(u32),
     Grant(u32),
     Send(Payload),
     Arrive(u32),
+    Cut,
+    ResumeNext,
+    PutBackNext,
+    HandOut(DeliveryTag),
+    Settle(DeliveryTag),
 }
 
-// Does one event, whether it is refused or not.
-fn step(pair: &mut Pair, event: &Event)
-    ensures follows { Follows pair.old pair.new }
+// Makes one call, whether it is refused or not.
+fn step<B: FromBody>(pair: &mut Pair, event: &Event)
+    ensures step { IsStep B.decoded pair.old (call_of event.now) pair.new }
     ensures good { Good pair.new }
 {
     match event {
-        Event::Grant(credit) => {
-            let _ = pair.grant(*credit);
-        }
-        Event::Send(payload) => {
-            let _ = pair.send(payload);
-        }
-        Event::Arrive(id) => {
-            let _ = pair.arrive(*id);
-        }
+        Event::Attach(limit) => drop(pair.attach(*limit)),
+        Event::Grant(credit) => drop(pair.grant(*credit)),
+        Event::Send(payload) => drop(pair.send(payload)),
+        Event::Arrive(id) => drop(pair.arrive(*id)),
+        Event::Cut => drop(pair.cut()),
+        Event::ResumeNext => drop(pair.resume_next()),
+        Event::PutBackNext => drop(pair.put_back_next()),
+        Event::HandOut(tag) => drop(pair.hand_out::<B>(tag)),
+        Event::Settle(tag) => drop(pair.settle(tag)),
     }
 }
 
-// Does the events in order: every delivery stays good, no payload changes, and what is held of a
-// delivery is only added to.
-fn run(pair: &mut Pair, events: &[Event])
+// Makes the calls in order.
+fn run<B: FromBody>(pair: &mut Pair, events: &[Event])
     requires { Good pair.old }
-    ensures follows { Follows pair.old pair.new }
+    ensures run { IsRunOf B.decoded pair.old (map call_of events.now) pair.new }
     ensures good { Good pair.new }
 {
     for event in events {
-        step(pair, event);
+        step::<B>(pair, event);
     }
 }
 
-// Two sends with an arrival between them, and as many arrivals as are left.
-fn two_deliveries(alloc: Global) -> Result<Vec<Event>, AllocError> {
+fn first_tag(alloc: Global) -> Result<DeliveryTag, AllocError> {
+    Ok(DeliveryTag::from([0; 4].to_vec(alloc)?))
+}
+
+// Two deliveries, the first of which is cut off as a part of it has arrived.
+fn cut_off(alloc: Global) -> Result<Vec<Event>, AllocError> {
     let mut events = Vec::new(alloc);
     let eight = Payload::copy_from_slice(alloc, &[1, 2, 3, 4, 5, 6, 7, 8])?;
     let two = Payload::copy_from_slice(alloc, &[9, 10])?;
+    events.push(Event::Attach(32))?;
     events.push(Event::Grant(2))?;
     events.push(Event::Send(eight))?;
     events.push(Event::Arrive(3))?;
     events.push(Event::Send(two))?;
-    events.push(Event::Arrive(4))?;
-    events.push(Event::Arrive(5))?;
+    events.push(Event::Cut)?;
     Ok(events)
 }
 
-// At a limit of 32, eight bytes go as seven and one, and the count wraps between the deliveries.
+// And resumed, put back, handed out and settled.
+fn resumed(alloc: Global) -> Result<Vec<Event>, AllocError> {
+    let mut events = Vec::new(alloc);
+    events.push(Event::Attach(64))?;
+    events.push(Event::ResumeNext)?;
+    events.push(Event::PutBackNext)?;
+    events.push(Event::Arrive(4))?;
+    events.push(Event::HandOut(first_tag(alloc)?))?;
+    events.push(Event::Settle(first_tag(alloc)?))?;
+    Ok(events)
+}
+
+// The count of the second delivery is 1. It is still pending.
 #[test]
-fn two_deliveries_come_whole(rt: HostRuntime) {
-    let mut pair = Pair::new(rt.alloc(), 4294967295).expect(&rt, "memory");
-    let events = two_deliveries(rt.alloc()).expect(&rt, "memory");
-    assert_eq!(rt; pair.attach(32), Ok(0));
-    run(&mut pair, &events);
+fn two_deliveries_are_cut_off(rt: HostRuntime) {
+    let mut pair = Pair::new(rt.alloc(), 0).expect(&rt, "memory");
+    let events = cut_off(rt.alloc()).expect(&rt, "memory");
+    run::<Whole>(&mut pair, &events);
+    drop(events);
+    let events = resumed(rt.alloc()).expect(&rt, "memory");
+    run::<Whole>(&mut pair, &events);
+    drop(events);
     let empty = matches!(pair.arrive(0), Err(PairError::WireEmpty));
-    assert!(rt; empty, "all came");
+    assert!(rt; empty, "all arrived");
+    let pending = pair.ledger().link().unsettled().len();
+    assert_eq!(rt; pending, 1, "the first is settled");
     drop(pair);
 }

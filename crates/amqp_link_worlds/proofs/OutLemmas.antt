@@ -10,7 +10,7 @@ use Rattle.amqp_link_types.specs.declared.delivery.UnsettledMessage.{UnsettledMe
 use Rattle.amqp_link_types.proofs.MapLemmas.{same_tag, other_tag, entry_at-put, entry_at-put_other}
 use Rattle.amqp_link_sender.specs.Senders.{new_entry}
 use Rattle.amqp_link_worlds.specs.Invariants.{IsWorld}
-use Rattle.amqp_link_worlds.specs.Runs.{Event, Attach, Grant, Send, Arrive, Cut, ResumeNext, PutBackNext, HandOut, Settle, Answer, ToAttach, ToGrant, ToSend, ToArrive, ToCut, ToResumeNext, ToPutBackNext, ToHandOut, ToSettle, is_out_after, tests_of, Does, IsLeft, IsRefused, Step}
+use Rattle.amqp_link_worlds.specs.PairRuns.{Event, Attach, Grant, Send, Arrive, Cut, ResumeNext, PutBackNext, HandOut, Settle, Answer, ToAttach, ToGrant, ToSend, ToArrive, ToCut, ToResumeNext, ToPutBackNext, ToHandOut, ToSettle, is_out_after, tests_of, Does, IsLeft, IsRefused, Step}
 use Rattle.amqp_link_worlds.specs.Steps.{after_hand_out, begun, received, attach_tests, send_tests, next_tests}
 use Rattle.amqp_link_worlds.specs.Worlds.{World, is_out, is_out_at, is_together}
 use Rattle.amqp_link_worlds.specs.declared.error.PairError.{PairError}

@@ -17,7 +17,7 @@ use Rattle.amqp_link_ledger.specs.declared.fate.Fate.TheVariants.{Pending, Hande
 use Rattle.amqp_link_ledger.proofs.FateLemmas.{with_fates-none}
 use Rattle.amqp_link_ledger.proofs.ListSteps.{some_is, by_test, tag_is, get_push_old, entry_at-map}
 use Rattle.amqp_link_worlds.specs.Invariants.{IsWorld}
-use Rattle.amqp_link_worlds.specs.Runs.{Event, Attach, Grant, Send, Arrive, Cut, ResumeNext, PutBackNext, HandOut, Settle, Answer, ToAttach, ToGrant, ToSend, ToArrive, ToCut, ToResumeNext, ToPutBackNext, ToHandOut, ToSettle, tests_of, Does, IsLeft, IsRefused, Step}
+use Rattle.amqp_link_worlds.specs.PairRuns.{Event, Attach, Grant, Send, Arrive, Cut, ResumeNext, PutBackNext, HandOut, Settle, Answer, ToAttach, ToGrant, ToSend, ToArrive, ToCut, ToResumeNext, ToPutBackNext, ToHandOut, ToSettle, tests_of, Does, IsLeft, IsRefused, Step}
 use Rattle.amqp_link_worlds.specs.Steps.{list_to_resume, attach_tests}
 use Rattle.amqp_link_worlds.specs.Worlds.{World}
 use Rattle.amqp_link_worlds.specs.declared.error.PairError.{PairError}

@@ -22,7 +22,7 @@ use Rattle.amqp_link_worlds.specs.Resumptions.{entry_of}
 use Rattle.std.specs.Option.{option_or}
 use Rattle.amqp_link_sender.specs.Senders.{new_entry}
 use Rattle.amqp_link_types.specs.declared.types.delivery_state.DeliveryState.TheVariants.{Accepted}
-use Rattle.amqp_link_worlds.specs.Runs.{Event, Attach, Grant, Send, Arrive, Cut, ResumeNext, PutBackNext, HandOut, Settle, Answer, ToAttach, ToGrant, ToSend, ToArrive, ToCut, ToResumeNext, ToPutBackNext, ToHandOut, ToSettle, is_send_of, is_arrival_of, tests_of, Does, IsLeft, IsRefused, Step, Moment, IsRun, first_payload, payload_arrived, does_send, since_send, arrived}
+use Rattle.amqp_link_worlds.specs.PairRuns.{Event, Attach, Grant, Send, Arrive, Cut, ResumeNext, PutBackNext, HandOut, Settle, Answer, ToAttach, ToGrant, ToSend, ToArrive, ToCut, ToResumeNext, ToPutBackNext, ToHandOut, ToSettle, is_send_of, is_arrival_of, tests_of, Does, IsLeft, IsRefused, Step, Moment, IsRun, first_payload, payload_arrived, does_send, since_send, arrived}
 use Rattle.amqp_link_worlds.specs.Steps.{hand_out_tests, list_to_resume, after_hand_out, begun, received}
 use Rattle.amqp_link_worlds.specs.declared.error.PairError.{PairError}
 use Rattle.amqp_link_worlds.specs.declared.error.PairError.TheVariants.{NotAttached, Decode, OutOfMemory}

@@ -6,4 +6,4 @@ pub mod Invariants
 pub mod Attachable
 pub mod Receiving
 pub mod Callable
-pub mod Runs
+pub mod PairRuns

@@ -21,7 +21,7 @@ ghost use Rattle.amqp_link_worlds.specs.Attachable.{CanAsk, CanTakeAsked, CanAns
 ghost use Rattle.amqp_link_worlds.specs.Callable.{CanSend, IsFree, CanGrant, CanCut, CanResume, CanComplete, CanSettle};
 ghost use Rattle.amqp_link_worlds.specs.Invariants.{IsWorld};
 ghost use Rattle.amqp_link_worlds.specs.Receiving.{CanReceive};
-ghost use Rattle.amqp_link_worlds.specs.Runs.{Answer, Does, Event, Settle, IsRun, Moment, RunsEvents, Step, arrived, is_out_after, is_send_of, tests_of};
+ghost use Rattle.amqp_link_worlds.specs.PairRuns.{Answer, Does, Event, Settle, IsRun, Moment, RunsEvents, Step, arrived, is_out_after, is_send_of, tests_of};
 ghost use Rattle.amqp_link_worlds.specs.Steps.{new_world, list_to_resume, later, sender_asking, receiver_at_limit, receiver_half_attached, receiver_together, Attaches, AttachStop, StopsAt, Grants, Sends, Arrives, Cuts, Resumes, PutsBack, HandsOutDelivery, Settles, after_hand_out, attach_tests, send_tests, arrive_tests, cut_tests, next_tests, hand_out_tests, settle_tests};
 ghost use Rattle.amqp_link_worlds.specs.Wires.{OnWire};
 ghost use Rattle.amqp_link_worlds.specs.Worlds.{World, is_out_at, Apart, Halfway, Good, IsOpen, is_together, standing, entry_in, held_at, bytes_in, receiver_entry};

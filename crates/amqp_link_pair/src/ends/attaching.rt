@@ -12,7 +12,7 @@ ghost use Rattle.amqp_link_core.specs.Shown.{attach_stated};
 ghost use Rattle.amqp_link_worlds.specs.Attachable.{CanAttach, CanAsk, attach_asked};
 ghost use Rattle.amqp_link_worlds.specs.Steps.{receiver_at_limit, sender_asking};
 ghost use Rattle.amqp_link_worlds.specs.Worlds.{World};
-ghost use Rattle.amqp_link_pair.specs.Endpoints.{IsAttached, IsLeft, MayAttach, ledger_at};
+ghost use Rattle.amqp_link_pair.specs.Endpoints.{IsAttached, HasStopped, MayAttach, ledger_at};
 
 use crate::ends::{Ends, Stage};
 use crate::resuming::Resuming;
@@ -132,7 +132,7 @@ impl Ends {
         ensures done { (w : World) → MayAttach limit w self.old → IfOk result (λ resuming.
             IsAttached limit w self.old resuming.list self.new) }
         ensures left { (w : World) → MayAttach limit w self.old
-            → OnErr result (IsLeft limit w self.old self.new) }
+            → OnErr result (HasStopped limit w self.old self.new) }
     {
         match self.stage {
             Stage::Apart => self.go_on_apart(alloc, limit),
@@ -150,7 +150,7 @@ impl Ends {
         ensures done { (w : World) → MayAttach limit w self.old → IfOk result (λ resuming.
             IsAttached limit w self.old resuming.list self.new) }
         ensures left { (w : World) → MayAttach limit w self.old
-            → OnErr result (IsLeft limit w self.old self.new) }
+            → OnErr result (HasStopped limit w self.old self.new) }
     {
         let attach = ask(&mut self.ledger, limit, self.limit)?;
         prepare_receiver(&mut self.receiver, limit);
@@ -167,7 +167,7 @@ impl Ends {
         ensures done { (limit : ℕ) (w : World) → MayAttach limit w self.old → IfOk result (λ resuming.
             IsAttached limit w self.old resuming.list self.new) }
         ensures left { (limit : ℕ) (w : World) → MayAttach limit w self.old
-            → OnErr result (IsLeft limit w self.old self.new) }
+            → OnErr result (HasStopped limit w self.old self.new) }
     {
         let Some(attach) = &self.attach else {
             unreachable!()
@@ -185,7 +185,7 @@ impl Ends {
         ensures done { (limit : ℕ) (w : World) → MayAttach limit w self.old → IfOk result (λ resuming.
             IsAttached limit w self.old resuming.list self.new) }
         ensures left { (limit : ℕ) (w : World) → MayAttach limit w self.old
-            → OnErr result (IsLeft limit w self.old self.new) }
+            → OnErr result (HasStopped limit w self.old self.new) }
     {
         let attach = send_whole(&mut self.receiver)?;
         self.stage = Stage::Answered;
@@ -200,7 +200,7 @@ impl Ends {
         ensures done { (limit : ℕ) (w : World) → MayAttach limit w self.old → IfOk result (λ resuming.
             IsAttached limit w self.old resuming.list self.new) }
         ensures left { (limit : ℕ) (w : World) → MayAttach limit w self.old
-            → OnErr result (IsLeft limit w self.old self.new) }
+            → OnErr result (HasStopped limit w self.old self.new) }
     {
         let Some(attach) = &self.attach else {
             unreachable!()

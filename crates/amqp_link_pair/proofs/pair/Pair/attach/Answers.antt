@@ -4,7 +4,7 @@ use Rattle.amqp_link_worlds.specs.Steps.{Attaches, LeftByAttach, attach_tests}
 use Rattle.amqp_link_worlds.specs.Worlds.{World}
 use Rattle.amqp_link_worlds.specs.declared.error.PairError.TheVariants.{OutOfMemory}
 use Rattle.amqp_link_worlds.proofs.WorldLemmas.{IsWorld-attaches, Good-from_world}
-use Rattle.amqp_link_pair.specs.Endpoints.{IsAttached, IsLeft, MayAttach, with_ends}
+use Rattle.amqp_link_pair.specs.Endpoints.{IsAttached, HasStopped, MayAttach, with_ends}
 use Rattle.amqp_link_pair.specs.PairViews.{world_of}
 use Rattle.amqp_link_pair.proofs.AttachedLemmas.{kept_left, left_by, marks_left, stays_or_stops}
 use Rattle.amqp_link_pair.proofs.MarkLemmas.{marks_none}
@@ -17,7 +17,7 @@ attach-requires c =
 
 -- ---- it stops
 
-stopped : (c : goal.After-from_residual-in_err-resuming) → IsLeft c.args.limit (world_of c.self.inside) c.self.inside.ends c.attach.new.self
+stopped : (c : goal.After-from_residual-in_err-resuming) → HasStopped c.args.limit (world_of c.self.inside) c.self.inside.ends c.attach.new.self
 stopped c =
     let may : refusal (attach_tests (world_of c.self.inside) c.args.limit) ≡ None = search rules in
     let can : MayAttach c.args.limit (world_of c.self.inside) c.self.inside.ends = record { world = c.self.invariant.world; ends = c.self.invariant.ends; allowed = may } in

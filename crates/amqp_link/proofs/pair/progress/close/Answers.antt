@@ -1,8 +1,0 @@
-use Rattle.std.proofs.Common.{◌∙◌, ap}
-use Rattle.amqp_link_types.specs.Entries.{without_entry}
-use Rattle.amqp_link.specs.Steps.{begun}
-use Rattle.amqp_link_types.proofs.MapLemmas.{put-taken_back}
-use Rattle.amqp_link.proofs.pair.progress.close.Goals as goal
-
-pub returns : goal.returns
-returns c = λ old absent is. c.remove.ensures ∙ (ap (λ m. without_entry m c.args.tag.now) is ∙ put-taken_back old c.args.tag.now begun absent)
