@@ -1,13 +1,17 @@
 -- An attach of both endpoints is a step of the pair's world, and so is one that stops on the way.
-use Rattle.std.proofs.Common.{◌≡◌, sym, ap, subst, ℕ, inl, inr}
-use Rattle.std.specs.Prelude.{Result, Err}
+use Rattle.std.proofs.Common.{◌≡◌, ◌∙◌, sym, ap, subst, ℕ, false, inl, inr}
+use Rattle.std.specs.Map.{keys_of}
+use Rattle.std.specs.Prelude.{None, Result, Err}
 use Rattle.amqp_link_types.specs.Entries.{Entries}
+use Rattle.amqp_link_types.specs.Refusals.{refusal}
+use Rattle.amqp_link_ledger.specs.Fates.{HandsOut, Resolves, after}
+use Rattle.amqp_link_ledger.proofs.RecordLemmas.{resolves-none}
 use Rattle.amqp_link_worlds.specs.Invariants.{IsWorld}
-use Rattle.amqp_link_worlds.specs.Steps.{LeftByAttach, StaysOrStops}
+use Rattle.amqp_link_worlds.specs.Steps.{Attaches, LeftByAttach, StaysOrStops, attach_tests, list_to_resume}
 use Rattle.amqp_link_worlds.specs.Worlds.{World, is_together}
 use Rattle.amqp_link_worlds.specs.declared.error.PairError.{PairError}
 use Rattle.amqp_link_worlds.specs.declared.error.PairError.TheVariants as error
-use Rattle.amqp_link_worlds.proofs.WorldLemmas.{IsWorld-stops}
+use Rattle.amqp_link_worlds.proofs.WorldLemmas.{IsWorld-stops, attach_returns_none, attach_tags_are, none_hold}
 use Rattle.amqp_link_pair.specs.Endpoints.{HasStopped, with_ends}
 use Rattle.amqp_link_pair.specs.PairViews.{AreMarked}
 use Rattle.amqp_link_pair.specs.declared.deliveries.Kept.{Kept}
@@ -40,3 +44,18 @@ module _ (limit : ℕ) (w : World) (old new : Ends) (left : HasStopped limit w o
 
 pub left_by : {A : Type 0} (r : Result A PairError) (old new : World) (limit : ℕ) → r ≡ Err error.OutOfMemory → StaysOrStops old limit new → LeftByAttach r old limit new
 left_by r old new limit is s = subst (λ r. LeftByAttach r old limit new) (sym is) s
+
+-- each pending delivery is handed out, in the order of the sender's map, and none is resolved
+module _ (old new : World) (limit count : ℕ) (k : IsWorld old) (may : refusal (attach_tests old limit) ≡ None) (a : Attaches old limit count new) where
+  off : is_together old.phase ≡ false
+  off = (none_hold (attach_tests old limit) may).0
+
+  pub all_listed : keys_of new.resuming ≡ keys_of old.ledger.link.unsettled
+  all_listed = ap (λ (w : World). keys_of w.resuming) a.world ∙ attach_tags_are old k off
+
+  pub only_handed_out : new.ledger.records ≡ after (HandsOut new.resuming) old.ledger.records
+  only_handed_out =
+      ap (λ (w : World). w.ledger.records) a.world
+      ∙ ap (λ outcomes. after (HandsOut (list_to_resume old)) (after (Resolves outcomes) old.ledger.records)) (attach_returns_none old k off)
+      ∙ ap (after (HandsOut (list_to_resume old))) (resolves-none old.ledger.records)
+      ∙ ap (λ list. after (HandsOut list) old.ledger.records) (sym (ap (λ (w : World). w.resuming) a.world))

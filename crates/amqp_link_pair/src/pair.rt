@@ -6,7 +6,9 @@
 ghost use Rattle.std.specs.Prelude.{◌≡◌, ◌≢◌, ◌<◌, ◌≤◌, ◌^◌, [], true, false, length, None, Some, IfOk, IsErrOf, IsSome, OnOk, OnErr, option_copied};
 ghost use Rattle.amqp_link_types.specs.Entries.{entry_at};
 ghost use Rattle.amqp_link_types.specs.Refusals.{AnswersExactly, AnswersOrOutOfMemory, AnswersThenOutOfMemory, refusal};
-ghost use Rattle.amqp_link_ledger.specs.Fates.{IsRecorded};
+ghost use Rattle.std.specs.Map.{keys_of};
+ghost use Rattle.amqp_link_ledger.specs.Fates.{HandsOut, IsRecorded, after};
+ghost use Rattle.amqp_link_worlds.specs.Invariants.{IsWorld};
 ghost use Rattle.amqp_link_worlds.specs.Worlds.{Good, held_at, is_together};
 ghost use Rattle.amqp_link_worlds.specs.Steps.{Attaches, LeftByAttach, Grants, Sends, Arrives, Cuts, Resumes, PutsBack, HandsOutDelivery, LeftByHandOut, Settles};
 ghost use Rattle.amqp_link_worlds.specs.Steps.{new_world, is_halfway_at_other, attach_tests, grant_tests, send_tests, arrive_tests, cut_tests, next_tests, hand_out_tests, settle_tests};
@@ -98,6 +100,7 @@ impl Pair {
         ensures done { IfOk result (λ pair. pair ≡ new_world initial_delivery_count) }
         ensures refused { AnswersOrOutOfMemory PairError.OutOfMemory result [] }
         ensures good { IfOk result (λ pair. Good pair) }
+        ensures kept { IfOk result (λ pair. IsWorld pair) }
     {
         Ok(Pair {
             alloc,
@@ -110,21 +113,26 @@ impl Pair {
 
     /// Attaches both endpoints, for the first time or after a cut, at a frame limit in bytes (2.6.3): how many
     /// deliveries are to be resumed. Each delivery that the sender has pending is handed out for that, in the order
-    /// of its map.
+    /// of its map, and no registration is resolved.
     ///
     /// Refused in this order, with nothing changed: `AlreadyAttached`; `LimitChanged`, if an earlier call has begun
-    /// at another limit; `LimitTooSmall` (under 29, or the attach of an endpoint with all its deliveries does not
-    /// fit a frame, before which `OutOfMemory` may come). If it is out of memory past the sender's attach, the
-    /// endpoints stay where they have come to, and the call is made again with the same limit.
+    /// at another limit; `LimitTooSmall`, if the limit is under 29, or the attach of an endpoint with all its
+    /// deliveries does not fit a frame. That attach is made to be measured, so `OutOfMemory` may come before this.
+    /// If it is out of memory past the sender's attach, the endpoints stay where they have come to, and the call is
+    /// made again with the same limit.
     ///
     /// Its cost grows with the deliveries that are pending.
     pub fn attach(&mut self, limit: u32) -> Result<usize, PairError>
         ensures done { IfOk result (λ count. Attaches self.old limit count self.new) }
+        ensures listed { OnOk result (keys_of self.new.resuming ≡ keys_of self.old.ledger.link.unsettled) }
+        ensures handed_out { OnOk result (self.new.ledger.records
+            ≡ after (HandsOut self.new.resuming) self.old.ledger.records) }
         ensures refused { AnswersOrOutOfMemory PairError.OutOfMemory result (attach_tests self.old limit) }
         ensures memory { IsErrOf result PairError.OutOfMemory → (is_together self.old.phase ≡ false)
             × (is_halfway_at_other limit self.old.phase ≡ false) × (29 ≤ limit) }
         ensures left { LeftByAttach result self.old limit self.new }
         ensures good { Good self.new }
+        ensures kept { IsWorld self.new }
     {
         self.may_attach(limit)?;
         let resuming = self.ends.attach(self.alloc, limit)?;
@@ -160,6 +168,7 @@ impl Pair {
         ensures refused { AnswersExactly result (grant_tests self.old) }
         ensures left { OnErr result (self.new ≡ self.old) }
         ensures good { Good self.new }
+        ensures kept { IsWorld self.new }
     {
         if !self.ends.are_together() {
             return Err(PairError::NotAttached);
@@ -172,6 +181,9 @@ impl Pair {
     /// Refused in this order, with nothing changed: `NotAttached`; `ResumeFirst`, while deliveries are still to be
     /// resumed; `PayloadTooLong` (2^32 bytes or more); `CreditMissing`; `TagPending`; `OutOfMemory`, which may come
     /// before `TagPending`, as the tag is made and the delivery is added.
+    ///
+    /// Its cost grows with the number of its transfers, and with the deliveries that the sender has pending, whose
+    /// tags are compared.
     pub fn send(&mut self, payload: &Payload) -> Result<Sent, PairError>
         ensures done { IfOk result (λ sent. Sends self.old payload.now sent.tag sent.frames self.new) }
         ensures refused { AnswersOrOutOfMemory PairError.OutOfMemory
@@ -180,6 +192,7 @@ impl Pair {
             → refusal (before_tag self.old payload.now) ≡ None }
         ensures left { OnErr result (self.new ≡ self.old) }
         ensures good { Good self.new }
+        ensures kept { IsWorld self.new }
     {
         self.may_send(payload)?;
         let tag = next_tag(self.alloc, &self.ends.ledger)?;
@@ -234,6 +247,7 @@ impl Pair {
         ensures refused { AnswersThenOutOfMemory PairError.OutOfMemory result (arrive_tests self.old) }
         ensures left { OnErr result (self.new ≡ self.old) }
         ensures good { Good self.new }
+        ensures kept { IsWorld self.new }
     {
         if !self.ends.are_together() {
             return Err(PairError::NotAttached);
@@ -265,6 +279,7 @@ impl Pair {
         ensures refused { AnswersExactly result (cut_tests self.old) }
         ensures left { OnErr result (self.new ≡ self.old) }
         ensures good { Good self.new }
+        ensures kept { IsWorld self.new }
     {
         if !self.ends.are_together() {
             return Err(PairError::NotAttached);
@@ -281,12 +296,15 @@ impl Pair {
     /// payload, again. Spends no credit.
     ///
     /// Refused in this order, with nothing changed: `NotAttached`, `NothingToResume`, `OutOfMemory`.
+    ///
+    /// Its cost grows as that of `send`.
     pub fn resume_next(&mut self) -> Result<Resumed, PairError>
         ensures done { IfOk result (λ resumed.
             Resumes self.old resumed.tag resumed.frames resumed.resume self.new) }
         ensures refused { AnswersThenOutOfMemory PairError.OutOfMemory result (next_tests self.old) }
         ensures left { OnErr result (self.new ≡ self.old) }
         ensures good { Good self.new }
+        ensures kept { IsWorld self.new }
     {
         if !self.ends.are_together() {
             return Err(PairError::NotAttached);
@@ -321,11 +339,14 @@ impl Pair {
     /// out once more.
     ///
     /// Refused in this order, with nothing changed: `NotAttached`, `NothingToResume`, `OutOfMemory`.
+    ///
+    /// Its cost grows with the deliveries that the sender has pending, whose tags are compared.
     pub fn put_back_next(&mut self) -> Result<DeliveryTag, PairError>
         ensures done { IfOk result (λ tag. PutsBack self.old tag self.new) }
         ensures refused { AnswersThenOutOfMemory PairError.OutOfMemory result (next_tests self.old) }
         ensures left { OnErr result (self.new ≡ self.old) }
         ensures good { Good self.new }
+        ensures kept { IsWorld self.new }
     {
         if !self.ends.are_together() {
             return Err(PairError::NotAttached);
@@ -347,10 +368,11 @@ impl Pair {
     /// until it is settled.
     ///
     /// Refused in this order. With nothing changed: `NotAttached`; `UnknownTag`, if nothing is held of it; `NotWhole`;
-    /// `AlreadyHandedOut`; `TransferLimitExceeded`, if the receiver has no credit; `OutOfMemory`, which may come before
-    /// the last. With the credit spent: `Decode`, if its message cannot be decoded; it counts as handed out then.
+    /// `AlreadyHandedOut`; `TransferLimitExceeded`, if the receiver has no credit; `OutOfMemory`, which comes after all
+    /// of these. With the credit spent: `Decode`, if its message cannot be decoded; it counts as handed out then.
     ///
-    /// Its cost grows with the bytes that are held of the delivery.
+    /// Its cost grows with the bytes that are held of the delivery, and with the deliveries that the receiver
+    /// reports, whose tags are compared.
     pub fn hand_out<B: FromBody>(&mut self, tag: &DeliveryTag) -> Result<Delivery<B>, PairError>
         ensures done { IfOk result (λ delivery.
             HandsOutDelivery B.decoded self.old tag.now delivery self.new) }
@@ -360,6 +382,7 @@ impl Pair {
             → refusal (before_decoding self.old tag.now) ≡ None }
         ensures left { LeftByHandOut result self.old tag.now self.new }
         ensures good { Good self.new }
+        ensures kept { IsWorld self.new }
     {
         if !self.ends.are_together() {
             return Err(PairError::NotAttached);
@@ -372,11 +395,14 @@ impl Pair {
     /// Refused in this order, with nothing changed: `NotAttached`; `UnknownTag`, if nothing is held of it; `NotWhole`;
     /// `ResumeFirst`, while deliveries are still to be resumed, whichever; `OnWire`, if a transfer of it is under way;
     /// `OutOfMemory`.
+    ///
+    /// Its cost grows with the deliveries that both endpoints keep, whose tags are compared.
     pub fn settle(&mut self, tag: &DeliveryTag) -> Result<(), PairError>
         ensures done { OnOk result (Settles self.old tag.now self.new) }
         ensures refused { AnswersThenOutOfMemory PairError.OutOfMemory result (settle_tests self.old tag.now) }
         ensures left { OnErr result (self.new ≡ self.old) }
         ensures good { Good self.new }
+        ensures kept { IsWorld self.new }
     {
         let delivery_id = self.may_settle(tag)?;
         let info = DeliveryInfo::new(delivery_id, tag.clone()?, None);
@@ -419,6 +445,7 @@ impl Pair {
     pub fn held(&self, tag: &DeliveryTag) -> Option<&IncompleteTransfer>
         ensures held { option_copied result ≡ held_at self.now tag.now }
         ensures good { Good self.now }
+        ensures kept { IsWorld self.now }
     {
         self.deliveries.get(tag)?.progress.held.as_ref()
     }

@@ -1,6 +1,6 @@
-//! A delivery of twelve bytes that is cut off before it arrives, put back, cut off again, sent again, handed out and
-//! settled: answer by answer, also if a growth is refused, whichever it is. Run by hand with
-//! `rt try --test --fail-alloc N`.
+//! A delivery of twelve bytes that is cut off, answer by answer, also if a growth is refused, whichever it is: before
+//! it arrives, to be put back, sent again, handed out and settled; and after ten bytes, to be resumed and handed out.
+//! Run by hand with `rt try --test --fail-alloc N`.
 use amqp_link::{
     DeliveryState, DeliveryTag, Fate, LinkExt, LinkStateError, Pair, PairError, Payload, Whole,
 };

@@ -1,4 +1,4 @@
-//! Tests of a pair, by what it makes public: worked values, and any sends, grants and arrivals by the
+//! Tests of a pair, by what it makes public: worked values, refused growths, and any list of calls by the
 //! contracts of the calls alone.
 #![tactic(auto)]
 

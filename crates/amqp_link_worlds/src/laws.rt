@@ -1,4 +1,4 @@
-//! What holds of a pair by its definitions, before any call is written.
+//! What holds of a pair by its definitions alone. A pair's calls are proved by the same lemmas.
 //!
 //! Each function here does nothing: its contract is the law.
 ghost use Rattle.std.specs.Prelude.{◌≡◌, ◌⊎◌, [], ◌∷◌, ℕ, Bool, true, false, List, None, Some, Option, Ok, Result, IsSomeAnd, slice_get};

@@ -1,48 +1,76 @@
--- A line says at most what its word lets it say.
-use Rattle.std.proofs.Common.{◌≡◌, ℕ, ◌<◌, ◌^◌, List, ◌++◌, Option, Some, None, Result, Ok, Err, drop, slice_index, refl, sym, ap, ◌∙◌, arith}
-use Rattle.std.specs.Prelude.{codes, MatchOption, OnErr}
+-- What is read behind a word is what the line says there, and an event is a word alone, or has a number or bytes.
+use Rattle.std.proofs.Common.{◌≡◌, ℕ, ◌<◌, ◌^◌, List, ◌++◌, Option, Some, None, Result, Ok, Err, Vec, Global, refl, sym, ◌∙◌}
+use Rattle.std.specs.Prelude.{MatchOption, IfOk, OnErr}
 use Rattle.std.specs.Option.{SomeIff, option_map}
 use Rattle.std.specs.Str.Parse.{IsNumeral, digits_value}
+use Rattle.std.proofs.lemmas.List.{append_cancel_left}
 use Rattle.line_text.specs.Hex.{IsHexText, hex_bytes}
-use Rattle.linkrun.specs.Line.{IsNumber, Says}
+use Rattle.linkrun.specs.Line.{IsNumber, IsBytes, Begins, Says, SaysNoWord, SaysNoNumber, SaysNoBytes}
 use Rattle.linkrun.specs.declared.event.Event.{Event}
-use Rattle.linkrun.specs.declared.event.Event.TheVariants.{Attach, Grant, Send, Arrive, Show}
+use Rattle.linkrun.specs.declared.event.Event.TheVariants.{Attach, Grant, Send, Arrive, Cut, ResumeNext, PutBackNext, HandOut, Settle, Show, Fate}
 
--- the second bytes of equal lines
-second-same : (line other : List ℕ) → line ≡ other → slice_index line 1 ≡ slice_index other 1
-second-same line other same = ap (λ bytes. slice_index bytes 1) same
+-- behind the word stands nothing but the text
+pub not_begun : (word line text : List ℕ) (P : List ℕ → Type 0) → line ≡ word ++ text → ¬ (P text) → ¬ (Begins word P line)
+not_begun word line text P is none = λ (rest, same, fact).
+    let rests : text ≡ rest = append_cancel_left word _ _ (sym is ∙ same) in none (rw rests fact)
 
--- a line of an arrival says nothing else
-pub not_arrive : (line text : List ℕ) → line ≡ codes "arrive " ++ text → ((id : ℕ) → ¬ (IsNumber text id))
-    → (event : Event) → ¬ (Says line event)
-not_arrive line text is none (Attach limit) = λ (rest, same, said).
-    let apart : ◌≡◌ {A = ℕ} 114 116 = second-same _ _ (sym is ∙ same) in absurd (omega arith)
-not_arrive line text is none (Grant credit) = λ (rest, same, said).
-    let apart : ◌≡◌ {A = ℕ} 97 103 = ap (λ bytes. slice_index bytes 0) (sym is ∙ same) in absurd (omega arith)
-not_arrive line text is none (Send payload) = λ (rest, same, said).
-    let apart : ◌≡◌ {A = ℕ} 114 101 = second-same _ _ (sym is ∙ same) in absurd (omega arith)
-not_arrive line text is none (Arrive id) = λ (rest, same, said).
-    let rests : text ≡ rest = ap (drop 7) (sym is ∙ same) in none id (rw rests said)
-not_arrive line text is none (Show tag) = λ (rest, same, said).
-    let apart : ◌≡◌ {A = ℕ} 114 104 = second-same _ _ (sym is ∙ same) in absurd (omega arith)
-
--- what is read of a line of an arrival
-pub arrive_read : (line text : List ℕ) (found : Option ℕ) → line ≡ codes "arrive " ++ text
+-- the number that is read of the text
+pub number_read : (word line text : List ℕ) (found : Option ℕ) → line ≡ word ++ text
     → SomeIff found (IsNumeral 10 text × (digits_value 10 text < 2 ^ 32)) (digits_value 10 text)
-    → MatchOption (option_map Arrive found) ((event : Event) → ¬ (Says line event)) (Says line)
-arrive_read line text (Some id) is read =
+    → MatchOption found ((n : ℕ) → ¬ (Begins word (λ text. IsNumber text n) line)) (λ n. Begins word (λ text. IsNumber text n) line)
+number_read word line text (Some n) is read =
     (text, is, record { digits = read.0.0; value = sym read.1; fits = rw (read.1) read.0.1 })
-arrive_read line text None is read =
-    not_arrive line text is (λ id number. read (number.digits, rw (number.value) number.fits))
+number_read word line text None is read = λ n.
+    not_begun word line text (λ rest. IsNumber rest n) is (λ number. read (number.digits, rw (number.value) number.fits))
 
--- bytes behind `send` and `show` make an event
-pub send_said : (line text : List ℕ) → line ≡ codes "send " ++ text → IsHexText text → (event : Event) × Says line event
-send_said line text is digits = (Send (hex_bytes text), (text, is, record { digits = digits; value = refl }))
+-- the bytes that are read of the text
+pub bytes_read : {E : Type 0} (word line text : List ℕ) (read : Result (Option (Vec ℕ Global)) E) → line ≡ word ++ text
+    → IfOk read (λ found. MatchOption found (¬ (IsHexText text)) (λ bytes. IsHexText text × (bytes.items ≡ hex_bytes text)))
+    → IfOk read (λ found. MatchOption found
+    ((bytes : List ℕ) → ¬ (Begins word (λ rest. IsBytes rest bytes) line)) (λ bytes. Begins word (λ rest. IsBytes rest bytes.items) line))
+bytes_read word line text (Ok (Some bytes)) is read = (text, is, record { digits = read.0; value = read.1 })
+bytes_read word line text (Ok None) is read = λ bytes.
+    not_begun word line text (λ rest. IsBytes rest bytes) is (λ said. read (said.digits))
+bytes_read word line text (Err error) is read = tt
 
-pub show_said : (line text : List ℕ) → line ≡ codes "show " ++ text → IsHexText text → (event : Event) × Says line event
-show_said line text is digits = (Show (hex_bytes text), (text, is, record { digits = digits; value = refl }))
+-- memory is asked for only where the text writes bytes
+pub bytes_written : {T E : Type 0} (word line text : List ℕ) (read : Result T E) → line ≡ word ++ text
+    → OnErr read (IsHexText text) → OnErr read ((bytes : List ℕ) × Begins word (λ rest. IsBytes rest bytes) line)
+bytes_written word line text (Ok value) is digits = tt
+bytes_written word line text (Err error) is digits = (hex_bytes text, (text, is, record { digits = digits; value = refl }))
 
--- a fact that holds anyway holds on an error
-pub OnErr-always : {T E : Type 0} (result : Result T E) (P : Type 0) → P → OnErr result P
-OnErr-always (Ok value) P fact = tt
-OnErr-always (Err error) P fact = fact
+-- of the events with a number, the last is read
+pub fate_read : (line : List ℕ) (found : Option ℕ)
+    → ((n : ℕ) → ¬ (Says line (Attach n))) → ((n : ℕ) → ¬ (Says line (Grant n))) → ((n : ℕ) → ¬ (Says line (Arrive n)))
+    → MatchOption found ((n : ℕ) → ¬ (Says line (Fate n))) (λ n. Says line (Fate n))
+    → MatchOption (option_map Fate found) (SaysNoNumber line) (Says line)
+fate_read line (Some n) attach grant arrive said = said
+fate_read line None attach grant arrive fate = λ n. (attach n, grant n, arrive n, fate n)
+
+-- an event is a word alone, or has a number or bytes
+no_event : (line : List ℕ) → SaysNoWord line → SaysNoNumber line → SaysNoBytes line → (event : Event) → ¬ (Says line event)
+no_event line words numbers bytes (Attach limit) = (numbers limit).0
+no_event line words numbers bytes (Grant credit) = (numbers credit).1
+no_event line words numbers bytes (Send payload) = (bytes payload).0
+no_event line words numbers bytes (Arrive id) = (numbers id).2
+no_event line words numbers bytes Cut = words.0
+no_event line words numbers bytes ResumeNext = words.1
+no_event line words numbers bytes PutBackNext = words.2
+no_event line words numbers bytes (HandOut tag) = (bytes tag).1
+no_event line words numbers bytes (Settle tag) = (bytes tag).2
+no_event line words numbers bytes (Show tag) = (bytes tag).3
+no_event line words numbers bytes (Fate number) = (numbers number).3
+
+-- the event that is read last, with its bytes
+pub event_read : {E : Type 0} (line : List ℕ) (read : Result (Option Event) E) → SaysNoWord line → SaysNoNumber line
+    → IfOk read (λ found. MatchOption found (SaysNoBytes line) (Says line))
+    → IfOk read (λ found. MatchOption found ((event : Event) → ¬ (Says line event)) (Says line))
+event_read line (Ok (Some event)) words numbers said = said
+event_read line (Ok None) words numbers bytes = no_event line words numbers bytes
+event_read line (Err error) words numbers read = tt
+
+-- bytes that the line says behind a word make an event, of which an error may speak
+pub event_said : {T E : Type 0} (result : Result T E) (line : List ℕ) (made : List ℕ → Event)
+    → ((bytes : List ℕ) × Says line (made bytes)) → OnErr result ((event : Event) × Says line event)
+event_said (Ok value) line made said = tt
+event_said (Err error) line made (bytes, said) = (made bytes, said)

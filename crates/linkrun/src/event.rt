@@ -1,7 +1,7 @@
 //! The events of a script, and the lines that say them.
-ghost use Rattle.std.specs.Prelude.{IfOk, OnErr, MatchOption};
+ghost use Rattle.std.specs.Prelude.{◌≡◌, ◌≢◌, ◌++◌, ℕ, List, IfOk, OnErr, MatchOption};
 ghost use Rattle.linkrun.specs.declared.event.Event.{Event};
-ghost use Rattle.linkrun.specs.Line.{Says};
+ghost use Rattle.linkrun.specs.Line.{IsNumber, IsBytes, Begins, Says, SaysNoWord, SaysNoNumber, SaysNoBytes};
 
 use crate::number::parse_number;
 use amqp_link::{DeliveryTag, Payload};
@@ -11,7 +11,7 @@ use std::alloc::{AllocError, Global};
 /// What a line asks of the pair.
 #[derive(Drop)]
 pub enum Event {
-    /// `attach LIMIT`: attach both ends, with this frame limit in bytes.
+    /// `attach LIMIT`: attach both endpoints, with this frame limit in bytes.
     Attach(u32),
     /// `grant N`: the receiver grants credit for this many deliveries.
     Grant(u32),
@@ -19,39 +19,117 @@ pub enum Event {
     Send(Payload),
     /// `arrive ID`: the next transfer arrives, with this delivery id if it begins a delivery.
     Arrive(u32),
+    /// `cut`: the link is interrupted, and what is under way is lost.
+    Cut,
+    /// `resume`: the sender sends the rest of the next delivery to resume.
+    ResumeNext,
+    /// `putback`: the sender keeps the next delivery to resume, and sends nothing of it.
+    PutBackNext,
+    /// `handout TAG`: the receiver hands out the delivery of this tag.
+    HandOut(DeliveryTag),
+    /// `settle TAG`: both endpoints settle the delivery of this tag as accepted.
+    Settle(DeliveryTag),
     /// `show TAG`: what the receiver holds of the delivery of this tag.
     Show(DeliveryTag),
+    /// `fate N`: what became of the sender's registration of this number, counted from 0.
+    Fate(u32),
 }
 
 /// The event that `line` says, without its line end, or `None` where it says none.
 ///
 /// A word and what follows it are parted by exactly one space, so an empty word says no event.
-/// Memory is asked for only where the line says an event.
+/// Allocates only if the line says an event.
 pub fn parse_event(alloc: Global, line: &[u8]) -> Result<Option<Event>, AllocError>
     ensures ok { IfOk result (λ found.
         MatchOption found ((event : Event) → ¬ (Says line.now event)) (Says line.now)) }
     ensures err { OnErr result ((event : Event) × Says line.now event) }
 {
-    if let Some(text) = line.strip_prefix(b"attach ") {
-        return Ok(parse_number(text).map(Event::Attach));
+    if let Some(event) = event_of_a_word(line) {
+        return Ok(Some(event));
     }
-    if let Some(text) = line.strip_prefix(b"grant ") {
-        return Ok(parse_number(text).map(Event::Grant));
+    if let Some(event) = event_with_number(line) {
+        return Ok(Some(event));
     }
-    if let Some(text) = line.strip_prefix(b"send ") {
-        return match parse_bytes(alloc, text)? {
-            Some(bytes) => Ok(Some(Event::Send(Payload::from_vec(bytes)?))),
-            None => Ok(None),
-        };
+    event_with_bytes(alloc, line)
+}
+
+// The event without an argument that a line says.
+fn event_of_a_word(line: &[u8]) -> Option<Event>
+    ensures { MatchOption result (SaysNoWord line.now) (Says line.now) }
+{
+    match line {
+        b"cut" => Some(Event::Cut),
+        b"resume" => Some(Event::ResumeNext),
+        b"putback" => Some(Event::PutBackNext),
+        _ => None,
     }
-    if let Some(text) = line.strip_prefix(b"arrive ") {
-        return Ok(parse_number(text).map(Event::Arrive));
+}
+
+// The event with a number that a line says.
+fn event_with_number(line: &[u8]) -> Option<Event>
+    ensures { MatchOption result (SaysNoNumber line.now) (Says line.now) }
+{
+    if let Some(limit) = number_after(b"attach ", line) {
+        return Some(Event::Attach(limit));
     }
-    if let Some(text) = line.strip_prefix(b"show ") {
-        return match parse_bytes(alloc, text)? {
-            Some(bytes) => Ok(Some(Event::Show(DeliveryTag::from(bytes)))),
-            None => Ok(None),
-        };
+    if let Some(credit) = number_after(b"grant ", line) {
+        return Some(Event::Grant(credit));
+    }
+    if let Some(id) = number_after(b"arrive ", line) {
+        return Some(Event::Arrive(id));
+    }
+    number_after(b"fate ", line).map(Event::Fate)
+}
+
+// The event with bytes that a line says. Allocates only if it says one.
+fn event_with_bytes(alloc: Global, line: &[u8]) -> Result<Option<Event>, AllocError>
+    ensures ok { IfOk result (λ found.
+        MatchOption found (SaysNoBytes line.now) (Says line.now)) }
+    ensures err { OnErr result ((event : Event) × Says line.now event) }
+{
+    if let Some(bytes) = bytes_after(alloc, b"send ", line)? {
+        return Ok(Some(Event::Send(Payload::from_vec(bytes)?)));
+    }
+    if let Some(bytes) = bytes_after(alloc, b"handout ", line)? {
+        return Ok(Some(Event::HandOut(DeliveryTag::from(bytes))));
+    }
+    if let Some(bytes) = bytes_after(alloc, b"settle ", line)? {
+        return Ok(Some(Event::Settle(DeliveryTag::from(bytes))));
+    }
+    if let Some(bytes) = bytes_after(alloc, b"show ", line)? {
+        return Ok(Some(Event::Show(DeliveryTag::from(bytes))));
     }
     Ok(None)
+}
+
+// The number that follows the word and its space.
+fn number_after(word: &[u8], line: &[u8]) -> Option<u32>
+    ensures { MatchOption result
+        ((n : ℕ) → ¬ (Begins word.now (λ text. IsNumber text n) line.now))
+        (λ n. Begins word.now (λ text. IsNumber text n) line.now) }
+{
+    parse_number(text_after(word, line)?)
+}
+
+// The bytes that follow the word and its space. Allocates only if some do.
+fn bytes_after(alloc: Global, word: &[u8], line: &[u8]) -> Result<Option<Vec<u8>>, AllocError>
+    ensures ok { IfOk result (λ found. MatchOption found
+        ((bytes : List ℕ) → ¬ (Begins word.now (λ text. IsBytes text bytes) line.now))
+        (λ bytes. Begins word.now (λ text. IsBytes text bytes.items) line.now)) }
+    ensures err { OnErr result
+        ((bytes : List ℕ) × Begins word.now (λ text. IsBytes text bytes) line.now) }
+{
+    match text_after(word, line) {
+        Some(text) => parse_bytes(alloc, text),
+        None => Ok(None),
+    }
+}
+
+// What follows the word and its space.
+fn text_after<'a>(word: &[u8], line: &'a [u8]) -> Option<&'a [u8]>
+    ensures { MatchOption result
+        ((rest : List ℕ) → line.now ≢ word.now ++ rest)
+        (λ text. line.now ≡ word.now ++ text.now) }
+{
+    line.strip_prefix(word)
 }

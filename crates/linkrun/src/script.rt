@@ -76,7 +76,7 @@ fn run_lines<R: BufRead, O: Write>(
             continue;
         }
         match parse_event(alloc, line.as_slice()) {
-            Ok(Some(event)) => answer_to(pair, event, output)?,
+            Ok(Some(event)) => answer_to(pair, &event, output)?,
             Ok(None) => return Ok(Some(Fault::NotAnEvent(number))),
             Err(_) => return Ok(Some(Fault::InputFailed)),
         }
@@ -85,10 +85,8 @@ fn run_lines<R: BufRead, O: Write>(
 }
 
 // Does what a line says, and tells what came of it. The error is a failed write.
-fn answer_to<O: Write>(pair: &mut Pair, event: Event, output: &mut O) -> io::Result<()> {
-    let answer = perform(pair, &event);
-    drop(event);
-    match answer {
+fn answer_to<O: Write>(pair: &mut Pair, event: &Event, output: &mut O) -> io::Result<()> {
+    match perform(pair, event) {
         Ok(answer) => writeln!(output, "{answer}"),
         Err(refusal) => writeln!(output, "refused {refusal:?}"),
     }

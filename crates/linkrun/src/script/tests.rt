@@ -6,6 +6,8 @@ use std::io::{BufRead, ErrorKind, Read, Write};
 use std::process::Abort;
 use std::test::Fail;
 
+mod interruptions;
+
 const NOT_AN_EVENT: &[u8] = b"line 1: not an event\n";
 
 // What a run wrote, and its status.
@@ -191,12 +193,23 @@ fn other_words_are_no_events(rt: HostRuntime) {
         b"send ",
         b"show",
         b"\xff\xfe",
-        b"cut",
-        b"resume",
-        b"putback",
-        b"settle 00000000",
-        b"handout 00000000",
-        b"fate 0",
+        b"cut ",
+        b" cut",
+        b"Cut",
+        b"cut\0",
+        b"cut cut",
+        b"resume ",
+        b"resume 1",
+        b"resumed",
+        b"putback ",
+        b"putback 00000000",
+        b"put back",
+        b"settle",
+        b"settle ",
+        b"handout",
+        b"handout  00",
+        b"fate",
+        b"fate ",
         b"# a comment",
         b"unknown 1",
     ];
@@ -222,6 +235,9 @@ fn other_numbers_are_no_events(rt: HostRuntime) {
         b"arrive x",
         b"arrive 1.0",
         b"grant 1\xc3",
+        b"fate -",
+        b"fate 0 ",
+        b"fate 4294967296",
     ];
     expect_no_events(&rt, rt.alloc(), lines.as_slice());
 }
@@ -242,6 +258,10 @@ fn other_bytes_are_no_events(rt: HostRuntime) {
         b"send \xff\xff",
         b"show 0000000",
         b"show 00 ",
+        b"handout 0",
+        b"handout 00 00",
+        b"settle 0g",
+        b"settle 00000000 ",
     ];
     expect_no_events(&rt, rt.alloc(), lines.as_slice());
 }
@@ -250,7 +270,7 @@ fn other_bytes_are_no_events(rt: HostRuntime) {
 fn a_line_that_is_no_event_ends_the_run(rt: HostRuntime) {
     for (script, output, faults) in [
         (
-            "attach 30\ncut\ngrant 1\n",
+            "attach 30\nstop\ngrant 1\n",
             "attached 0\n",
             "line 2: not an event\n",
         ),
@@ -328,14 +348,14 @@ fn a_failed_write_is_not_spoken_of(rt: HostRuntime) {
         ("at a refusal", "grant 1\n", 4, true),
         (
             "before a line that is no event",
-            "attach 30\ncut\n",
+            "attach 30\nstop\n",
             5,
             true,
         ),
         ("at the flush", "attach 30\n", 100, false),
         (
             "at the flush after a line that is no event",
-            "cut\n",
+            "stop\n",
             100,
             false,
         ),
@@ -352,10 +372,10 @@ fn a_failed_write_is_not_spoken_of(rt: HostRuntime) {
 #[test]
 fn a_fault_that_cannot_be_told_is_a_failed_write(rt: HostRuntime) {
     for (script, room, flushes, status) in [
-        ("cut\n", 0, true, 1),
-        ("cut\n", 20, true, 1),
-        ("cut\n", 21, false, 1),
-        ("cut\n", 21, true, 2),
+        ("stop\n", 0, true, 1),
+        ("stop\n", 20, true, 1),
+        ("stop\n", 21, false, 1),
+        ("stop\n", 21, true, 2),
         ("attach 30\n", 0, false, 0),
     ] {
         let mut input = script.as_bytes();

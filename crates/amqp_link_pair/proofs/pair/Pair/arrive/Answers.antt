@@ -72,3 +72,6 @@ returns-clause-done c = subst (λ w. Arrives w c.args.id c.in_ok-tag.tag (c.in_o
 
 pub returns-clause-good : goal.returns-clause-good
 returns-clause-good c = Good-from_world (new c) (kept c)
+
+pub returns-clause-kept : goal.returns-clause-kept
+returns-clause-kept c = kept c

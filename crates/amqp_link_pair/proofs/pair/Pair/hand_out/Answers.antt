@@ -63,3 +63,9 @@ returns-clause-good g c =
     let o = outcome_of c.args.tag.now c.self.inside.deliveries c.self.inside.ends.receiver c.hand_out.new.self c.hand_out.new.receiver g.B.FromBody.decoded c.hand_out.result c.hand_out.ensures.done c.hand_out.ensures.left in
     Good-from_world (with_kept w c.hand_out.new.self c.hand_out.new.receiver)
     (world_after w c.args.tag.now c.self.inside.deliveries c.hand_out.new.self c.hand_out.new.receiver refl c.self.invariant.world on o)
+
+pub returns-clause-kept : goal.returns-clause-kept
+returns-clause-kept g c =
+    let on : is_together (world_of c.self.inside).phase ≡ true = search rules in
+    let o = outcome_of c.args.tag.now c.self.inside.deliveries c.self.inside.ends.receiver c.hand_out.new.self c.hand_out.new.receiver g.B.FromBody.decoded c.hand_out.result c.hand_out.ensures.done c.hand_out.ensures.left in
+    world_after (world_of c.self.inside) c.args.tag.now c.self.inside.deliveries c.hand_out.new.self c.hand_out.new.receiver refl c.self.invariant.world on o

@@ -69,3 +69,6 @@ returns-clause-done c = subst (λ w. PutsBack w c.take_first-tag.result.0 (new c
 
 pub returns-clause-good : goal.returns-clause-good
 returns-clause-good c = Good-from_world (new c) (kept c)
+
+pub returns-clause-kept : goal.returns-clause-kept
+returns-clause-kept c = kept c

@@ -116,3 +116,6 @@ returns-clause-refused c = subst (λ w. refusal (send_tests w c.args.payload.now
 
 pub returns-clause-good : goal.returns-clause-good
 returns-clause-good c = Good-from_world (new c) (kept c)
+
+pub returns-clause-kept : goal.returns-clause-kept
+returns-clause-kept c = kept c

@@ -49,3 +49,6 @@ returns-clause-done c = subst (λ w. Settles w c.args.tag.now (new c)) c.self.vi
 
 pub returns-clause-good : goal.returns-clause-good
 returns-clause-good c = Good-from_world (new c) (kept c)
+
+pub returns-clause-kept : goal.returns-clause-kept
+returns-clause-kept c = kept c
