@@ -3,21 +3,21 @@
 //! `rt try --test --fail-alloc N`.
 use crate::ledgers::{Sent, send, sent_as};
 use amqp_link_core::endpoint::{LinkAttach, LinkDetach, LinkExt};
-use amqp_link_core::resumption::ResumingDelivery;
 use amqp_link_ledger::fate::Fate;
 use amqp_link_ledger::ledger::OutcomeLedger;
-use amqp_link_samples::links::{self, went};
+use amqp_link_samples::links::{self, count_tag, went};
 use amqp_link_samples::table::detach;
 use amqp_link_sender::{SenderAttachExchange, SenderLink};
 use amqp_link_state::state::LinkState;
-use amqp_link_types::delivery::{Outcomes, UnsettledMessage};
-use amqp_link_types::frame::LinkFrame;
+use amqp_link_types::delivery::UnsettledMessage;
 use amqp_link_types::types::{
-    Attach, DeliveryState, DeliveryTag, Detach, DispositionError, LinkFlow, LinkStateError,
-    OutputHandle, Payload, Role, SenderAttachError, SenderSettleMode, Target, Transfer,
-    UnsettledMap,
+    Attach, DeliveryState, DeliveryTag, LinkFlow, LinkStateError, OutputHandle, Payload, Role,
+    SenderSettleMode, Target, Transfer, UnsettledMap,
 };
+use std::alloc::{AllocError, Global};
 use std::process::Abort;
+
+type Ledger = OutcomeLedger<Target>;
 
 // What became of a registration.
 #[derive(Clone, Copy, Debug, PartialEq, Eq)]
@@ -110,25 +110,264 @@ fn standing_of(ledger: &OutcomeLedger<Target>) -> Standing {
     }
 }
 
-fn tag_of(rt: &(impl Abort + AllocGlobal), count: u8) -> DeliveryTag {
-    let alloc = rt.alloc();
-    let tag = links::count_tag(alloc, count).or_else(|_| links::count_tag(alloc, count));
-    tag.expect(rt, "memory")
+// A call, with the counts that make the tags of its deliveries.
+#[derive(Clone, Copy, Debug)]
+enum Call {
+    SendAttach,
+    // The receiver's attach, by which it has accepted the delivery of this tag, if any.
+    TakeAttach(Option<u8>),
+    Grant(u32),
+    Send,
+    SendTransfer(u8),
+    // Sends the rest of a delivery.
+    Resume(u8),
+    PutBack(u8),
+    Withdraw(u8),
+    // The receiver accepts a delivery and settles it.
+    Accept(u8),
+    // The sender says that it knows a delivery as accepted.
+    Dispose(u8),
+    // The sender settles the deliveries 0 and 1.
+    SettleBoth,
+    // A detach to and fro, that does not close.
+    Detach,
+    // The receiver's detach, that closes.
+    Close,
 }
 
-fn payload_of(rt: &(impl Abort + AllocGlobal)) -> Payload {
-    let alloc = rt.alloc();
-    let payload = Payload::copy_from_slice(alloc, &[7]);
-    let payload = payload.or_else(|_| Payload::copy_from_slice(alloc, &[7]));
-    payload.expect(rt, "memory")
+// What a call answers: whether it is done, or how many frames, deliveries or outcomes it makes.
+#[derive(Clone, Copy, Debug, PartialEq, Eq)]
+enum Answer {
+    Done(bool),
+    Frames(usize),
+    Exchanged(usize, usize),
+    Disposed(usize, usize),
+    Outcomes(usize),
+    Refused,
+}
+
+fn payload(alloc: Global) -> Result<Payload, AllocError> {
+    Payload::copy_from_slice(alloc, &[7])
+}
+
+fn new_entry(alloc: Global) -> Result<UnsettledMessage, AllocError> {
+    Ok(UnsettledMessage::new(payload(alloc)?, None, 0))
+}
+
+fn transfer_of(alloc: Global, count: u8) -> Result<Transfer, AllocError> {
+    Ok(Transfer {
+        delivery_tag: Some(count_tag(alloc, count)?),
+        ..Transfer::default()
+    })
+}
+
+// The unsettled map of a receiver that has accepted a delivery, or has none.
+fn map_of(
+    alloc: Global,
+    accepted: Option<u8>,
+) -> Result<UnsettledMap<Option<DeliveryState>>, AllocError> {
+    let mut map = UnsettledMap::new(alloc);
+    let Some(count) = accepted else {
+        return Ok(map);
+    };
+    drop(map.put(count_tag(alloc, count)?, Some(DeliveryState::Accepted))?);
+    Ok(map)
+}
+
+fn attach_of(alloc: Global, accepted: Option<u8>) -> Result<Attach, AllocError> {
+    let map = map_of(alloc, accepted)?;
+    let mut attach = links::attach_of(alloc, Role::Receiver, SenderSettleMode::Unsettled)?;
+    attach.unsettled = Some(map);
+    Ok(attach)
+}
+
+fn send_attach(ledger: &mut Ledger) -> Result<Answer, AllocError> {
+    if went(ledger.send_attach(false)) {
+        Ok(Answer::Done(true))
+    } else {
+        Err(AllocError)
+    }
+}
+
+fn resumed_in(exchange: &SenderAttachExchange) -> usize {
+    match exchange {
+        SenderAttachExchange::Complete => 0,
+        SenderAttachExchange::IncompleteUnsettled(list) | SenderAttachExchange::Resume(list) => {
+            list.len()
+        }
+    }
+}
+
+fn take_attach(
+    ledger: &mut Ledger,
+    alloc: Global,
+    accepted: Option<u8>,
+) -> Result<Answer, AllocError> {
+    let answer = ledger.on_incoming_attach(attach_of(alloc, accepted)?);
+    let counts = match &answer {
+        Ok((exchange, outcomes)) => Ok(Answer::Exchanged(resumed_in(exchange), outcomes.len())),
+        Err(_) => Err(AllocError),
+    };
+    drop(answer);
+    counts
+}
+
+fn grant(ledger: &mut Ledger, credit: u32) -> Answer {
+    let flow = LinkFlow {
+        link_credit: Some(credit),
+        ..LinkFlow::default()
+    };
+    Answer::Done(went(ledger.on_incoming_flow(flow)))
+}
+
+fn sent(sent: Sent) -> Result<Answer, AllocError> {
+    match sent {
+        Sent::OutOfMemory => Err(AllocError),
+        sent => Ok(Answer::Done(sent == Sent::Unsettled)),
+    }
+}
+
+fn send_transfer(ledger: &mut Ledger, alloc: Global, count: u8) -> Result<Answer, AllocError> {
+    let payload = payload(alloc)?;
+    let transfer = transfer_of(alloc, count)?;
+    let answer = ledger.send_payload_with_transfer(0, transfer, &payload);
+    let how = match &answer {
+        Ok((settlement, _)) => sent_as(settlement),
+        Err(LinkStateError::OutOfMemory) => Sent::OutOfMemory,
+        Err(_) => Sent::Other,
+    };
+    drop(answer);
+    sent(how)
+}
+
+fn resume(ledger: &mut Ledger, alloc: Global, count: u8) -> Result<Answer, AllocError> {
+    let rest = payload(alloc)?;
+    let transfer = transfer_of(alloc, count)?;
+    let tag = count_tag(alloc, count)?;
+    let answer = ledger.send_unsettled_transfer(transfer, &rest, tag, new_entry(alloc)?);
+    let frames = match &answer {
+        Ok(frames) => Ok(Answer::Frames(frames.len())),
+        Err(_) => Err(AllocError),
+    };
+    drop(answer);
+    frames
+}
+
+fn put_back(ledger: &mut Ledger, alloc: Global, count: u8) -> Result<Answer, AllocError> {
+    let tag = count_tag(alloc, count)?;
+    if went(ledger.put_back(tag, new_entry(alloc)?)) {
+        Ok(Answer::Done(true))
+    } else {
+        Err(AllocError)
+    }
+}
+
+fn accept(ledger: &mut Ledger, tag: &DeliveryTag) -> Result<Answer, AllocError> {
+    let answer = ledger.on_incoming_disposition(true, Some(DeliveryState::Accepted), tag);
+    let ended = match &answer {
+        Ok((_, ended)) => Ok(Answer::Done(ended.is_some())),
+        Err(_) => Err(AllocError),
+    };
+    drop(answer);
+    ended
+}
+
+fn dispose(ledger: &mut Ledger, tag: &DeliveryTag) -> Result<Answer, AllocError> {
+    let answer = ledger.dispose(6, tag, false, DeliveryState::Accepted, false);
+    let counts = match &answer {
+        Ok((frames, outcomes)) => Ok(Answer::Disposed(frames.len(), outcomes.len())),
+        Err(_) => Err(AllocError),
+    };
+    drop(answer);
+    counts
+}
+
+fn settle_both(ledger: &mut Ledger, alloc: Global) -> Result<Answer, AllocError> {
+    let mut pairs = Vec::with_capacity(alloc, 2)?;
+    pairs.push((7, count_tag(alloc, 1)?))?;
+    pairs.push((6, count_tag(alloc, 0)?))?;
+    let answer = ledger.batch_dispose(&pairs, true, DeliveryState::Released, false);
+    let counts = match &answer {
+        Ok((frames, outcomes)) => Ok(Answer::Disposed(frames.len(), outcomes.len())),
+        Err(_) => Err(AllocError),
+    };
+    drop(answer);
+    counts
+}
+
+fn detach_to_and_fro(ledger: &mut Ledger) -> Answer {
+    let is_sent = went(ledger.send_detach(false, None));
+    let is_answered = went(ledger.on_detach_reply(detach(false)));
+    *ledger.output_handle_mut() = Some(OutputHandle(0));
+    Answer::Done(is_sent && is_answered)
+}
+
+fn close(ledger: &mut Ledger) -> Result<Answer, AllocError> {
+    let closing = detach(true);
+    let answer = ledger.on_incoming_detach(&closing, true);
+    drop(closing);
+    let count = match &answer {
+        Ok((_, outcomes)) => Ok(Answer::Outcomes(outcomes.len())),
+        Err(_) => Err(AllocError),
+    };
+    drop(answer);
+    count
+}
+
+fn make(ledger: &mut Ledger, alloc: Global, call: Call) -> Result<Answer, AllocError> {
+    match call {
+        Call::SendAttach => send_attach(ledger),
+        Call::TakeAttach(accepted) => take_attach(ledger, alloc, accepted),
+        Call::Grant(credit) => Ok(grant(ledger, credit)),
+        Call::Send => sent(send(ledger, &payload(alloc)?)),
+        Call::SendTransfer(count) => send_transfer(ledger, alloc, count),
+        Call::Resume(count) => resume(ledger, alloc, count),
+        Call::PutBack(count) => put_back(ledger, alloc, count),
+        Call::Withdraw(count) => {
+            let entry = ledger.withdraw(&count_tag(alloc, count)?);
+            Ok(Answer::Done(entry.is_some()))
+        }
+        Call::Accept(count) => accept(ledger, &count_tag(alloc, count)?),
+        Call::Dispose(count) => dispose(ledger, &count_tag(alloc, count)?),
+        Call::SettleBoth => settle_both(ledger, alloc),
+        Call::Detach => Ok(detach_to_and_fro(ledger)),
+        Call::Close => close(ledger),
+    }
+}
+
+// Makes a call; one that is out of memory leaves what the ledger shows, and is made again.
+fn again(rt: &(impl Abort + AllocGlobal), ledger: &mut Ledger, call: Call) -> Answer {
+    let before = standing_of(ledger);
+    if let Ok(answer) = make(ledger, rt.alloc(), call) {
+        return answer;
+    }
+    assert_eq!(rt; standing_of(ledger), before, "{call:?}");
+    make(ledger, rt.alloc(), call).unwrap_or(Answer::Refused)
+}
+
+fn expect_answers(rt: &(impl Abort + AllocGlobal), ledger: &mut Ledger, calls: &[(Call, Answer)]) {
+    for (call, wanted) in calls {
+        let answer = again(rt, ledger, *call);
+        assert_eq!(rt; answer, *wanted, "{call:?}");
+    }
 }
 
 // The link "l" with output handle 0, that is not attached.
-fn link_of(rt: &(impl Abort + AllocGlobal)) -> SenderLink<Target> {
-    let alloc = rt.alloc();
-    let mode = SenderSettleMode::Unsettled;
-    let parts = links::parts(alloc, mode, 512).or_else(|_| links::parts(alloc, mode, 512));
-    SenderLink::new(alloc, parts.expect(rt, "memory")).with_output_handle(OutputHandle(0))
+fn new_link(alloc: Global) -> Result<SenderLink<Target>, AllocError> {
+    let parts = links::parts(alloc, SenderSettleMode::Unsettled, 512)?;
+    Ok(SenderLink::new(alloc, parts).with_output_handle(OutputHandle(0)))
+}
+
+// The same with the delivery of tag 5.
+fn link_of_one(alloc: Global) -> Result<SenderLink<Target>, AllocError> {
+    let tag = count_tag(alloc, 5)?;
+    let entry = new_entry(alloc)?;
+    let mut link = new_link(alloc)?;
+    if went(link.put_back(tag, entry)) {
+        Ok(link)
+    } else {
+        Err(AllocError)
+    }
 }
 
 // A ledger round a link. If it is out of memory, it hands the link back with so many deliveries.
@@ -136,7 +375,7 @@ fn ledger_round(
     rt: &(impl Abort + AllocGlobal),
     link: SenderLink<Target>,
     pending: usize,
-) -> OutcomeLedger<Target> {
+) -> Ledger {
     let link = match OutcomeLedger::new(rt.alloc(), link) {
         Ok(ledger) => return ledger,
         Err(link) => link,
@@ -147,185 +386,28 @@ fn ledger_round(
         .expect(rt, "memory")
 }
 
-// The receiver's attach, with an empty map.
-fn attach_of(rt: &(impl Abort + AllocGlobal)) -> Attach {
-    let alloc = rt.alloc();
-    let mode = SenderSettleMode::Unsettled;
-    let attach = links::attach_of(alloc, Role::Receiver, mode);
-    let attach = attach.or_else(|_| links::attach_of(alloc, Role::Receiver, mode));
-    let mut attach = attach.expect(rt, "memory");
-    attach.unsettled = Some(UnsettledMap::new(alloc));
-    attach
-}
-
-// The same of a receiver that has accepted the delivery of tag 5.
-fn accepting(rt: &(impl Abort + AllocGlobal)) -> Attach {
-    let mut map = UnsettledMap::new(rt.alloc());
-    let put = went(map.put(tag_of(rt, 5), Some(DeliveryState::Accepted)));
-    let put = put || went(map.put(tag_of(rt, 5), Some(DeliveryState::Accepted)));
-    assert!(rt; put, "memory");
-    let mut attach = attach_of(rt);
-    attach.unsettled = Some(map);
-    attach
-}
-
-fn send_attach(rt: &impl Abort, ledger: &mut OutcomeLedger<Target>) -> bool {
-    let before = standing_of(ledger);
-    let sent = ledger.send_attach(false);
-    let is_refused = matches!(&sent, Err(SenderAttachError::OutOfMemory));
-    let is_sent = went(sent);
-    if !is_refused {
-        return is_sent;
-    }
-    assert_eq!(rt; standing_of(ledger), before, "an attach that is not sent");
-    went(ledger.send_attach(false))
-}
-
-// What an exchange returns.
-type Exchanged = (SenderAttachExchange, Outcomes);
-
-fn attach_that(rt: &(impl Abort + AllocGlobal), accepts: bool) -> Attach {
-    if accepts {
-        accepting(rt)
-    } else {
-        attach_of(rt)
-    }
-}
-
-// The receiver's attach arrives. It accepts a delivery, or has none.
-fn attach_arrives(
-    rt: &(impl Abort + AllocGlobal),
-    ledger: &mut OutcomeLedger<Target>,
-    accepts: bool,
-) -> Exchanged {
-    let before = standing_of(ledger);
-    let answer = ledger.on_incoming_attach(attach_that(rt, accepts));
-    if !matches!(&answer, Err(SenderAttachError::OutOfMemory)) {
-        return answer.expect(rt, "an attach that is accepted");
-    }
-    drop(answer);
-    assert_eq!(rt; standing_of(ledger), before, "an attach that is not taken");
-    let answer = ledger.on_incoming_attach(attach_that(rt, accepts));
-    answer.expect(rt, "memory")
-}
-
-fn send_again(rt: &impl Abort, ledger: &mut OutcomeLedger<Target>, payload: &Payload) -> Sent {
-    let before = standing_of(ledger);
-    let sent = send(ledger, payload);
-    if sent != Sent::OutOfMemory {
-        return sent;
-    }
-    assert_eq!(rt; standing_of(ledger), before, "a payload that is not sent");
-    send(ledger, payload)
-}
-
-// Whether a settled disposition that accepts the delivery of this tag ends it; nothing if it is refused.
-fn accepted(ledger: &mut OutcomeLedger<Target>, tag: &DeliveryTag) -> Option<bool> {
-    let state = Some(DeliveryState::Accepted);
-    let answer = ledger.on_incoming_disposition(true, state, tag);
-    let is_ended = match &answer {
-        Ok((_, ended)) => Some(ended.is_some()),
-        Err(_) => None,
-    };
-    drop(answer);
-    is_ended
-}
-
-fn accept(rt: &impl Abort, ledger: &mut OutcomeLedger<Target>, tag: &DeliveryTag) -> bool {
-    let before = standing_of(ledger);
-    if let Some(is_ended) = accepted(ledger, tag) {
-        return is_ended;
-    }
-    assert_eq!(rt;
-        standing_of(ledger),
-        before,
-        "a disposition that is not taken"
-    );
-    accepted(ledger, tag) == Some(true)
-}
-
-// Registers an entry.
-fn put_back(
-    rt: &(impl Abort + AllocGlobal),
-    ledger: &mut OutcomeLedger<Target>,
-    count: u8,
-    entry: UnsettledMessage,
-) -> bool {
-    let before = standing_of(ledger);
-    match ledger.put_back(tag_of(rt, count), entry) {
-        Err((LinkStateError::OutOfMemory, entry)) => {
-            assert_eq!(rt;
-                standing_of(ledger),
-                before,
-                "an entry that is not put back"
-            );
-            went(ledger.put_back(tag_of(rt, count), entry))
-        }
-        answer => went(answer),
-    }
-}
-
-// The last delivery of an exchange, if it is to be sent again.
-fn last_resent(exchange: SenderAttachExchange) -> Option<UnsettledMessage> {
-    let SenderAttachExchange::Resume(list) = exchange else {
-        return None;
-    };
-    let mut list = list.into_vec();
-    let (_tag, next) = list.pop()?;
-    match next {
-        ResumingDelivery::Resend(entry) => Some(entry),
-        _ => None,
-    }
-}
-
-fn grant(ledger: &mut OutcomeLedger<Target>, credit: u32) {
-    drop(ledger.on_incoming_flow(LinkFlow {
-        link_credit: Some(credit),
-        ..LinkFlow::default()
-    }));
-}
-
-// An attached ledger with three deliveries that were sent.
-fn three_sent(rt: &(impl Abort + AllocGlobal)) -> OutcomeLedger<Target> {
-    let mut ledger = ledger_round(rt, link_of(rt), 0);
-    assert!(rt; send_attach(rt, &mut ledger));
-    let exchanged = attach_arrives(rt, &mut ledger, false);
-    drop(exchanged);
-    grant(&mut ledger, 3);
-    let payload = payload_of(rt);
-    for _ in 0..3 {
-        assert_eq!(rt; send_again(rt, &mut ledger, &payload), Sent::Unsettled);
-    }
-    drop(payload);
-    ledger
-}
-
-// The link is attached again at a receiver without deliveries: what is to be sent again.
-fn exchange(
-    rt: &(impl Abort + AllocGlobal),
-    ledger: &mut OutcomeLedger<Target>,
-) -> UnsettledMessage {
-    drop(ledger.send_detach(false, None));
-    drop(ledger.on_detach_reply(detach(false)));
-    *ledger.output_handle_mut() = Some(OutputHandle(0));
-    assert!(rt; send_attach(rt, ledger));
-    let (exchange, outcomes) = attach_arrives(rt, ledger, false);
-    assert_eq!(rt; outcomes.len(), 0);
-    drop(outcomes);
-    last_resent(exchange).expect(rt, "a delivery to send again")
-}
+// Three are sent, one of which is withdrawn, one accepted, and one left to an exchange.
+const THREE_SENT: [(Call, Answer); 12] = [
+    (Call::SendAttach, Answer::Done(true)),
+    (Call::TakeAttach(None), Answer::Exchanged(0, 0)),
+    (Call::Grant(3), Answer::Done(true)),
+    (Call::Send, Answer::Done(true)),
+    (Call::Send, Answer::Done(true)),
+    (Call::Send, Answer::Done(true)),
+    (Call::Withdraw(1), Answer::Done(true)),
+    (Call::Accept(0), Answer::Done(true)),
+    (Call::Detach, Answer::Done(true)),
+    (Call::SendAttach, Answer::Done(true)),
+    (Call::TakeAttach(None), Answer::Exchanged(1, 0)),
+    (Call::PutBack(2), Answer::Done(true)),
+];
 
 // With one growth refused, whichever it is, the fates are those of a run where none is.
 #[test]
 fn refused_growth_loses_nothing(rt: HostRuntime) {
-    let mut ledger = three_sent(&rt);
-    let (first, second) = (tag_of(&rt, 0), tag_of(&rt, 1));
-    let is_withdrawn = ledger.withdraw(&second).is_some();
-    assert!(rt; is_withdrawn);
-    assert!(rt; accept(&rt, &mut ledger, &first));
-    drop((first, second));
-    let entry = exchange(&rt, &mut ledger);
-    assert!(rt; put_back(&rt, &mut ledger, 2, entry));
+    let link = new_link(rt.alloc()).or_else(|_| new_link(rt.alloc()));
+    let mut ledger = ledger_round(&rt, link.expect(&rt, "memory"), 0);
+    expect_answers(&rt, &mut ledger, THREE_SENT.as_slice());
     let left = standing_of(&ledger);
     drop(ledger);
     let wanted = Standing {
@@ -344,187 +426,34 @@ fn refused_growth_loses_nothing(rt: HostRuntime) {
     assert_eq!(rt; left, wanted);
 }
 
-fn transfer_of(rt: &(impl Abort + AllocGlobal), count: u8) -> Transfer {
-    Transfer {
-        delivery_tag: Some(tag_of(rt, count)),
-        ..Transfer::default()
-    }
-}
-
-fn sent_with(ledger: &mut OutcomeLedger<Target>, transfer: Transfer, payload: &Payload) -> Sent {
-    let answer = ledger.send_payload_with_transfer(0, transfer, payload);
-    let sent = match &answer {
-        Ok((settlement, _)) => sent_as(settlement),
-        Err(LinkStateError::OutOfMemory) => Sent::OutOfMemory,
-        Err(_) => Sent::Other,
-    };
-    drop(answer);
-    sent
-}
-
-fn send_transfer(
-    rt: &(impl Abort + AllocGlobal),
-    ledger: &mut OutcomeLedger<Target>,
-    payload: &Payload,
-) -> Sent {
-    let before = standing_of(ledger);
-    let sent = sent_with(ledger, transfer_of(rt, 0), payload);
-    if sent != Sent::OutOfMemory {
-        return sent;
-    }
-    assert_eq!(rt; standing_of(ledger), before, "a transfer that is not sent");
-    sent_with(ledger, transfer_of(rt, 0), payload)
-}
-
-// Sends the rest of a delivery under the tag of this count: how many frames it takes, if it is sent.
-fn frames_of_rest(
-    rt: &(impl Abort + AllocGlobal),
-    ledger: &mut OutcomeLedger<Target>,
-    rest: &Payload,
-) -> Option<usize> {
-    let entry = UnsettledMessage::new(payload_of(rt), None, 0);
-    let tag = tag_of(rt, 1);
-    let answer = ledger.send_unsettled_transfer(transfer_of(rt, 1), rest, tag, entry);
-    let count = match &answer {
-        Ok(frames) => Some(frames.len()),
-        Err(_) => None,
-    };
-    drop(answer);
-    count
-}
-
-fn resume(
-    rt: &(impl Abort + AllocGlobal),
-    ledger: &mut OutcomeLedger<Target>,
-    rest: &Payload,
-) -> Option<usize> {
-    let before = standing_of(ledger);
-    let count = frames_of_rest(rt, ledger, rest);
-    if count.is_some() {
-        return count;
-    }
-    assert_eq!(rt; standing_of(ledger), before, "a rest that is not sent");
-    frames_of_rest(rt, ledger, rest)
-}
-
-// How many frames and outcomes a disposition makes.
-type Disposed = Option<(usize, usize)>;
-
-fn counts_of(answer: Result<(Vec<LinkFrame>, Outcomes), DispositionError>) -> Disposed {
-    let counts = match &answer {
-        Ok((frames, outcomes)) => Some((frames.len(), outcomes.len())),
-        Err(_) => None,
-    };
-    drop(answer);
-    counts
-}
-
-// The sender knows the delivery of tag 0 as accepted.
-fn dispose(rt: &(impl Abort + AllocGlobal), ledger: &mut OutcomeLedger<Target>) -> Disposed {
-    let before = standing_of(ledger);
-    let tag = tag_of(rt, 0);
-    let counts = counts_of(ledger.dispose(6, &tag, false, DeliveryState::Accepted, false));
-    if counts.is_some() {
-        drop(tag);
-        return counts;
-    }
-    assert_eq!(rt;
-        standing_of(ledger),
-        before,
-        "a disposition that is not sent"
-    );
-    let counts = counts_of(ledger.dispose(6, &tag, false, DeliveryState::Accepted, false));
-    drop(tag);
-    counts
-}
-
-fn pairs_of(rt: &(impl Abort + AllocGlobal)) -> Vec<(u32, DeliveryTag)> {
-    let alloc = rt.alloc();
-    let pairs = Vec::with_capacity(alloc, 2).or_else(|_| Vec::with_capacity(alloc, 2));
-    let mut pairs = pairs.expect(rt, "memory");
-    pairs.push((7, tag_of(rt, 1))).expect(rt, "memory");
-    pairs.push((6, tag_of(rt, 0))).expect(rt, "memory");
-    pairs
-}
-
-// The sender settles both deliveries.
-fn settle_both(rt: &(impl Abort + AllocGlobal), ledger: &mut OutcomeLedger<Target>) -> Disposed {
-    let before = standing_of(ledger);
-    let pairs = pairs_of(rt);
-    let counts = counts_of(ledger.batch_dispose(&pairs, true, DeliveryState::Released, false));
-    if counts.is_some() {
-        drop(pairs);
-        return counts;
-    }
-    assert_eq!(rt; standing_of(ledger), before, "a batch that is not sent");
-    let counts = counts_of(ledger.batch_dispose(&pairs, true, DeliveryState::Released, false));
-    drop(pairs);
-    counts
-}
-
-// How many outcomes a closing detach of the peer makes, if it is replied to.
-fn closed(ledger: &mut OutcomeLedger<Target>) -> Option<usize> {
-    let closing: Detach = detach(true);
-    let answer = ledger.on_incoming_detach(&closing, true);
-    drop(closing);
-    let count = match &answer {
-        Ok((reply, outcomes)) => reply.is_some().then_some(outcomes.len()),
-        Err(_) => None,
-    };
-    drop(answer);
-    count
-}
-
-fn close(rt: &impl Abort, ledger: &mut OutcomeLedger<Target>) -> Option<usize> {
-    let before = standing_of(ledger);
-    let count = closed(ledger);
-    if count.is_some() {
-        return count;
-    }
-    assert_eq!(rt; standing_of(ledger), before, "a detach that is not taken");
-    closed(ledger)
-}
-
-// Whether an entry is put back under tag 5.
-fn put_five(rt: &(impl Abort + AllocGlobal), link: &mut SenderLink<Target>) -> bool {
-    let entry = UnsettledMessage::new(payload_of(rt), None, 0);
-    went(link.put_back(tag_of(rt, 5), entry))
-}
-
-// A link that has sent no attach, with the delivery of tag 5.
-fn link_of_one(rt: &(impl Abort + AllocGlobal)) -> SenderLink<Target> {
-    let mut link = link_of(rt);
-    let put = put_five(rt, &mut link) || put_five(rt, &mut link);
-    assert!(rt; put, "memory");
-    link
-}
+// The delivery that the link had is accepted by the receiver's attach; of three others two are settled in a batch,
+// and the last ends with the link.
+const RESOLVED: [(Call, Answer); 8] = [
+    (Call::SendAttach, Answer::Done(true)),
+    (Call::TakeAttach(Some(5)), Answer::Exchanged(0, 1)),
+    (Call::SendTransfer(0), Answer::Done(true)),
+    (Call::Resume(1), Answer::Frames(1)),
+    (Call::Dispose(0), Answer::Disposed(1, 0)),
+    (Call::SettleBoth, Answer::Disposed(1, 2)),
+    (Call::PutBack(8), Answer::Done(true)),
+    (Call::Close, Answer::Outcomes(1)),
+];
 
 // The same of the calls that resolve.
 #[test]
 fn refused_growth_resolves_nothing(rt: HostRuntime) {
-    let mut ledger = ledger_round(&rt, link_of_one(&rt), 1);
-    assert!(rt; send_attach(&rt, &mut ledger));
-    let (exchange, outcomes) = attach_arrives(&rt, &mut ledger, true);
-    assert_eq!(rt; outcomes.len(), 1);
-    drop((exchange, outcomes));
-    let payload = payload_of(&rt);
-    assert_eq!(rt; send_transfer(&rt, &mut ledger, &payload), Sent::Unsettled);
-    assert_eq!(rt; resume(&rt, &mut ledger, &payload), Some(1));
-    drop(payload);
-    assert_eq!(rt; dispose(&rt, &mut ledger), Some((1, 0)));
-    assert_eq!(rt; settle_both(&rt, &mut ledger), Some((1, 2)));
-    let entry = UnsettledMessage::new(payload_of(&rt), None, 0);
-    assert!(rt; put_back(&rt, &mut ledger, 8, entry));
-    assert_eq!(rt; close(&rt, &mut ledger), Some(1));
-    let left = fates_of(&ledger);
-    assert_eq!(rt; ledger.unsettled().len(), 0);
+    let link = link_of_one(rt.alloc()).or_else(|_| link_of_one(rt.alloc()));
+    let mut ledger = ledger_round(&rt, link.expect(&rt, "memory"), 1);
+    expect_answers(&rt, &mut ledger, RESOLVED.as_slice());
+    let left = standing_of(&ledger);
     drop(ledger);
-    let wanted = [
+    let fates = [
         Shown::Accepted,
         Shown::Accepted,
         Shown::NoState,
         Shown::Closed,
         Shown::Nothing,
     ];
-    assert_eq!(rt; left, wanted);
+    assert_eq!(rt; left.fates, fates);
+    assert_eq!(rt; left.pending, 0);
 }
