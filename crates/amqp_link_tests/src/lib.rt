@@ -5,6 +5,7 @@
 #[cfg(test)]
 mod interrupted;
 #[cfg(test)]
-mod pair;
+mod lists;
 #[cfg(test)]
-mod runs;
+mod pair;
+pub mod runs;

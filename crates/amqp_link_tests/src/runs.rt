@@ -4,25 +4,33 @@ ghost use Rattle.amqp_link.specs.PairRuns.{IsRunOf, IsStep};
 ghost use Rattle.amqp_link.specs.Worlds.{Good};
 ghost use Rattle.amqp_link_tests.specs.Runs.{call_of};
 
-use amqp_link::{DeliveryTag, FromBody, LinkExt, Pair, PairError, Payload, Whole};
-use std::alloc::{AllocError, Global};
+use amqp_link::{DeliveryTag, FromBody, Pair, Payload};
 
-// A call of a pair.
+/// A call of a pair.
 #[derive(Debug, Drop)]
-enum Event {
+pub enum Event {
+    /// `attach`, at this frame limit in bytes.
     Attach(u32),
+    /// `grant`, of credit for so many deliveries.
     Grant(u32),
+    /// `send`, of this payload.
     Send(Payload),
+    /// `arrive`, with this delivery id.
     Arrive(u32),
+    /// `cut`.
     Cut,
+    /// `resume_next`.
     ResumeNext,
+    /// `put_back_next`.
     PutBackNext,
+    /// `hand_out`, of the delivery of this tag.
     HandOut(DeliveryTag),
+    /// `settle`, of the delivery of this tag.
     Settle(DeliveryTag),
 }
 
-// Makes one call, whether it is refused or not.
-fn step<B: FromBody>(pair: &mut Pair, event: &Event)
+/// Makes one call, whether it is refused or not.
+pub fn step<B: FromBody>(pair: &mut Pair, event: &Event)
     ensures step { IsStep B.decoded pair.old (call_of event.now) pair.new }
     ensures good { Good pair.new }
 {
@@ -39,8 +47,8 @@ fn step<B: FromBody>(pair: &mut Pair, event: &Event)
     }
 }
 
-// Makes the calls in order.
-fn run<B: FromBody>(pair: &mut Pair, events: &[Event])
+/// Makes the calls in order.
+pub fn run<B: FromBody>(pair: &mut Pair, events: &[Event])
     requires { Good pair.old }
     ensures run { IsRunOf B.decoded pair.old (map call_of events.now) pair.new }
     ensures good { Good pair.new }
@@ -48,51 +56,4 @@ fn run<B: FromBody>(pair: &mut Pair, events: &[Event])
     for event in events {
         step::<B>(pair, event);
     }
-}
-
-fn first_tag(alloc: Global) -> Result<DeliveryTag, AllocError> {
-    Ok(DeliveryTag::from([0; 4].to_vec(alloc)?))
-}
-
-// Two deliveries, the first of which is cut off as a part of it has arrived.
-fn cut_off(alloc: Global) -> Result<Vec<Event>, AllocError> {
-    let mut events = Vec::new(alloc);
-    let eight = Payload::copy_from_slice(alloc, &[1, 2, 3, 4, 5, 6, 7, 8])?;
-    let two = Payload::copy_from_slice(alloc, &[9, 10])?;
-    events.push(Event::Attach(32))?;
-    events.push(Event::Grant(2))?;
-    events.push(Event::Send(eight))?;
-    events.push(Event::Arrive(3))?;
-    events.push(Event::Send(two))?;
-    events.push(Event::Cut)?;
-    Ok(events)
-}
-
-// And resumed, put back, handed out and settled.
-fn resumed(alloc: Global) -> Result<Vec<Event>, AllocError> {
-    let mut events = Vec::new(alloc);
-    events.push(Event::Attach(64))?;
-    events.push(Event::ResumeNext)?;
-    events.push(Event::PutBackNext)?;
-    events.push(Event::Arrive(4))?;
-    events.push(Event::HandOut(first_tag(alloc)?))?;
-    events.push(Event::Settle(first_tag(alloc)?))?;
-    Ok(events)
-}
-
-// The count of the second delivery is 1. It is still pending.
-#[test]
-fn two_deliveries_are_cut_off(rt: HostRuntime) {
-    let mut pair = Pair::new(rt.alloc(), 0).expect(&rt, "memory");
-    let events = cut_off(rt.alloc()).expect(&rt, "memory");
-    run::<Whole>(&mut pair, &events);
-    drop(events);
-    let events = resumed(rt.alloc()).expect(&rt, "memory");
-    run::<Whole>(&mut pair, &events);
-    drop(events);
-    let empty = matches!(pair.arrive(0), Err(PairError::WireEmpty));
-    assert!(rt; empty, "all arrived");
-    let pending = pair.ledger().link().unsettled().len();
-    assert_eq!(rt; pending, 1, "the first is settled");
-    drop(pair);
 }
