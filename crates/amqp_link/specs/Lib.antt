@@ -9,6 +9,8 @@ pub use Rattle.amqp_link_core.specs.Merging
 pub use Rattle.amqp_link_core.specs.Resuming
 pub use Rattle.amqp_link_core.specs.Shown
 pub use Rattle.amqp_link_core.specs.Targets
+pub use Rattle.amqp_link_delivery.specs.Copies
+pub use Rattle.amqp_link_delivery.specs.SendResults
 pub use Rattle.amqp_link_dispositions.specs.Ending
 pub use Rattle.amqp_link_dispositions.specs.Groups
 pub use Rattle.amqp_link_dispositions.specs.Keeping
@@ -19,7 +21,6 @@ pub use Rattle.amqp_link_ledger.specs.Exchanging
 pub use Rattle.amqp_link_ledger.specs.Fates
 pub use Rattle.amqp_link_ledger.specs.Ledgers
 pub use Rattle.amqp_link_ledger.specs.Sends
-pub use Rattle.amqp_link_pair.specs.Before
 pub use Rattle.amqp_link_payloads.specs.Bodies
 pub use Rattle.amqp_link_payloads.specs.Header
 pub use Rattle.amqp_link_payloads.specs.Pieces
@@ -51,6 +52,7 @@ pub use Rattle.amqp_link_values.specs.Length
 pub use Rattle.amqp_link_values.specs.Same
 pub use Rattle.amqp_link_values.specs.SameLaws
 pub use Rattle.amqp_link_values.specs.View
+pub use Rattle.amqp_link_worlds.specs.Before
 pub use Rattle.amqp_link_worlds.specs.PairRuns
 pub use Rattle.amqp_link_worlds.specs.Resumptions
 pub use Rattle.amqp_link_worlds.specs.Steps

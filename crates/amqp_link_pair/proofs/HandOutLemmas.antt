@@ -20,7 +20,7 @@ use Rattle.amqp_link_worlds.specs.declared.error.PairError.TheVariants as error
 use Rattle.amqp_link_worlds.specs.declared.progress.Progress.{Progress}
 use Rattle.amqp_link_worlds.proofs.CallLemmas.{can_complete}
 use Rattle.amqp_link_worlds.proofs.WorldLemmas.{IsWorld-hands_out}
-use Rattle.amqp_link_pair.specs.Before.{before_decoding}
+use Rattle.amqp_link_worlds.specs.Before.{before_decoding}
 use Rattle.amqp_link_pair.specs.HandingOut.{IsGivenAt, LeftByDeliveries, credit_tests, delivery_tests, held_in, taken_from}
 use Rattle.amqp_link_pair.specs.Keeping.{progress_of}
 use Rattle.amqp_link_pair.specs.PairViews.{AreMarked}

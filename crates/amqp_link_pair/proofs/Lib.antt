@@ -11,3 +11,4 @@ pub mod AttachedLemmas
 pub mod AttachLemmas
 pub mod EndsLemmas
 pub mod HandOutLemmas
+pub mod RunLemmas

@@ -26,7 +26,7 @@ use Rattle.amqp_link_worlds.specs.declared.error.PairError.TheVariants as error
 use Rattle.amqp_link_worlds.specs.declared.progress.Progress.{Progress}
 use Rattle.amqp_link_worlds.proofs.CallLemmas.{can_resume}
 use Rattle.amqp_link_worlds.proofs.WorldLemmas.{none_hold, nothing_in, nothing_listed}
-use Rattle.amqp_link_pair.specs.Before.{before_tag}
+use Rattle.amqp_link_worlds.specs.Before.{before_tag}
 use Rattle.amqp_link_pair.specs.Keeping.{just_sent, marked, progress_of}
 use Rattle.amqp_link_pair.specs.Queues.{IsMadeOf}
 use Rattle.amqp_link_pair.specs.declared.deliveries.Kept.{Kept}

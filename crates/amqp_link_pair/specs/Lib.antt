@@ -4,4 +4,3 @@ pub mod Keeping
 pub mod HandingOut
 pub mod Endpoints
 pub mod PairViews
-pub mod Before

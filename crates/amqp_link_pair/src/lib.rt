@@ -13,5 +13,6 @@ mod sending;
 mod wire;
 
 pub use amqp_link_worlds::error::PairError;
+pub use amqp_link_worlds::event::{Answer, AnswerOf, Event};
 pub use amqp_link_worlds::progress::Progress;
 pub use pair::{Arrived, Pair, Resumed, Sent};

@@ -12,7 +12,9 @@ ghost use Rattle.amqp_link_worlds.specs.Invariants.{IsWorld};
 ghost use Rattle.amqp_link_worlds.specs.Worlds.{Good, held_at, is_together};
 ghost use Rattle.amqp_link_worlds.specs.Steps.{Attaches, LeftByAttach, Grants, Sends, Arrives, Cuts, Resumes, PutsBack, HandsOutDelivery, LeftByHandOut, Settles};
 ghost use Rattle.amqp_link_worlds.specs.Steps.{new_world, is_halfway_at_other, attach_tests, grant_tests, send_tests, arrive_tests, cut_tests, next_tests, hand_out_tests, settle_tests};
-ghost use Rattle.amqp_link_pair.specs.Before.{before_decoding, before_tag};
+ghost use Rattle.amqp_link_worlds.specs.Before.{before_decoding, before_tag};
+
+mod runs;
 
 use crate::deliveries::Deliveries;
 use crate::ends::{Ends, Stage};

@@ -1,93 +1,39 @@
-//! A delivery of twelve bytes that is cut off, answer by answer, also if a growth is refused, whichever it is: before
-//! it arrives, to be put back, sent again, handed out and settled; and after ten bytes, to be resumed and handed out.
-//! Run by hand with `rt try --test --fail-alloc N`.
+//! The calls of a script one by one, also if a growth is refused, whichever it is. Run by hand with
+//! `rt try --test --fail-alloc N`.
+use crate::script::{CUT_OFF, Call, RESUMED, SENT_AGAIN, Sample, Seen, TWELVE, new_sample};
 use amqp_link::{
-    DeliveryState, DeliveryTag, Fate, LinkExt, LinkStateError, Pair, PairError, Payload, Whole,
+    DeliveryState, DeliveryTag, Fate, LinkExt, LinkStateError, Pair, PairError, Whole,
 };
-use std::alloc::{AllocError, Global};
 use std::process::Abort;
 
-const TWELVE: [u8; 12] = [1, 2, 3, 4, 5, 6, 7, 8, 9, 10, 11, 12];
-
-#[derive(Clone, Copy, Debug)]
-enum Call {
-    Attach(u32),
-    Grant(u32),
-    Send,
-    Arrive(u32),
-    Cut,
-    ResumeNext,
-    PutBackNext,
-    HandOut,
-    Settle,
-}
-
-#[derive(Clone, Copy, Debug, PartialEq, Eq)]
-enum Answer {
-    /// How many deliveries are to be resumed, or how many transfers go out.
-    Count(usize),
-    Credit(u32),
-    /// Where what is held ends, and whether the delivery is whole.
-    Place(u32, u64, bool),
-    /// How many transfers go out, and whether the delivery is resumed.
-    Resumed(usize, bool),
-    /// Whether the bytes that are handed out are those that were sent.
-    HandedOut(bool),
-    /// Whether it is the delivery.
-    Back(bool),
-    Done,
-}
-
-// The delivery, and what is sent.
-#[derive(Drop)]
-struct Sample {
-    tag: DeliveryTag,
-    payload: Payload,
-}
-
-fn tag(alloc: Global) -> Result<DeliveryTag, AllocError> {
-    Ok(DeliveryTag::from([0; 4].to_vec(alloc)?))
-}
-
-fn new_sample(rt: &(impl Abort + AllocGlobal)) -> Sample {
-    let alloc = rt.alloc();
-    let tag = tag(alloc).or_else(|_| tag(alloc));
-    let payload = Payload::copy_from_slice(alloc, &TWELVE);
-    let payload = payload.or_else(|_| Payload::copy_from_slice(alloc, &TWELVE));
-    Sample {
-        tag: tag.expect(rt, "memory"),
-        payload: payload.expect(rt, "memory"),
-    }
-}
-
-fn arrive(pair: &mut Pair, id: u32) -> Result<Answer, PairError> {
+fn arrive(pair: &mut Pair, id: u32) -> Result<Seen, PairError> {
     let came = pair.arrive(id)?;
-    Ok(Answer::Place(came.section_number, came.section_offset, came.whole))
+    Ok(Seen::Place(came.section_number, came.section_offset, came.whole))
 }
 
-fn resume_next(pair: &mut Pair) -> Result<Answer, PairError> {
+fn resume_next(pair: &mut Pair) -> Result<Seen, PairError> {
     let resumed = pair.resume_next()?;
-    Ok(Answer::Resumed(resumed.frames, resumed.resume))
+    Ok(Seen::Resumed(resumed.frames, resumed.resume))
 }
 
-fn hand_out(pair: &mut Pair, tag: &DeliveryTag) -> Result<Answer, PairError> {
+fn hand_out(pair: &mut Pair, tag: &DeliveryTag) -> Result<Seen, PairError> {
     let delivery = pair.hand_out::<Whole>(tag)?;
     let is_all = delivery.body().0.as_slice() == TWELVE.as_slice();
     drop(delivery);
-    Ok(Answer::HandedOut(is_all))
+    Ok(Seen::HandedOut(is_all))
 }
 
-fn make(pair: &mut Pair, call: Call, sample: &Sample) -> Result<Answer, PairError> {
+fn make(pair: &mut Pair, call: Call, sample: &Sample) -> Result<Seen, PairError> {
     match call {
-        Call::Attach(limit) => Ok(Answer::Count(pair.attach(limit)?)),
-        Call::Grant(credit) => Ok(Answer::Credit(pair.grant(credit)?)),
-        Call::Send => Ok(Answer::Count(pair.send(&sample.payload)?.frames)),
+        Call::Attach(limit) => Ok(Seen::Count(pair.attach(limit)?)),
+        Call::Grant(credit) => Ok(Seen::Credit(pair.grant(credit)?)),
+        Call::Send => Ok(Seen::Count(pair.send(&sample.payload)?.frames)),
         Call::Arrive(id) => arrive(pair, id),
-        Call::Cut => pair.cut().map(|()| Answer::Done),
+        Call::Cut => pair.cut().map(|()| Seen::Done),
         Call::ResumeNext => resume_next(pair),
-        Call::PutBackNext => Ok(Answer::Back(pair.put_back_next()? == sample.tag)),
+        Call::PutBackNext => Ok(Seen::Back(pair.put_back_next()? == sample.tag)),
         Call::HandOut => hand_out(pair, &sample.tag),
-        Call::Settle => pair.settle(&sample.tag).map(|()| Answer::Done),
+        Call::Settle => pair.settle(&sample.tag).map(|()| Seen::Done),
     }
 }
 
@@ -159,12 +105,7 @@ fn standing_of(pair: &Pair, tag: &DeliveryTag) -> Standing {
 }
 
 // Makes a call; one that is out of memory leaves what the pair shows, and is made again.
-fn again(
-    rt: &impl Abort,
-    pair: &mut Pair,
-    call: Call,
-    sample: &Sample,
-) -> Result<Answer, PairError> {
+fn again(rt: &impl Abort, pair: &mut Pair, call: Call, sample: &Sample) -> Result<Seen, PairError> {
     let before = standing_of(pair, &sample.tag);
     let answer = make(pair, call, sample);
     if answer != Err(PairError::OutOfMemory) {
@@ -174,34 +115,11 @@ fn again(
     make(pair, call, sample)
 }
 
-// An attach of 38 bytes names a pending delivery, one of 37 does not.
-const CUT_OFF: [(Call, Result<Answer, PairError>); 11] = [
-    (Call::Attach(30), Ok(Answer::Count(0))),
-    (Call::Grant(1), Ok(Answer::Credit(1))),
-    (Call::Send, Ok(Answer::Count(3))),
-    (Call::Cut, Ok(Answer::Done)),
-    (Call::Attach(37), Err(PairError::LimitTooSmall)),
-    (Call::Attach(38), Ok(Answer::Count(1))),
-    (Call::Cut, Err(PairError::StillHandedOut)),
-    (Call::Send, Err(PairError::ResumeFirst)),
-    (Call::PutBackNext, Ok(Answer::Back(true))),
-    (Call::Cut, Ok(Answer::Done)),
-    (Call::Attach(38), Ok(Answer::Count(1))),
-];
-
-const SENT_AGAIN: [(Call, Result<Answer, PairError>); 5] = [
-    (Call::ResumeNext, Ok(Answer::Resumed(1, false))),
-    (Call::Arrive(9), Ok(Answer::Place(0, 12, true))),
-    (Call::HandOut, Ok(Answer::HandedOut(true))),
-    (Call::HandOut, Err(PairError::AlreadyHandedOut)),
-    (Call::Settle, Ok(Answer::Done)),
-];
-
-fn expect_answers(
+fn expect_seen(
     rt: &impl Abort,
     pair: &mut Pair,
     sample: &Sample,
-    calls: &[(Call, Result<Answer, PairError>)],
+    calls: &[(Call, Result<Seen, PairError>)],
 ) {
     for (call, wanted) in calls {
         let answer = again(rt, pair, *call, sample);
@@ -215,8 +133,8 @@ fn refused_growth_interrupts_nothing(rt: HostRuntime) {
     let sample = new_sample(&rt);
     let pair = Pair::new(rt.alloc(), 0).or_else(|_| Pair::new(rt.alloc(), 0));
     let mut pair = pair.expect(&rt, "memory");
-    expect_answers(&rt, &mut pair, &sample, CUT_OFF.as_slice());
-    expect_answers(&rt, &mut pair, &sample, SENT_AGAIN.as_slice());
+    expect_seen(&rt, &mut pair, &sample, CUT_OFF.as_slice());
+    expect_seen(&rt, &mut pair, &sample, SENT_AGAIN.as_slice());
     let left = standing_of(&pair, &sample.tag);
     drop(pair);
     drop(sample);
@@ -236,28 +154,12 @@ fn refused_growth_interrupts_nothing(rt: HostRuntime) {
     assert_eq!(rt; left, wanted);
 }
 
-// A delivery of which ten bytes have arrived is cut off: the rest alone is sent.
-const RESUMED: [(Call, Result<Answer, PairError>); 12] = [
-    (Call::Attach(30), Ok(Answer::Count(0))),
-    (Call::Grant(1), Ok(Answer::Credit(1))),
-    (Call::Send, Ok(Answer::Count(3))),
-    (Call::Arrive(7), Ok(Answer::Place(0, 5, false))),
-    (Call::Arrive(0), Ok(Answer::Place(0, 10, false))),
-    (Call::HandOut, Err(PairError::NotWhole)),
-    (Call::Cut, Ok(Answer::Done)),
-    (Call::Attach(64), Ok(Answer::Count(1))),
-    (Call::ResumeNext, Ok(Answer::Resumed(1, true))),
-    (Call::Settle, Err(PairError::NotWhole)),
-    (Call::Arrive(8), Ok(Answer::Place(0, 12, true))),
-    (Call::HandOut, Ok(Answer::HandedOut(true))),
-];
-
 #[test]
 fn refused_growth_resumes_all_the_same(rt: HostRuntime) {
     let sample = new_sample(&rt);
     let pair = Pair::new(rt.alloc(), 0).or_else(|_| Pair::new(rt.alloc(), 0));
     let mut pair = pair.expect(&rt, "memory");
-    expect_answers(&rt, &mut pair, &sample, RESUMED.as_slice());
+    expect_seen(&rt, &mut pair, &sample, RESUMED.as_slice());
     let left = standing_of(&pair, &sample.tag);
     drop(pair);
     drop(sample);

@@ -1,11 +1,14 @@
-//! Tests of a pair, by what it makes public: worked values, refused growths, and any list of calls by the
-//! contracts of the calls alone.
+//! Tests by what `amqp_link` makes public: of a pair worked values, refused growths and lists of calls, and what is
+//! sent and made of a delivery that ended.
 #![tactic(auto)]
 
 #[cfg(test)]
+mod deliveries;
+#[cfg(test)]
 mod interrupted;
 #[cfg(test)]
-mod lists;
-#[cfg(test)]
 mod pair;
-pub mod runs;
+#[cfg(test)]
+mod runs;
+#[cfg(test)]
+mod script;

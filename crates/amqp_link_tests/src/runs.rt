@@ -1,59 +1,163 @@
-//! Calls in any order, by the contracts of the calls alone: any list of them is a run.
-ghost use Rattle.std.specs.Prelude.{map};
-ghost use Rattle.amqp_link.specs.PairRuns.{IsRunOf, IsStep};
-ghost use Rattle.amqp_link.specs.Worlds.{Good};
-ghost use Rattle.amqp_link_tests.specs.Runs.{call_of};
+//! Lists of calls that a pair runs by itself.
+use crate::script::{CUT_OFF, Call, RESUMED, SENT_AGAIN, Sample, Seen, TWELVE, new_sample};
+use amqp_link::{Answer, DeliveryTag, Event, Fate, Pair, PairError, Payload};
+use std::alloc::{AllocError, Global};
+use std::process::Abort;
 
-use amqp_link::{DeliveryTag, FromBody, Pair, Payload};
-
-/// A call of a pair.
-#[derive(Debug, Drop)]
-pub enum Event {
-    /// `attach`, at this frame limit in bytes.
-    Attach(u32),
-    /// `grant`, of credit for so many deliveries.
-    Grant(u32),
-    /// `send`, of this payload.
-    Send(Payload),
-    /// `arrive`, with this delivery id.
-    Arrive(u32),
-    /// `cut`.
-    Cut,
-    /// `resume_next`.
-    ResumeNext,
-    /// `put_back_next`.
-    PutBackNext,
-    /// `hand_out`, of the delivery of this tag.
-    HandOut(DeliveryTag),
-    /// `settle`, of the delivery of this tag.
-    Settle(DeliveryTag),
+fn event(call: Call, sample: &Sample) -> Result<Event, AllocError> {
+    Ok(match call {
+        Call::Attach(limit) => Event::Attach(limit),
+        Call::Grant(credit) => Event::Grant(credit),
+        Call::Send => Event::Send(sample.payload.clone()?),
+        Call::Arrive(id) => Event::Arrive(id),
+        Call::Cut => Event::Cut,
+        Call::ResumeNext => Event::ResumeNext,
+        Call::PutBackNext => Event::PutBackNext,
+        Call::HandOut => Event::HandOut(sample.tag.clone()?),
+        Call::Settle => Event::Settle(sample.tag.clone()?),
+    })
 }
 
-/// Makes one call, whether it is refused or not.
-pub fn step<B: FromBody>(pair: &mut Pair, event: &Event)
-    ensures step { IsStep B.decoded pair.old (call_of event.now) pair.new }
-    ensures good { Good pair.new }
-{
-    match event {
-        Event::Attach(limit) => drop(pair.attach(*limit)),
-        Event::Grant(credit) => drop(pair.grant(*credit)),
-        Event::Send(payload) => drop(pair.send(payload)),
-        Event::Arrive(id) => drop(pair.arrive(*id)),
-        Event::Cut => drop(pair.cut()),
-        Event::ResumeNext => drop(pair.resume_next()),
-        Event::PutBackNext => drop(pair.put_back_next()),
-        Event::HandOut(tag) => drop(pair.hand_out::<B>(tag)),
-        Event::Settle(tag) => drop(pair.settle(tag)),
+fn events(
+    alloc: Global,
+    calls: &[(Call, Result<Seen, PairError>)],
+    sample: &Sample,
+) -> Result<Vec<Event>, AllocError> {
+    let mut events = Vec::new(alloc);
+    for (call, _) in calls {
+        events.push(event(*call, sample)?)?;
+    }
+    Ok(events)
+}
+
+fn seen(answer: &Answer, sample: &Sample) -> Seen {
+    match answer {
+        Answer::Attached(count) => Seen::Count(*count),
+        Answer::Granted(credit) => Seen::Credit(*credit),
+        Answer::Sent { frames, .. } => Seen::Count(*frames),
+        Answer::Arrived {
+            section_number,
+            section_offset,
+            whole,
+            ..
+        } => Seen::Place(*section_number, *section_offset, *whole),
+        Answer::Cut | Answer::Settled => Seen::Done,
+        Answer::Resumed { frames, resume, .. } => Seen::Resumed(*frames, *resume),
+        Answer::PutBack(tag) => Seen::Back(*tag == sample.tag),
+        Answer::HandedOut(delivery) => {
+            Seen::HandedOut(delivery.body().0.as_slice() == TWELVE.as_slice())
+        }
     }
 }
 
-/// Makes the calls in order.
-pub fn run<B: FromBody>(pair: &mut Pair, events: &[Event])
-    requires { Good pair.old }
-    ensures run { IsRunOf B.decoded pair.old (map call_of events.now) pair.new }
-    ensures good { Good pair.new }
-{
-    for event in events {
-        step::<B>(pair, event);
+fn seen_of(answer: &Result<Answer, PairError>, sample: &Sample) -> Result<Seen, PairError> {
+    match answer {
+        Ok(answer) => Ok(seen(answer, sample)),
+        Err(error) => Err(*error),
     }
+}
+
+// Runs the events from this one on: how many were done, up to one that is out of memory.
+fn run_from(
+    rt: &impl Abort,
+    pair: &mut Pair,
+    events: &[Event],
+    sample: &Sample,
+    calls: &[(Call, Result<Seen, PairError>)],
+) -> usize {
+    let (answers, finished) = pair.run(events);
+    let mut done = 0;
+    for (answer, (call, wanted)) in answers.iter().zip(calls) {
+        if *answer == Err(PairError::OutOfMemory) {
+            break;
+        }
+        assert_eq!(rt; seen_of(answer, sample), *wanted, "{call:?}");
+        done += 1;
+    }
+    assert_eq!(rt; finished, done == events.len(), "all is done");
+    assert!(rt; answers.len() - done <= 1, "it stops");
+    drop(answers);
+    done
+}
+
+// Runs a script; if it stops, it is run on from where it did.
+fn expect_run(
+    rt: &(impl Abort + AllocGlobal),
+    pair: &mut Pair,
+    sample: &Sample,
+    calls: &[(Call, Result<Seen, PairError>)],
+) {
+    let all = events(rt.alloc(), calls, sample);
+    let all = all.or_else(|_| events(rt.alloc(), calls, sample));
+    let all = all.expect(rt, "memory");
+    let done = run_from(rt, pair, &all, sample, calls);
+    if done < all.len() {
+        let more = run_from(rt, pair, &all[done..], sample, &calls[done..]);
+        assert_eq!(rt; done + more, all.len(), "one growth was refused");
+    }
+    drop(all);
+}
+
+// With one growth refused, whichever it is, the answers are those of a run where none is.
+#[test]
+fn scripts_run_to_their_end(rt: HostRuntime) {
+    let sample = new_sample(&rt);
+    let pair = Pair::new(rt.alloc(), 0).or_else(|_| Pair::new(rt.alloc(), 0));
+    let mut pair = pair.expect(&rt, "memory");
+    expect_run(&rt, &mut pair, &sample, CUT_OFF.as_slice());
+    expect_run(&rt, &mut pair, &sample, SENT_AGAIN.as_slice());
+    drop(pair);
+    let pair = Pair::new(rt.alloc(), 0).or_else(|_| Pair::new(rt.alloc(), 0));
+    let mut pair = pair.expect(&rt, "memory");
+    expect_run(&rt, &mut pair, &sample, RESUMED.as_slice());
+    drop(pair);
+    drop(sample);
+}
+
+// Without events nothing is done.
+#[test]
+fn no_events_are_all_done(rt: HostRuntime) {
+    let mut pair = Pair::new(rt.alloc(), 0).expect(&rt, "memory");
+    let (answers, finished) = pair.run(&[]);
+    assert!(rt; answers.is_empty(), "no answer");
+    assert!(rt; finished, "all is done");
+    drop(answers);
+    drop(pair);
+}
+
+// A delivery of three bytes from its grant to its settlement.
+fn add_delivery(alloc: Global, events: &mut Vec<Event>, number: u32) -> Result<(), AllocError> {
+    let tag = DeliveryTag::from(number.to_be_bytes().to_vec(alloc)?);
+    events.push(Event::Grant(1))?;
+    events.push(Event::Send(Payload::copy_from_slice(alloc, &[1, 2, 3])?))?;
+    events.push(Event::Arrive(number))?;
+    events.push(Event::HandOut(tag.clone()?))?;
+    events.push(Event::Settle(tag))?;
+    Ok(())
+}
+
+fn many_deliveries(alloc: Global, count: u32) -> Result<Vec<Event>, AllocError> {
+    let mut events = Vec::new(alloc);
+    events.push(Event::Attach(64))?;
+    for number in 0..count {
+        add_delivery(alloc, &mut events, number)?;
+    }
+    Ok(events)
+}
+
+#[test]
+fn ten_thousand_events(rt: HostRuntime) {
+    let mut pair = Pair::new(rt.alloc(), 0).expect(&rt, "memory");
+    let events = many_deliveries(rt.alloc(), 2000).expect(&rt, "memory");
+    let (answers, finished) = pair.run(&events);
+    assert!(rt; finished, "all is done");
+    assert_eq!(rt; answers.len(), 10_001);
+    let done = answers.iter().filter(|answer| answer.is_ok()).count();
+    assert_eq!(rt; done, 10_001, "none is refused");
+    let last = matches!(pair.ledger().fate(1999), Some(Fate::Resolved(_)));
+    assert!(rt; last, "the last delivery is settled");
+    let none = pair.ledger().fate(2000).is_none();
+    assert!(rt; none, "there are no more registrations");
+    drop((answers, events));
+    drop(pair);
 }

@@ -1,13 +1,21 @@
 -- What a call of a pair answers and leaves is a step, and steps follow one another.
-use Rattle.std.proofs.Common.{◌≡◌, ◌≢◌, sym, ℕ, Bool, true, false, List, [], ◌∷◌, ◌++◌, refl, ap, ◌∙◌, map, inl, inr, Ok, Err, Result, not}
-use Rattle.std.specs.Prelude.{Some, None, IfOk, OnErr}
+use Rattle.std.proofs.Common.{◌≡◌, ◌≢◌, sym, ℕ, ◌≤◌, Bool, true, false, List, [], ◌∷◌, refl, ap, subst, ◌∙◌, inl, inr, Ok, Err, Result, arith, nat_lt}
+use Rattle.std.specs.Result.{result_map_both}
+use Rattle.std.specs.Prelude.{Some, None, IfOk, OnErr, IsErrOf}
+use Rattle.std.proofs.lemmas.Bool.{le-ltb}
 use Rattle.amqp_link_types.specs.Entries.{Tag}
 use Rattle.amqp_link_types.specs.Refusals.{refusal, AnswersExactly, AnswersOrOutOfMemory, AnswersThenOutOfMemory}
-use Rattle.amqp_link_worlds.specs.PairRuns.{Event, Attach, Grant, HandOut, Cut, Answer, Decoder, tests_of, Does, IsLeft, IsRefused, Step, Moment, IsRun, IsStep, IsRunOf}
-use Rattle.amqp_link_worlds.specs.Steps.{Tests, LeftByAttach, LeftByHandOut, grant_tests, cut_tests, is_empty}
+use Rattle.amqp_link_types.proofs.MapLemmas.{false_is_not_true}
+use Rattle.amqp_link_ledger.proofs.ListSteps.{some_is}
+use Rattle.amqp_link_worlds.specs.Before.{before_measuring}
+use Rattle.amqp_link_worlds.specs.PairRuns.{Decoder, tests_of, tests_before_memory, Does, IsLeft, IsRefused, Step, RunsEvents, StopsInTime, is_out_of_memory, ends_out_of_memory}
+use Rattle.amqp_link_worlds.specs.declared.event.AnswerOf.{AnswerOf}
+use Rattle.amqp_link_worlds.specs.declared.event.Event.{Event}
+use Rattle.amqp_link_worlds.specs.declared.event.Event.TheVariants.{Attach, Grant, HandOut, Cut}
+use Rattle.amqp_link_worlds.specs.Steps.{Tests, LeftByAttach, LeftByHandOut, grant_tests, arrive_tests, cut_tests, next_tests, settle_tests, is_halfway_at_other}
 use Rattle.amqp_link_worlds.specs.Worlds.{World, is_together}
 use Rattle.amqp_link_worlds.specs.declared.error.PairError.{PairError}
-use Rattle.amqp_link_worlds.specs.declared.error.PairError.TheVariants.{OutOfMemory, NotAttached, StillHandedOut, Decode}
+use Rattle.amqp_link_worlds.specs.declared.error.PairError.TheVariants.{AlreadyAttached, LimitChanged, LimitTooSmall, OutOfMemory, NotAttached, StillHandedOut, NothingToResume, UnknownTag, NotWhole, ResumeFirst, OnWire, WireEmpty, Decode}
 
 -- ---- answers
 
@@ -19,15 +27,76 @@ pub exactly_or : {A : Type 0} (r : Result A PairError) (tests : Tests) → Answe
 exactly_or (Ok a) tests h = h
 exactly_or (Err e) tests h = inr h
 
--- no test of a grant or of a cut is for memory
-grant_needs_none : (together : Bool) → refusal ((not together, NotAttached) ∷ []) ≢ Some OutOfMemory
-grant_needs_none true h = cc
-grant_needs_none false h = cc
+-- none of these tests names that a call is out of memory
+abbrev NamesNone : Tests → Type 0
+NamesNone [] = Unit {0}
+NamesNone (test ∷ tests) = (test.1 ≢ OutOfMemory) × NamesNone tests
 
-cut_needs_none : (together empty : Bool) → refusal ((not together, NotAttached) ∷ (not empty, StillHandedOut) ∷ []) ≢ Some OutOfMemory
-cut_needs_none false empty h = cc
-cut_needs_none true false h = cc
-cut_needs_none true true h = cc
+needs_none : (tests : Tests) → NamesNone tests → refusal tests ≢ Some OutOfMemory
+needs_none [] names h = cc
+needs_none (test ∷ tests) names h = by test.0 (needs_none tests names.1) h
+  where
+    by : (holds : Bool) → (refusal tests ≡ Some OutOfMemory → ⊥) → refusal ((holds, test.1) ∷ tests) ≡ Some OutOfMemory → ⊥
+    by true rest h = names.0 (some_is h)
+    by false rest h = rest h
+
+not_attached : NotAttached ≢ OutOfMemory
+not_attached h = cc
+
+wire_empty : WireEmpty ≢ OutOfMemory
+wire_empty h = cc
+
+still_handed_out : StillHandedOut ≢ OutOfMemory
+still_handed_out h = cc
+
+nothing_to_resume : NothingToResume ≢ OutOfMemory
+nothing_to_resume h = cc
+
+unknown_tag : UnknownTag ≢ OutOfMemory
+unknown_tag h = cc
+
+not_whole : NotWhole ≢ OutOfMemory
+not_whole h = cc
+
+resume_first : ResumeFirst ≢ OutOfMemory
+resume_first h = cc
+
+on_wire : OnWire ≢ OutOfMemory
+on_wire h = cc
+
+pub grant_needs_none : (w : World) → refusal (grant_tests w) ≢ Some OutOfMemory
+grant_needs_none w = needs_none (grant_tests w) (not_attached, tt)
+
+pub arrive_needs_none : (w : World) → refusal (arrive_tests w) ≢ Some OutOfMemory
+arrive_needs_none w = needs_none (arrive_tests w) (not_attached, (wire_empty, tt))
+
+pub cut_needs_none : (w : World) → refusal (cut_tests w) ≢ Some OutOfMemory
+cut_needs_none w = needs_none (cut_tests w) (not_attached, (still_handed_out, tt))
+
+pub next_needs_none : (w : World) → refusal (next_tests w) ≢ Some OutOfMemory
+next_needs_none w = needs_none (next_tests w) (not_attached, (nothing_to_resume, tt))
+
+pub settle_needs_none : (w : World) (tag : Tag) → refusal (settle_tests w tag) ≢ Some OutOfMemory
+settle_needs_none w tag = needs_none (settle_tests w tag) (not_attached, (unknown_tag, (not_whole, (resume_first, (on_wire, tt)))))
+
+-- what a call returns that is out of memory only if no test holds
+pub memory_last : {A : Type 0} (r : Result A PairError) (tests : Tests) → refusal tests ≢ Some OutOfMemory → AnswersThenOutOfMemory OutOfMemory r tests → IsErrOf r OutOfMemory
+    → refusal tests ≡ None
+memory_last r tests other answers is = elim (subst (λ r. AnswersThenOutOfMemory OutOfMemory r tests) is answers) [ inl memory ↦ memory.1 | inr test ↦ absurd (other test) ]
+
+-- what a call returns that does not allocate
+pub memory_exactly : {A : Type 0} (r : Result A PairError) (tests : Tests) → refusal tests ≢ Some OutOfMemory → AnswersExactly r tests → IsErrOf r OutOfMemory → refusal tests ≡ None
+memory_exactly r tests other answers is = absurd (other (subst (λ r. AnswersExactly r tests) is answers))
+
+-- an attach is out of memory only past these tests
+pub attach_measures : (w : World) (limit : ℕ) → (is_together w.phase ≡ false) × (is_halfway_at_other limit w.phase ≡ false) × (29 ≤ limit) → refusal (before_measuring w limit) ≡ None
+attach_measures w limit h = none (is_together w.phase) (is_halfway_at_other limit w.phase) (nat_lt limit 29) h.0 h.1 (le-ltb limit 29 h.2)
+  where
+    none : (a b c : Bool) → a ≡ false → b ≡ false → c ≡ false → refusal ((a, AlreadyAttached) ∷ (b, LimitChanged) ∷ (c, LimitTooSmall) ∷ []) ≡ None
+    none true b c h k l = absurd (false_is_not_true (sym h))
+    none false true c h k l = absurd (false_is_not_true (sym k))
+    none false false true h k l = absurd (false_is_not_true (sym l))
+    none false false false h k l = refl
 
 module _ {B : Type 0} (decoded : Decoder B) (old new : World) where
   -- what a call leaves, as a step has it
@@ -62,16 +131,17 @@ module _ {B : Type 0} (decoded : Decoder B) (old new : World) where
   left_exactly e (Err error) needs_none refused answers l = refused error l
 
   pub left_by_grant : {A : Type 0} (r : Result A PairError) (n : ℕ) → AnswersExactly r (grant_tests old) → OnErr r (new ≡ old) → LeftBy (Grant n) r
-  left_by_grant r n = left_exactly (Grant n) r (grant_needs_none (is_together old.phase)) (λ _ same. same)
+  left_by_grant r n = left_exactly (Grant n) r (grant_needs_none old) (λ _ same. same)
 
   pub left_by_cut : {A : Type 0} (r : Result A PairError) → AnswersExactly r (cut_tests old) → OnErr r (new ≡ old) → LeftBy Cut r
-  left_by_cut r = left_exactly Cut r (cut_needs_none (is_together old.phase) (is_empty old.resuming)) (λ _ same. same)
+  left_by_cut r = left_exactly Cut r (cut_needs_none old) (λ _ same. same)
 
-  pub called : {A : Type 0} (e : Event) (r : Result A PairError) (to : A → Answer B) → IfOk r (λ a. Does decoded old e (to a) new) → AnswersOrOutOfMemory OutOfMemory r (tests_of decoded old e)
-      → LeftBy e r → IsStep decoded old e new
-  called e (Ok a) to done answers left = (Ok (to a), (answers, done))
-  called e (Err OutOfMemory) to done answers left = (Err OutOfMemory, left)
-  called e (Err error) to done answers left = (Err error, (elim (answers) [ inl is ↦ absurd (not_memory is) | inr h ↦ h ], left))
+  -- what a call returns and leaves is a step
+  pub stepped : {A : Type 0} (e : Event) (r : Result A PairError) (to : A → AnswerOf B) → IfOk r (λ a. Does decoded old e (to a) new) → AnswersOrOutOfMemory OutOfMemory r (tests_of decoded old e)
+      → (IsErrOf r OutOfMemory → refusal (tests_before_memory decoded old e) ≡ None) → LeftBy e r → Step decoded old e (result_map_both to (λ error. error) r) new
+  stepped e (Ok a) to done answers memory left = (answers, done)
+  stepped e (Err OutOfMemory) to done answers memory left = (memory refl, left)
+  stepped e (Err error) to done answers memory left = (elim (answers) [ inl is ↦ absurd (not_memory is) | inr h ↦ h ], left)
     where
       not_memory : error ≢ OutOfMemory
       not_memory h = cc
@@ -79,12 +149,59 @@ module _ {B : Type 0} (decoded : Decoder B) (old new : World) where
 -- ---- steps in a row
 
 module _ {B : Type 0} (decoded : Decoder B) where
-  pub no_calls : (w : World) → IsRunOf decoded w [] w
-  no_calls w = record { moments = []; steps = refl; events_are = refl }
-
-  pub a_call_then : (a b c : World) (e : Event) (events : List Event) → IsStep decoded a e b → IsRunOf decoded b events c → IsRunOf decoded a (e ∷ events) c
-  a_call_then a b c e events step run = record {
-    moments = record { before = a; event = e; answer = step.0; after = b } ∷ run.moments;
-    steps = (refl, step.1, run.steps);
-    events_are = ap (λ l. e ∷ l) run.events_are;
+  pub no_events : (w : World) → RunsEvents decoded w [] [] true w
+  no_events w = record {
+    moments = [];
+    steps = refl;
+    answers_are = refl;
+    events_are = refl;
+    in_time = tt;
+    all = λ _. (refl, refl);
+    not_all = λ h. absurd (false_is_not_true (sym h));
   }
+
+  -- there is no room for an answer
+  pub no_room : (w : World) (e : Event) (events : List Event) → RunsEvents decoded w (e ∷ events) [] false w
+  no_room w e events = record {
+    moments = [];
+    steps = refl;
+    answers_are = refl;
+    events_are = refl;
+    in_time = tt;
+    all = λ h. absurd (false_is_not_true h);
+    not_all = λ _. inl (omega arith);
+  }
+
+  -- an event is done, and it is the last
+  pub the_last : (old new : World) (e : Event) (events : List Event) (answer : Result (AnswerOf B) PairError) → Step decoded old e answer new → is_out_of_memory answer ≡ true
+      → RunsEvents decoded old (e ∷ events) (answer ∷ []) false new
+  the_last old new e events answer step memory = record {
+    moments = record { before = old; event = e; answer = answer; after = new } ∷ [];
+    steps = (refl, step, refl);
+    answers_are = refl;
+    events_are = refl;
+    in_time = tt;
+    all = λ h. absurd (false_is_not_true h);
+    not_all = λ _. inr memory;
+  }
+
+  -- an event is done, and others follow
+  pub an_event_then : (a b c : World) (e : Event) (events : List Event) (answer : Result (AnswerOf B) PairError) (answers : List (Result (AnswerOf B) PairError)) (finished : Bool)
+      → Step decoded a e answer b → is_out_of_memory answer ≡ false → RunsEvents decoded b events answers finished c → RunsEvents decoded a (e ∷ events) (answer ∷ answers) finished c
+  an_event_then a b c e events answer answers finished step goes_on run = record {
+    moments = record { before = a; event = e; answer = answer; after = b } ∷ run.moments;
+    steps = (refl, step, run.steps);
+    answers_are = ap (λ l. answer ∷ l) run.answers_are;
+    events_are = ap (λ l. e ∷ l) run.events_are;
+    in_time = in_time answers run.in_time;
+    all = λ h. (omega (arith, (run.all h).0), ends answers ∙ (run.all h).1);
+    not_all = λ h. elim (run.not_all h) [ inl fewer ↦ inl (omega (arith, fewer)) | inr memory ↦ inr (ends answers ∙ memory) ];
+  }
+    where
+      in_time : (answers : List (Result (AnswerOf B) PairError)) → StopsInTime answers → StopsInTime (answer ∷ answers)
+      in_time [] h = tt
+      in_time (next ∷ answers) h = (goes_on, h)
+
+      ends : (answers : List (Result (AnswerOf B) PairError)) → ends_out_of_memory (answer ∷ answers) ≡ ends_out_of_memory answers
+      ends [] = goes_on
+      ends (next ∷ answers) = refl

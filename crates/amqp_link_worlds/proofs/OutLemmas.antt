@@ -10,7 +10,11 @@ use Rattle.amqp_link_types.specs.declared.delivery.UnsettledMessage.{UnsettledMe
 use Rattle.amqp_link_types.proofs.MapLemmas.{same_tag, other_tag, entry_at-put, entry_at-put_other}
 use Rattle.amqp_link_sender.specs.Senders.{new_entry}
 use Rattle.amqp_link_worlds.specs.Invariants.{IsWorld}
-use Rattle.amqp_link_worlds.specs.PairRuns.{Event, Attach, Grant, Send, Arrive, Cut, ResumeNext, PutBackNext, HandOut, Settle, Answer, ToAttach, ToGrant, ToSend, ToArrive, ToCut, ToResumeNext, ToPutBackNext, ToHandOut, ToSettle, is_out_after, tests_of, Does, IsLeft, IsRefused, Step}
+use Rattle.amqp_link_worlds.specs.PairRuns.{is_out_after, tests_of, Does, IsLeft, IsRefused, Step}
+use Rattle.amqp_link_worlds.specs.declared.event.AnswerOf.{AnswerOf}
+use Rattle.amqp_link_worlds.specs.declared.event.AnswerOf.TheVariants as answer
+use Rattle.amqp_link_worlds.specs.declared.event.Event.{Event}
+use Rattle.amqp_link_worlds.specs.declared.event.Event.TheVariants.{Attach, Grant, Send, Arrive, Cut, ResumeNext, PutBackNext, HandOut, Settle}
 use Rattle.amqp_link_worlds.specs.Steps.{after_hand_out, begun, received, attach_tests, send_tests, next_tests}
 use Rattle.amqp_link_worlds.specs.Worlds.{World, is_out, is_out_at, is_together}
 use Rattle.amqp_link_worlds.specs.declared.error.PairError.{PairError}
@@ -54,15 +58,15 @@ module _ (tag : Tag) (old new : World) where
       tag
 
 module _ {B : Type 0} (decoded : List ℕ → Result (Message B) DecodeError) where
-  abbrev OutFollows : Tag → World → Event → Answer B → World → Type 0
+  abbrev OutFollows : Tag → World → Event → AnswerOf B → World → Type 0
   OutFollows tag old e answer new = is_out_at new tag ≡ is_out_after tag e answer (is_out_at old tag)
 
-  pub out_follows : (tag : Tag) (old new : World) (e : Event) (answer : Answer B) → IsWorld old → refusal (tests_of decoded old e) ≡ None → Does decoded old e answer new → OutFollows tag old e answer new
-  out_follows tag old new (Attach limit) (ToAttach count) k may d = ap (λ (w : World). is_out_at w tag) d.world ∙ none_out true (entry_at old.deliveries tag)
-  out_follows tag old new (Grant n) (ToGrant credit) k may d = ap (λ (w : World). is_out_at w tag) d.world
-  out_follows tag old new (Send payload) (ToSend sent count) k may d =
+  pub out_follows : (tag : Tag) (old new : World) (e : Event) (answer : AnswerOf B) → IsWorld old → refusal (tests_of decoded old e) ≡ None → Does decoded old e answer new → OutFollows tag old e answer new
+  out_follows tag old new (Attach limit) (answer.Attached count) k may d = ap (λ (w : World). is_out_at w tag) d.world ∙ none_out true (entry_at old.deliveries tag)
+  out_follows tag old new (Grant n) (answer.Granted credit) k may d = ap (λ (w : World). is_out_at w tag) d.world
+  out_follows tag old new (Send payload) (answer.Sent sent count) k may d =
       let on : is_together old.phase ≡ true = not_is_false (is_together old.phase) (none_hold (send_tests old payload) may).0 in
-      by_tag (λ t. OutFollows t old (Send payload) (ToSend sent count) new) sent
+      by_tag (λ t. OutFollows t old (Send payload) (answer.Sent sent count) new) sent
       (ap (λ (w : World). is_out_at w sent) d.world
       ∙ same_out on (entry_at-put old.ledger.link.unsettled sent (new_entry 0 payload)) (entry_at-put old.deliveries sent begun)
       ∙ sym (ap (λ b. b || is_out_at old sent) (same_tag sent)))
@@ -70,8 +74,8 @@ module _ {B : Type 0} (decoded : List ℕ → Result (Message B) DecodeError) wh
       ∙ same_out refl (entry_at-put_other old.ledger.link.unsettled sent other (new_entry 0 payload) n) (entry_at-put_other old.deliveries sent other begun n)
       ∙ sym (ap (λ b. b || is_out_at old other) (other_tag other sent n)))
       tag
-  out_follows tag old new (Arrive id) (ToArrive at section offset whole) k may d =
-      by_tag (λ t. OutFollows t old (Arrive id) (ToArrive at section offset whole) new) at
+  out_follows tag old new (Arrive id) (answer.Arrived at section offset whole) k may d =
+      by_tag (λ t. OutFollows t old (Arrive id) (answer.Arrived at section offset whole) new) at
       (ap (λ (w : World). is_out_at w at) d.world
       ∙ same_out refl refl (entry_at-put old.deliveries at (received d.before id d.first.frame))
       ∙ arrived_stays (is_together old.phase) (entry_at old.ledger.link.unsettled at) d.before
@@ -82,10 +86,10 @@ module _ {B : Type 0} (decoded : List ℕ → Result (Message B) DecodeError) wh
       arrived_stays : (b : Bool) (own : Option UnsettledMessage) (p : Progress) → out_by b own (Some (received p id d.first.frame)) ≡ out_by b own (Some p)
       arrived_stays b None p = refl
       arrived_stays b (Some entry) p = refl
-  out_follows tag old new Cut ToCut k may d = ap (λ (w : World). is_out_at w tag) d.world ∙ apart_out (entry_at old.ledger.link.unsettled tag) (entry_at old.deliveries tag)
-  out_follows tag old new ResumeNext (ToResumeNext next count resume) k may d =
+  out_follows tag old new Cut answer.Cut k may d = ap (λ (w : World). is_out_at w tag) d.world ∙ apart_out (entry_at old.ledger.link.unsettled tag) (entry_at old.deliveries tag)
+  out_follows tag old new ResumeNext (answer.Resumed next count resume) k may d =
       let on : is_together old.phase ≡ true = not_is_false (is_together old.phase) (none_hold (next_tests old) may).0 in
-      by_tag (λ t. OutFollows t old ResumeNext (ToResumeNext next count resume) new) next
+      by_tag (λ t. OutFollows t old ResumeNext (answer.Resumed next count resume) new) next
       (ap (λ (w : World). is_out_at w next) d.world
       ∙ same_out on (entry_at-put old.ledger.link.unsettled next d.entry) (entry_at-put old.deliveries next (record d.before { put_back = false }))
       ∙ sym (ap (λ b. b || is_out_at old next) (same_tag next)))
@@ -93,9 +97,9 @@ module _ {B : Type 0} (decoded : List ℕ → Result (Message B) DecodeError) wh
       ∙ same_out refl (entry_at-put_other old.ledger.link.unsettled next other d.entry n) (entry_at-put_other old.deliveries next other (record d.before { put_back = false }) n)
       ∙ sym (ap (λ b. b || is_out_at old other) (other_tag other next n)))
       tag
-  out_follows tag old new PutBackNext (ToPutBackNext next) k may d =
+  out_follows tag old new PutBackNext (answer.PutBack next) k may d =
       let on : is_together old.phase ≡ true = not_is_false (is_together old.phase) (none_hold (next_tests old) may).0 in
-      by_tag (λ t. OutFollows t old PutBackNext (ToPutBackNext next) new) next
+      by_tag (λ t. OutFollows t old PutBackNext (answer.PutBack next) new) next
       (ap (λ (w : World). is_out_at w next) d.world
       ∙ same_out on (entry_at-put old.ledger.link.unsettled next d.entry) (entry_at-put old.deliveries next (record d.before { put_back = true }))
       ∙ sym (none_out (is_together old.phase) (entry_at old.deliveries next))
@@ -103,9 +107,9 @@ module _ {B : Type 0} (decoded : List ℕ → Result (Message B) DecodeError) wh
       (λ other n. ap (λ (w : World). is_out_at w other) d.world
       ∙ same_out refl (entry_at-put_other old.ledger.link.unsettled next other d.entry n) (entry_at-put_other old.deliveries next other (record d.before { put_back = true }) n))
       tag
-  out_follows tag old new (HandOut out) (ToHandOut delivery) k may d = handed_out_stays tag old new out d.before d.known d.world
-  out_follows tag old new (Settle settled) ToSettle k may d =
-      by_tag (λ t. OutFollows t old (Settle settled) ToSettle new) settled
+  out_follows tag old new (HandOut out) (answer.HandedOut delivery) k may d = handed_out_stays tag old new out d.before d.known d.world
+  out_follows tag old new (Settle settled) answer.Settled k may d =
+      by_tag (λ t. OutFollows t old (Settle settled) answer.Settled new) settled
       (ap (λ (w : World). is_out_at w settled) d.world
       ∙ same_out refl (removed_here old.ledger.link.unsettled settled k.unsettled) (removed_here old.deliveries settled k.deliveries)
       ∙ sym (ap (λ b. not b && is_out_at old settled) (same_tag settled)))
@@ -145,5 +149,5 @@ module _ {B : Type 0} (decoded : List ℕ → Result (Message B) DecodeError) wh
 
   -- an event that is refused changes none
   pub out_stays : (tag : Tag) (old new : World) (e : Event) (error : PairError) → Step decoded old e (Err error) new → is_out_at new tag ≡ is_out_at old tag
-  out_stays tag old new e OutOfMemory s = left_out tag old new e s
+  out_stays tag old new e OutOfMemory s = left_out tag old new e s.1
   out_stays tag old new e error s = refused_out tag old new e error s.1

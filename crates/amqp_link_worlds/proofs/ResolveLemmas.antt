@@ -17,7 +17,11 @@ use Rattle.amqp_link_ledger.specs.declared.fate.Fate.TheVariants.{Pending, Hande
 use Rattle.amqp_link_ledger.proofs.FateLemmas.{with_fates-none}
 use Rattle.amqp_link_ledger.proofs.ListSteps.{some_is, by_test, tag_is, get_push_old, entry_at-map}
 use Rattle.amqp_link_worlds.specs.Invariants.{IsWorld}
-use Rattle.amqp_link_worlds.specs.PairRuns.{Event, Attach, Grant, Send, Arrive, Cut, ResumeNext, PutBackNext, HandOut, Settle, Answer, ToAttach, ToGrant, ToSend, ToArrive, ToCut, ToResumeNext, ToPutBackNext, ToHandOut, ToSettle, tests_of, Does, IsLeft, IsRefused, Step}
+use Rattle.amqp_link_worlds.specs.PairRuns.{tests_of, Does, IsLeft, IsRefused, Step}
+use Rattle.amqp_link_worlds.specs.declared.event.AnswerOf.{AnswerOf}
+use Rattle.amqp_link_worlds.specs.declared.event.AnswerOf.TheVariants as answer
+use Rattle.amqp_link_worlds.specs.declared.event.Event.{Event}
+use Rattle.amqp_link_worlds.specs.declared.event.Event.TheVariants.{Attach, Grant, Send, Arrive, Cut, ResumeNext, PutBackNext, HandOut, Settle}
 use Rattle.amqp_link_worlds.specs.Steps.{list_to_resume, attach_tests}
 use Rattle.amqp_link_worlds.specs.Worlds.{World}
 use Rattle.amqp_link_worlds.specs.declared.error.PairError.{PairError}
@@ -85,22 +89,22 @@ module _ (n : ℕ) (tag : Tag) (outcome : Outcome) where
     abbrev IsSettlement : Event → Type 0
     IsSettlement e = (e ≡ Settle tag) × (outcome ≡ Ok (Some Accepted))
 
-    done_resolves : (old new : World) (e : Event) (answer : Answer B) → IsWorld old → refusal (tests_of decoded old e) ≡ None → Does decoded old e answer new
+    done_resolves : (old new : World) (e : Event) (answer : AnswerOf B) → IsWorld old → refusal (tests_of decoded old e) ≡ None → Does decoded old e answer new
         → ResolvesAt n tag outcome old.ledger.records new.ledger.records → IsSettlement e
-    done_resolves old new (Attach limit) (ToAttach count) k may d r =
+    done_resolves old new (Attach limit) (answer.Attached count) k may d r =
         let off = (none_hold (attach_tests old limit) may).0 in
         let before : after (Resolves (outcomes_returned old.ledger.link.unsettled old.receiver.unsettled)) old.ledger.records ≡ old.ledger.records =
         ap (λ outcomes. after (Resolves outcomes) old.ledger.records) (attach_returns_none old k off) ∙ with_fates-none old.ledger.records in
         absurd (by_handing_out (list_to_resume old) old.ledger.records
         (subst (λ records. ResolvesAt n tag outcome old.ledger.records (after (HandsOut (list_to_resume old)) records)) before (along old new _ d.world r)))
-    done_resolves old new (Grant m) (ToGrant credit) k may d r = absurd (stays old new _ d.world refl r)
-    done_resolves old new (Send payload) (ToSend sent count) k may d r = absurd (by_entering sent old.ledger.records (along old new _ d.world r))
-    done_resolves old new (Arrive id) (ToArrive at section offset whole) k may d r = absurd (stays old new _ d.world refl r)
-    done_resolves old new Cut ToCut k may d r = absurd (stays old new _ d.world refl r)
-    done_resolves old new ResumeNext (ToResumeNext next count resume) k may d r = absurd (by_entering next old.ledger.records (along old new _ d.world r))
-    done_resolves old new PutBackNext (ToPutBackNext next) k may d r = absurd (by_entering next old.ledger.records (along old new _ d.world r))
-    done_resolves old new (HandOut out) (ToHandOut delivery) k may d r = absurd (stays old new _ d.world refl r)
-    done_resolves old new (Settle settled) ToSettle k may d r =
+    done_resolves old new (Grant m) (answer.Granted credit) k may d r = absurd (stays old new _ d.world refl r)
+    done_resolves old new (Send payload) (answer.Sent sent count) k may d r = absurd (by_entering sent old.ledger.records (along old new _ d.world r))
+    done_resolves old new (Arrive id) (answer.Arrived at section offset whole) k may d r = absurd (stays old new _ d.world refl r)
+    done_resolves old new Cut answer.Cut k may d r = absurd (stays old new _ d.world refl r)
+    done_resolves old new ResumeNext (answer.Resumed next count resume) k may d r = absurd (by_entering next old.ledger.records (along old new _ d.world r))
+    done_resolves old new PutBackNext (answer.PutBack next) k may d r = absurd (by_entering next old.ledger.records (along old new _ d.world r))
+    done_resolves old new (HandOut out) (answer.HandedOut delivery) k may d r = absurd (stays old new _ d.world refl r)
+    done_resolves old new (Settle settled) answer.Settled k may d r =
         let is = by_settling settled old.ledger.records (along old new _ d.world r) in
         (ap Settle (sym is.0), is.1)
     done_resolves old new _ _ k may d r = absurd d
@@ -128,12 +132,12 @@ module _ (n : ℕ) (tag : Tag) (outcome : Outcome) where
     refused_resolves old new PutBackNext error l r = stays old new old l refl r
     refused_resolves old new (Settle t) error l r = stays old new old l refl r
 
-    step_resolves : (old new : World) (e : Event) (r : Result (Answer B) PairError) → IsWorld old → Step decoded old e r new → ResolvesAt n tag outcome old.ledger.records new.ledger.records → IsSettlement e
+    step_resolves : (old new : World) (e : Event) (r : Result (AnswerOf B) PairError) → IsWorld old → Step decoded old e r new → ResolvesAt n tag outcome old.ledger.records new.ledger.records → IsSettlement e
     step_resolves old new e (Ok answer) k s r = done_resolves old new e answer k s.0 s.1 r
-    step_resolves old new e (Err OutOfMemory) k s r = absurd (left_resolves old new e s r)
+    step_resolves old new e (Err OutOfMemory) k s r = absurd (left_resolves old new e s.1 r)
     step_resolves old new e (Err error) k s r = absurd (refused_resolves old new e error s.1 r)
 
-pub resolved_by_settling : {B : Type 0} (decoded : List ℕ → Result (Message B) DecodeError) (old new : World) (e : Event) (r : Result (Answer B) PairError) → IsWorld old → Step decoded old e r new
+pub resolved_by_settling : {B : Type 0} (decoded : List ℕ → Result (Message B) DecodeError) (old new : World) (e : Event) (r : Result (AnswerOf B) PairError) → IsWorld old → Step decoded old e r new
     → (n : ℕ) (tag : Tag) (outcome : Outcome) → slice_get old.ledger.records n ≡ Some (tag, Pending) → slice_get new.ledger.records n ≡ Some (tag, Resolved outcome)
     → (e ≡ Settle tag) × (outcome ≡ Ok (Some Accepted))
 resolved_by_settling decoded old new e r k s n tag outcome pending over = step_resolves n tag outcome decoded old new e r k s (record { pending = pending; over = over })

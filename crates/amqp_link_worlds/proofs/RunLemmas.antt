@@ -22,7 +22,11 @@ use Rattle.amqp_link_worlds.specs.Resumptions.{entry_of}
 use Rattle.std.specs.Option.{option_or}
 use Rattle.amqp_link_sender.specs.Senders.{new_entry}
 use Rattle.amqp_link_types.specs.declared.types.delivery_state.DeliveryState.TheVariants.{Accepted}
-use Rattle.amqp_link_worlds.specs.PairRuns.{Event, Attach, Grant, Send, Arrive, Cut, ResumeNext, PutBackNext, HandOut, Settle, Answer, ToAttach, ToGrant, ToSend, ToArrive, ToCut, ToResumeNext, ToPutBackNext, ToHandOut, ToSettle, is_send_of, is_arrival_of, tests_of, Does, IsLeft, IsRefused, Step, Moment, IsRun, first_payload, payload_arrived, does_send, since_send, arrived}
+use Rattle.amqp_link_worlds.specs.PairRuns.{is_send_of, is_arrival_of, tests_of, Does, IsLeft, IsRefused, Step, Moment, IsRun, first_payload, payload_arrived, does_send, since_send, arrived}
+use Rattle.amqp_link_worlds.specs.declared.event.AnswerOf.{AnswerOf}
+use Rattle.amqp_link_worlds.specs.declared.event.AnswerOf.TheVariants as answer
+use Rattle.amqp_link_worlds.specs.declared.event.Event.{Event}
+use Rattle.amqp_link_worlds.specs.declared.event.Event.TheVariants.{Attach, Grant, Send, Arrive, Cut, ResumeNext, PutBackNext, HandOut, Settle}
 use Rattle.amqp_link_worlds.specs.Steps.{hand_out_tests, list_to_resume, after_hand_out, begun, received}
 use Rattle.amqp_link_worlds.specs.declared.error.PairError.{PairError}
 use Rattle.amqp_link_worlds.specs.declared.error.PairError.TheVariants.{NotAttached, Decode, OutOfMemory}
@@ -86,17 +90,17 @@ module _ {B : Type 0} (decoded : List ℕ → Result (Message B) DecodeError) wh
   same_world : (old new : World) → IsWorld old → new ≡ old → IsWorld new
   same_world old new k is = subst IsWorld (sym is) k
 
-  done : (old new : World) (e : Event) (answer : Answer B) → IsWorld old → refusal (tests_of decoded old e) ≡ None → Does decoded old e answer new → IsWorld new
-  done old new (Attach limit) (ToAttach count) k may d = IsWorld-attaches old new limit count k may d
-  done old new (Grant n) (ToGrant credit) k may d = IsWorld-grants old new n credit k d
-  done old new (Send payload) (ToSend tag count) k may d = IsWorld-sends old new payload tag count k may d
-  done old new (Arrive id) (ToArrive tag section offset whole) k may d = IsWorld-arrives old new id tag (section, offset) whole k may d
-  done old new Cut ToCut k may d = IsWorld-cuts old new k may d
-  done old new ResumeNext (ToResumeNext tag count resume) k may d = IsWorld-resumes old new tag count resume k may d
-  done old new PutBackNext (ToPutBackNext tag) k may d = IsWorld-puts_back old new tag k may d
-  done old new (HandOut tag) (ToHandOut delivery) k may d =
+  done : (old new : World) (e : Event) (answer : AnswerOf B) → IsWorld old → refusal (tests_of decoded old e) ≡ None → Does decoded old e answer new → IsWorld new
+  done old new (Attach limit) (answer.Attached count) k may d = IsWorld-attaches old new limit count k may d
+  done old new (Grant n) (answer.Granted credit) k may d = IsWorld-grants old new n credit k d
+  done old new (Send payload) (answer.Sent tag count) k may d = IsWorld-sends old new payload tag count k may d
+  done old new (Arrive id) (answer.Arrived tag section offset whole) k may d = IsWorld-arrives old new id tag (section, offset) whole k may d
+  done old new Cut answer.Cut k may d = IsWorld-cuts old new k may d
+  done old new ResumeNext (answer.Resumed tag count resume) k may d = IsWorld-resumes old new tag count resume k may d
+  done old new PutBackNext (answer.PutBack tag) k may d = IsWorld-puts_back old new tag k may d
+  done old new (HandOut tag) (answer.HandedOut delivery) k may d =
       IsWorld-hands_out old new tag d.before k (not_is_false (is_together old.phase) (none_hold (hand_out_tests decoded old tag) may).0) d.known d.world
-  done old new (Settle tag) ToSettle k may d = IsWorld-settles old new tag k may d
+  done old new (Settle tag) answer.Settled k may d = IsWorld-settles old new tag k may d
   done old new _ _ k may d = absurd d
 
   left : (old new : World) (e : Event) → IsWorld old → IsLeft decoded old e new → IsWorld new
@@ -130,9 +134,9 @@ module _ {B : Type 0} (decoded : List ℕ → Result (Message B) DecodeError) wh
   refused old new PutBackNext error k may r = same_world old new k r
   refused old new (Settle tag) error k may r = same_world old new k r
 
-  pub IsWorld-steps : (old new : World) (e : Event) (r : Result (Answer B) PairError) → IsWorld old → Step decoded old e r new → IsWorld new
+  pub IsWorld-steps : (old new : World) (e : Event) (r : Result (AnswerOf B) PairError) → IsWorld old → Step decoded old e r new → IsWorld new
   IsWorld-steps old new e (Ok answer) k s = done old new e answer k s.0 s.1
-  IsWorld-steps old new e (Err OutOfMemory) k s = left old new e k s
+  IsWorld-steps old new e (Err OutOfMemory) k s = left old new e k s.1
   IsWorld-steps old new e (Err error) k s = refused old new e error k s.0 s.1
 
   pub IsWorld-run : (old new : World) (moments : List (Moment decoded)) → IsWorld old → IsRun decoded old moments new → IsWorld new
@@ -141,19 +145,19 @@ module _ {B : Type 0} (decoded : List ℕ → Result (Message B) DecodeError) wh
 
   -- ---- fates
 
-  done_moves : (old new : World) (e : Event) (answer : Answer B) → Does decoded old e answer new → MovesOnce old.ledger.records new.ledger.records
-  done_moves old new (Attach limit) (ToAttach count) d = moves_by old new _ d.world
+  done_moves : (old new : World) (e : Event) (answer : AnswerOf B) → Does decoded old e answer new → MovesOnce old.ledger.records new.ledger.records
+  done_moves old new (Attach limit) (answer.Attached count) d = moves_by old new _ d.world
       (MovesOnce-trans old.ledger.records (after (Resolves (outcomes_returned old.ledger.link.unsettled old.receiver.unsettled)) old.ledger.records) _
       (MovesOnce-after (Resolves (outcomes_returned old.ledger.link.unsettled old.receiver.unsettled)) old.ledger.records)
       (MovesOnce-after (HandsOut (list_to_resume old)) (after (Resolves (outcomes_returned old.ledger.link.unsettled old.receiver.unsettled)) old.ledger.records)))
-  done_moves old new (Grant n) (ToGrant credit) d = moves_by old new _ d.world (MovesOnce-refl old.ledger.records)
-  done_moves old new (Send payload) (ToSend tag count) d = moves_by old new _ d.world (MovesOnce-after (Enters tag) old.ledger.records)
-  done_moves old new (Arrive id) (ToArrive tag section offset whole) d = moves_by old new _ d.world (MovesOnce-refl old.ledger.records)
-  done_moves old new Cut ToCut d = moves_by old new _ d.world (MovesOnce-refl old.ledger.records)
-  done_moves old new ResumeNext (ToResumeNext tag count resume) d = moves_by old new _ d.world (MovesOnce-after (Enters tag) old.ledger.records)
-  done_moves old new PutBackNext (ToPutBackNext tag) d = moves_by old new _ d.world (MovesOnce-after (Enters tag) old.ledger.records)
-  done_moves old new (HandOut tag) (ToHandOut delivery) d = moves_by old new _ d.world (MovesOnce-refl old.ledger.records)
-  done_moves old new (Settle tag) ToSettle d = moves_by old new _ d.world (MovesOnce-after (Resolves ((tag, Ok (Some Accepted)) ∷ [])) old.ledger.records)
+  done_moves old new (Grant n) (answer.Granted credit) d = moves_by old new _ d.world (MovesOnce-refl old.ledger.records)
+  done_moves old new (Send payload) (answer.Sent tag count) d = moves_by old new _ d.world (MovesOnce-after (Enters tag) old.ledger.records)
+  done_moves old new (Arrive id) (answer.Arrived tag section offset whole) d = moves_by old new _ d.world (MovesOnce-refl old.ledger.records)
+  done_moves old new Cut answer.Cut d = moves_by old new _ d.world (MovesOnce-refl old.ledger.records)
+  done_moves old new ResumeNext (answer.Resumed tag count resume) d = moves_by old new _ d.world (MovesOnce-after (Enters tag) old.ledger.records)
+  done_moves old new PutBackNext (answer.PutBack tag) d = moves_by old new _ d.world (MovesOnce-after (Enters tag) old.ledger.records)
+  done_moves old new (HandOut tag) (answer.HandedOut delivery) d = moves_by old new _ d.world (MovesOnce-refl old.ledger.records)
+  done_moves old new (Settle tag) answer.Settled d = moves_by old new _ d.world (MovesOnce-after (Resolves ((tag, Ok (Some Accepted)) ∷ [])) old.ledger.records)
   done_moves old new _ _ d = absurd d
 
   kept_moves : (old new : World) → new ≡ old → MovesOnce old.ledger.records new.ledger.records
@@ -182,9 +186,9 @@ module _ {B : Type 0} (decoded : List ℕ → Result (Message B) DecodeError) wh
   refused_moves old new PutBackNext error r = kept_moves old new r
   refused_moves old new (Settle tag) error r = kept_moves old new r
 
-  step_moves : (old new : World) (e : Event) (r : Result (Answer B) PairError) → Step decoded old e r new → MovesOnce old.ledger.records new.ledger.records
+  step_moves : (old new : World) (e : Event) (r : Result (AnswerOf B) PairError) → Step decoded old e r new → MovesOnce old.ledger.records new.ledger.records
   step_moves old new e (Ok answer) s = done_moves old new e answer s.1
-  step_moves old new e (Err OutOfMemory) s = left_moves old new e s
+  step_moves old new e (Err OutOfMemory) s = left_moves old new e s.1
   step_moves old new e (Err error) s = refused_moves old new e error s.1
 
   -- over any run
@@ -198,27 +202,27 @@ module _ {B : Type 0} (decoded : List ℕ → Result (Message B) DecodeError) wh
   -- ---- what is held is what arrived
 
   -- what arrived of a tag once an answer was given, after what had arrived before
-  abbrev arrived_after : Tag → Result (Answer B) PairError → World → List ℕ → List ℕ
+  abbrev arrived_after : Tag → Result (AnswerOf B) PairError → World → List ℕ → List ℕ
   arrived_after tag r w bytes = cond (is_send_of tag r) [] (bytes ++ cond (is_arrival_of tag r) (first_payload w.wire) [])
 
   -- of a delivery that is what is held, if it was so before
-  abbrev Goes : Tag → World → Result (Answer B) PairError → World → Type 0
+  abbrev Goes : Tag → World → Result (AnswerOf B) PairError → World → Type 0
   Goes tag old r new = (bytes : List ℕ) → (IsOpenIn old tag → bytes ≡ bytes_at old tag) → IsOpenIn new tag → arrived_after tag r old bytes ≡ bytes_at new tag
 
   stays_on : (tag : Tag) (old new : World) → Stays tag old new → (bytes : List ℕ) → (IsOpenIn old tag → bytes ≡ bytes_at old tag) → IsOpenIn new tag → bytes ++ [] ≡ bytes_at new tag
   stays_on tag old new s bytes h o = append-nil bytes ∙ h (s.was o) ∙ ap bytes_in (sym s.held)
 
-  done_goes : (tag : Tag) (old new : World) (e : Event) (answer : Answer B) → IsWorld old → refusal (tests_of decoded old e) ≡ None → Does decoded old e answer new → Goes tag old (Ok answer) new
-  done_goes tag old new (Attach limit) (ToAttach count) k may d = stays_on tag old new (record { held = ap (λ (w : World). held_at w tag) d.world; was = open_before_attach old new limit count k may d tag })
-  done_goes tag old new (Grant n) (ToGrant credit) k may d = stays_on tag old new (Stays-by tag old new _ d.world refl refl)
-  done_goes tag old new (Send payload) (ToSend sent count) k may d =
-      by_tag (λ t. Goes t old (Ok (ToSend sent count)) new) sent
+  done_goes : (tag : Tag) (old new : World) (e : Event) (answer : AnswerOf B) → IsWorld old → refusal (tests_of decoded old e) ≡ None → Does decoded old e answer new → Goes tag old (Ok answer) new
+  done_goes tag old new (Attach limit) (answer.Attached count) k may d = stays_on tag old new (record { held = ap (λ (w : World). held_at w tag) d.world; was = open_before_attach old new limit count k may d tag })
+  done_goes tag old new (Grant n) (answer.Granted credit) k may d = stays_on tag old new (Stays-by tag old new _ d.world refl refl)
+  done_goes tag old new (Send payload) (answer.Sent sent count) k may d =
+      by_tag (λ t. Goes t old (Ok (answer.Sent sent count)) new) sent
       (λ bytes h o. ap (λ b. cond b [] (bytes ++ [])) (same_tag sent) ∙ sym (ap (λ (w : World). bytes_at w sent) d.world ∙ ap (λ q. bytes_in (held_of q)) (entry_at-put old.deliveries sent begun)))
       (λ other n bytes h o. ap (λ b. cond b [] (bytes ++ [])) (other_tag other sent n)
       ∙ stays_on other old new (Stays-by other old new _ d.world (ap held_of (entry_at-put_other old.deliveries sent other begun n)) (fates_registered_other sent other old.ledger.records n)) bytes h o)
       tag
-  done_goes tag old new (Arrive id) (ToArrive at section offset whole) k may d =
-      by_tag (λ t. Goes t old (Ok (ToArrive at section offset whole)) new) at
+  done_goes tag old new (Arrive id) (answer.Arrived at section offset whole) k may d =
+      by_tag (λ t. Goes t old (Ok (answer.Arrived at section offset whole)) new) at
       (λ bytes h o.
       let open_before : IsOpenIn old at = subst (IsOpenIn old) (sym d.tagged) (open_arriving old d.first d.rest k d.taken) in
       ap (λ b. bytes ++ cond b (first_payload old.wire) []) (same_tag at)
@@ -229,26 +233,26 @@ module _ {B : Type 0} (decoded : List ℕ → Result (Message B) DecodeError) wh
       (λ other n bytes h o. ap (λ b. bytes ++ cond b (first_payload old.wire) []) (other_tag other at n)
       ∙ stays_on other old new (Stays-by other old new _ d.world (ap held_of (entry_at-put_other old.deliveries at other (received d.before id d.first.frame) n)) refl) bytes h o)
       tag
-  done_goes tag old new Cut ToCut k may d = stays_on tag old new (Stays-by tag old new _ d.world refl refl)
-  done_goes tag old new ResumeNext (ToResumeNext next count resume) k may d =
-      by_tag (λ t. Goes t old (Ok (ToResumeNext next count resume)) new) next
+  done_goes tag old new Cut answer.Cut k may d = stays_on tag old new (Stays-by tag old new _ d.world refl refl)
+  done_goes tag old new ResumeNext (answer.Resumed next count resume) k may d =
+      by_tag (λ t. Goes t old (Ok (answer.Resumed next count resume)) new) next
       (stays_on next old new (record {
         held = ap (λ (w : World). held_at w next) d.world ∙ ap held_of (entry_at-put old.deliveries next (record d.before { put_back = false })) ∙ ap held_of (sym d.known);
         was = λ _. open_listed old next d.next d.others k d.listed;
       }))
       (λ other n. stays_on other old new (Stays-by other old new _ d.world (ap held_of (entry_at-put_other old.deliveries next other (record d.before { put_back = false }) n)) (fates_registered_other next other old.ledger.records n)))
       tag
-  done_goes tag old new PutBackNext (ToPutBackNext next) k may d =
-      by_tag (λ t. Goes t old (Ok (ToPutBackNext next)) new) next
+  done_goes tag old new PutBackNext (answer.PutBack next) k may d =
+      by_tag (λ t. Goes t old (Ok (answer.PutBack next)) new) next
       (stays_on next old new (record {
         held = ap (λ (w : World). held_at w next) d.world ∙ ap held_of (entry_at-put old.deliveries next (record d.before { put_back = true })) ∙ ap held_of (sym d.known);
         was = λ _. open_listed old next d.next d.others k d.listed;
       }))
       (λ other n. stays_on other old new (Stays-by other old new _ d.world (ap held_of (entry_at-put_other old.deliveries next other (record d.before { put_back = true }) n)) (fates_registered_other next other old.ledger.records n)))
       tag
-  done_goes tag old new (HandOut out) (ToHandOut delivery) k may d = stays_on tag old new (handed_stays tag out old new d.before d.known d.world)
-  done_goes tag old new (Settle settled) ToSettle k may d =
-      by_tag (λ t. Goes t old (Ok ToSettle) new) settled
+  done_goes tag old new (HandOut out) (answer.HandedOut delivery) k may d = stays_on tag old new (handed_stays tag out old new d.before d.known d.world)
+  done_goes tag old new (Settle settled) answer.Settled k may d =
+      by_tag (λ t. Goes t old (Ok answer.Settled) new) settled
       (λ bytes h o. absurd (closed_settled old new settled k may d o))
       (λ other n. stays_on other old new (Stays-by other old new _ d.world (ap held_of (removed_there old.deliveries settled other k.deliveries n))
       (fates_given other ((settled, Resolved (Ok (Some Accepted))) ∷ []) old.ledger.records
@@ -279,9 +283,9 @@ module _ {B : Type 0} (decoded : List ℕ → Result (Message B) DecodeError) wh
   refused_stays tag old new PutBackNext error r = Stays-same tag old new r
   refused_stays tag old new (Settle t) error r = Stays-same tag old new r
 
-  step_goes : (tag : Tag) (old new : World) (e : Event) (r : Result (Answer B) PairError) → IsWorld old → Step decoded old e r new → Goes tag old r new
+  step_goes : (tag : Tag) (old new : World) (e : Event) (r : Result (AnswerOf B) PairError) → IsWorld old → Step decoded old e r new → Goes tag old r new
   step_goes tag old new e (Ok answer) k s = done_goes tag old new e answer k s.0 s.1
-  step_goes tag old new e (Err OutOfMemory) k s = stays_on tag old new (left_stays tag old new e s)
+  step_goes tag old new e (Err OutOfMemory) k s = stays_on tag old new (left_stays tag old new e s.1)
   step_goes tag old new e (Err error) k s = stays_on tag old new (refused_stays tag old new e error s.1)
 
   -- step by step
@@ -330,32 +334,32 @@ module _ {B : Type 0} (decoded : List ℕ → Result (Message B) DecodeError) wh
   -- ---- no payload changes
 
   -- unless it is sent anew, a delivery has the payload that it had
-  abbrev KeepsPayload : Tag → World → Result (Answer B) PairError → World → Type 0
+  abbrev KeepsPayload : Tag → World → Result (AnswerOf B) PairError → World → Type 0
   KeepsPayload tag old r new = is_send_of tag r ≡ false → IsOpenIn new tag → entry_in (standing new tag) ≡ entry_in (standing old tag)
 
-  done_keeps : (tag : Tag) (old new : World) (e : Event) (answer : Answer B) → IsWorld old → refusal (tests_of decoded old e) ≡ None → Does decoded old e answer new → KeepsPayload tag old (Ok answer) new
-  done_keeps tag old new (Attach limit) (ToAttach count) k may d = λ _ _. attach_keeps old new limit count k may d tag
-  done_keeps tag old new (Grant n) (ToGrant credit) k may d = λ _ _. ap (λ (w : World). entry_in (standing w tag)) d.world
-  done_keeps tag old new (Send payload) (ToSend sent count) k may d =
-      by_tag (λ t. KeepsPayload t old (Ok (ToSend sent count)) new) sent
+  done_keeps : (tag : Tag) (old new : World) (e : Event) (answer : AnswerOf B) → IsWorld old → refusal (tests_of decoded old e) ≡ None → Does decoded old e answer new → KeepsPayload tag old (Ok answer) new
+  done_keeps tag old new (Attach limit) (answer.Attached count) k may d = λ _ _. attach_keeps old new limit count k may d tag
+  done_keeps tag old new (Grant n) (answer.Granted credit) k may d = λ _ _. ap (λ (w : World). entry_in (standing w tag)) d.world
+  done_keeps tag old new (Send payload) (answer.Sent sent count) k may d =
+      by_tag (λ t. KeepsPayload t old (Ok (answer.Sent sent count)) new) sent
       (λ s o. absurd (false_is_not_true (sym s ∙ same_tag sent)))
       (λ other n s o. ap (λ (w : World). entry_in (standing w other)) d.world ∙ entries_by (entry_at-put_other old.ledger.link.unsettled sent other (new_entry 0 payload) n) refl)
       tag
-  done_keeps tag old new (Arrive id) (ToArrive at section offset whole) k may d = λ _ _. ap (λ (w : World). entry_in (standing w tag)) d.world
-  done_keeps tag old new Cut ToCut k may d = λ _ _. ap (λ (w : World). entry_in (standing w tag)) d.world
-  done_keeps tag old new ResumeNext (ToResumeNext next count resume) k may d =
-      by_tag (λ t. KeepsPayload t old (Ok (ToResumeNext next count resume)) new) next
+  done_keeps tag old new (Arrive id) (answer.Arrived at section offset whole) k may d = λ _ _. ap (λ (w : World). entry_in (standing w tag)) d.world
+  done_keeps tag old new Cut answer.Cut k may d = λ _ _. ap (λ (w : World). entry_in (standing w tag)) d.world
+  done_keeps tag old new ResumeNext (answer.Resumed next count resume) k may d =
+      by_tag (λ t. KeepsPayload t old (Ok (answer.Resumed next count resume)) new) next
       (λ s o. ap (λ (w : World). entry_in (standing w next)) d.world ∙ registered_again old next d.next d.others d.entry k d.listed d.kept)
       (λ other n s o. ap (λ (w : World). entry_in (standing w other)) d.world ∙ entries_by (entry_at-put_other old.ledger.link.unsettled next other d.entry n) (sym (still_listed old next d.next d.others k d.listed other n)))
       tag
-  done_keeps tag old new PutBackNext (ToPutBackNext next) k may d =
-      by_tag (λ t. KeepsPayload t old (Ok (ToPutBackNext next)) new) next
+  done_keeps tag old new PutBackNext (answer.PutBack next) k may d =
+      by_tag (λ t. KeepsPayload t old (Ok (answer.PutBack next)) new) next
       (λ s o. ap (λ (w : World). entry_in (standing w next)) d.world ∙ registered_again old next d.next d.others d.entry k d.listed d.kept)
       (λ other n s o. ap (λ (w : World). entry_in (standing w other)) d.world ∙ entries_by (entry_at-put_other old.ledger.link.unsettled next other d.entry n) (sym (still_listed old next d.next d.others k d.listed other n)))
       tag
-  done_keeps tag old new (HandOut out) (ToHandOut delivery) k may d = λ _ _. ap (λ (w : World). entry_in (standing w tag)) d.world
-  done_keeps tag old new (Settle settled) ToSettle k may d =
-      by_tag (λ t. KeepsPayload t old (Ok ToSettle) new) settled
+  done_keeps tag old new (HandOut out) (answer.HandedOut delivery) k may d = λ _ _. ap (λ (w : World). entry_in (standing w tag)) d.world
+  done_keeps tag old new (Settle settled) answer.Settled k may d =
+      by_tag (λ t. KeepsPayload t old (Ok answer.Settled) new) settled
       (λ s o. absurd (closed_settled old new settled k may d o))
       (λ other n s o. ap (λ (w : World). entry_in (standing w other)) d.world ∙ entries_by (removed_there old.ledger.link.unsettled settled other k.unsettled n) refl)
       tag
@@ -385,7 +389,7 @@ module _ {B : Type 0} (decoded : List ℕ → Result (Message B) DecodeError) wh
   refused_keeps tag old new (Settle t) error r = ap (λ (w : World). entry_in (standing w tag)) r
 
   -- no call changes a delivery's payload
-  pub step_keeps_payload : (tag : Tag) (old new : World) (e : Event) (r : Result (Answer B) PairError) → IsWorld old → Step decoded old e r new → KeepsPayload tag old r new
+  pub step_keeps_payload : (tag : Tag) (old new : World) (e : Event) (r : Result (AnswerOf B) PairError) → IsWorld old → Step decoded old e r new → KeepsPayload tag old r new
   step_keeps_payload tag old new e (Ok answer) k s = done_keeps tag old new e answer k s.0 s.1
-  step_keeps_payload tag old new e (Err OutOfMemory) k s = λ _ _. left_keeps tag old new e s
+  step_keeps_payload tag old new e (Err OutOfMemory) k s = λ _ _. left_keeps tag old new e s.1
   step_keeps_payload tag old new e (Err error) k s = λ _ _. refused_keeps tag old new e error s.1

@@ -2,6 +2,7 @@ pub mod Wires
 pub mod Resumptions
 pub mod Worlds
 pub mod Steps
+pub mod Before
 pub mod Invariants
 pub mod Attachable
 pub mod Receiving

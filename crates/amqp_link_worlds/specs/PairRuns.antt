@@ -4,39 +4,20 @@ use Rattle.std.specs.List.{list_any}
 use Rattle.std.specs.Str.{bytes_eq}
 use Rattle.amqp_link_payloads.specs.declared.error.DecodeError.{DecodeError}
 use Rattle.amqp_link_payloads.specs.declared.message.Message.{Message}
-use Rattle.amqp_link_types.specs.Deliveries.{Delivered}
 use Rattle.amqp_link_types.specs.Entries.{Tag}
 use Rattle.amqp_link_types.specs.Frames.{payload_of}
 use Rattle.amqp_link_types.specs.Refusals.{refusal}
+use Rattle.amqp_link_ledger.specs.Fates.{fates_of, latest}
+use Rattle.amqp_link_worlds.specs.Before.{before_measuring, before_tag, before_decoding}
 use Rattle.amqp_link_worlds.specs.Steps.{Tests, Attaches, StaysOrStops, Grants, Sends, Arrives, Cuts, Resumes, PutsBack, HandsOutDelivery, Settles, IsUndecoded, attach_tests, grant_tests, send_tests, arrive_tests, cut_tests, next_tests, hand_out_tests, settle_tests}
 use Rattle.amqp_link_worlds.specs.Wires.{OnWire}
-use Rattle.amqp_link_worlds.specs.Worlds.{World, bytes_in, held_at}
+use Rattle.amqp_link_worlds.specs.Worlds.{World, IsOpen, bytes_in, held_at}
+use Rattle.amqp_link_worlds.specs.declared.event.AnswerOf.{AnswerOf}
+use Rattle.amqp_link_worlds.specs.declared.event.AnswerOf.TheVariants as answer
+use Rattle.amqp_link_worlds.specs.declared.event.Event.{Event}
+use Rattle.amqp_link_worlds.specs.declared.event.Event.TheVariants.{Attach, Grant, Send, Arrive, Cut, ResumeNext, PutBackNext, HandOut, Settle}
 use Rattle.amqp_link_worlds.specs.declared.error.PairError.{PairError}
 use Rattle.amqp_link_worlds.specs.declared.error.PairError.TheVariants as error
-
--- a call of a pair, with its arguments
-pub data Event : Type 0 where
-  Attach : ℕ → Event
-  Grant : ℕ → Event
-  Send : List ℕ → Event
-  Arrive : ℕ → Event
-  Cut : Event
-  ResumeNext : Event
-  PutBackNext : Event
-  HandOut : Tag → Event
-  Settle : Tag → Event
-
--- the answer to a call that was not refused
-pub data Answer (B : Type 0) : Type 0 where
-  ToAttach : ℕ → Answer B
-  ToGrant : ℕ → Answer B
-  ToSend : Tag → ℕ → Answer B
-  ToArrive : Tag → ℕ → ℕ → Bool → Answer B
-  ToCut : Answer B
-  ToResumeNext : Tag → ℕ → Bool → Answer B
-  ToPutBackNext : Tag → Answer B
-  ToHandOut : Delivered B → Answer B
-  ToSettle : Answer B
 
 -- how a message is read of its bytes
 abbrev pub Decoder : Type 0 → Type 0
@@ -49,39 +30,39 @@ first_payload (next ∷ wire) = payload_of next.frame
 
 module _ {B : Type 0} where
   -- whether an answer is that a delivery with this tag was sent
-  abbrev pub is_send_of : Tag → Result (Answer B) PairError → Bool
-  is_send_of tag (Ok (ToSend sent count)) = bytes_eq tag sent
+  abbrev pub is_send_of : Tag → Result (AnswerOf B) PairError → Bool
+  is_send_of tag (Ok (answer.Sent sent count)) = bytes_eq tag sent
   is_send_of tag _ = false
 
   -- whether it is that a transfer of this tag arrived
-  abbrev pub is_arrival_of : Tag → Result (Answer B) PairError → Bool
-  is_arrival_of tag (Ok (ToArrive came section offset whole)) = bytes_eq tag came
+  abbrev pub is_arrival_of : Tag → Result (AnswerOf B) PairError → Bool
+  is_arrival_of tag (Ok (answer.Arrived came section offset whole)) = bytes_eq tag came
   is_arrival_of tag _ = false
 
   -- whether an event was out of memory
-  abbrev pub is_out_of_memory : Result (Answer B) PairError → Bool
+  abbrev pub is_out_of_memory : Result (AnswerOf B) PairError → Bool
   is_out_of_memory (Err error.OutOfMemory) = true
   is_out_of_memory _ = false
 
   -- whether the last of these was
-  abbrev pub ends_out_of_memory : List (Result (Answer B) PairError) → Bool
+  abbrev pub ends_out_of_memory : List (Result (AnswerOf B) PairError) → Bool
   ends_out_of_memory [] = false
   ends_out_of_memory (answer ∷ []) = is_out_of_memory answer
   ends_out_of_memory (answer ∷ next ∷ answers) = ends_out_of_memory (next ∷ answers)
 
   -- of these answers only the last may be that
-  abbrev pub StopsInTime : List (Result (Answer B) PairError) → Type 0
+  abbrev pub StopsInTime : List (Result (AnswerOf B) PairError) → Type 0
   StopsInTime [] = Unit {0}
   StopsInTime (answer ∷ []) = Unit {0}
   StopsInTime (answer ∷ next ∷ answers) = (is_out_of_memory answer ≡ false) × StopsInTime (next ∷ answers)
 
   -- whether a delivery is out after an answered event: from its send or its resumption on, until a cut, an
   -- attach or its settlement
-  abbrev pub is_out_after : Tag → Event → Answer B → Bool → Bool
+  abbrev pub is_out_after : Tag → Event → AnswerOf B → Bool → Bool
   is_out_after tag (Attach limit) answer out = false
-  is_out_after tag (Send payload) (ToSend sent count) out = bytes_eq tag sent || out
+  is_out_after tag (Send payload) (answer.Sent sent count) out = bytes_eq tag sent || out
   is_out_after tag Cut answer out = false
-  is_out_after tag ResumeNext (ToResumeNext next count resume) out = bytes_eq tag next || out
+  is_out_after tag ResumeNext (answer.Resumed next count resume) out = bytes_eq tag next || out
   is_out_after tag (Settle settled) answer out = not (bytes_eq tag settled) && out
   is_out_after tag event answer out = out
 
@@ -98,17 +79,24 @@ module _ {B : Type 0} where
     tests_of w (HandOut tag) = hand_out_tests decoded w tag
     tests_of w (Settle tag) = settle_tests w tag
 
+    -- those of them that come before it may be out of memory
+    abbrev pub tests_before_memory : World → Event → Tests
+    tests_before_memory w (Attach limit) = before_measuring w limit
+    tests_before_memory w (Send payload) = before_tag w payload
+    tests_before_memory w (HandOut tag) = before_decoding w tag
+    tests_before_memory w e = tests_of w e
+
     -- what an event that is not refused does
-    abbrev pub Does : World → Event → Answer B → World → Type 0
-    Does old (Attach limit) (ToAttach count) new = Attaches old limit count new
-    Does old (Grant n) (ToGrant credit) new = Grants old n credit new
-    Does old (Send payload) (ToSend tag count) new = Sends old payload tag count new
-    Does old (Arrive id) (ToArrive tag section offset whole) new = Arrives old id tag (section, offset) whole new
-    Does old Cut ToCut new = Cuts old new
-    Does old ResumeNext (ToResumeNext tag count resume) new = Resumes old tag count resume new
-    Does old PutBackNext (ToPutBackNext tag) new = PutsBack old tag new
-    Does old (HandOut tag) (ToHandOut delivery) new = HandsOutDelivery decoded old tag delivery new
-    Does old (Settle tag) ToSettle new = Settles old tag new
+    abbrev pub Does : World → Event → AnswerOf B → World → Type 0
+    Does old (Attach limit) (answer.Attached count) new = Attaches old limit count new
+    Does old (Grant n) (answer.Granted credit) new = Grants old n credit new
+    Does old (Send payload) (answer.Sent tag count) new = Sends old payload tag count new
+    Does old (Arrive id) (answer.Arrived tag section offset whole) new = Arrives old id tag (section, offset) whole new
+    Does old Cut answer.Cut new = Cuts old new
+    Does old ResumeNext (answer.Resumed tag count resume) new = Resumes old tag count resume new
+    Does old PutBackNext (answer.PutBack tag) new = PutsBack old tag new
+    Does old (HandOut tag) (answer.HandedOut delivery) new = HandsOutDelivery decoded old tag delivery new
+    Does old (Settle tag) answer.Settled new = Settles old tag new
     Does old _ _ new = ⊥
 
     -- What an event that is out of memory leaves: all as it was, unless an attach is on its way. A grant
@@ -125,16 +113,17 @@ module _ {B : Type 0} where
     IsRefused old (HandOut tag) error.Decode new = IsUndecoded old tag new
     IsRefused old e error new = new ≡ old
 
-    abbrev pub Step : World → Event → Result (Answer B) PairError → World → Type 0
+    -- an event with its answer, and the worlds before and after it
+    abbrev pub Step : World → Event → Result (AnswerOf B) PairError → World → Type 0
     Step old e (Ok answer) new = (refusal (tests_of old e) ≡ None) × Does old e answer new
-    Step old e (Err error.OutOfMemory) new = IsLeft old e new
+    Step old e (Err error.OutOfMemory) new = (refusal (tests_before_memory old e) ≡ None) × IsLeft old e new
     Step old e (Err error) new = (refusal (tests_of old e) ≡ Some error) × IsRefused old e error new
 
     -- one event with its answer, and the worlds before and after it
     pub record Moment : Type 0 where
       pub before : World
       pub event : Event
-      pub answer : Result (Answer B) PairError
+      pub answer : Result (AnswerOf B) PairError
       pub after : World
 
     -- each event is a step from the world that the one before has left
@@ -144,7 +133,7 @@ module _ {B : Type 0} where
 
     -- an event is done, whatever its answer
     abbrev pub IsStep : World → Event → World → Type 0
-    IsStep old e new = (answer : Result (Answer B) PairError) × Step old e answer new
+    IsStep old e new = (answer : Result (AnswerOf B) PairError) × Step old e answer new
 
     -- these events are done one after the other
     pub record IsRunOf (old : World) (events : List Event) (new : World) : Type 0 where
@@ -157,7 +146,7 @@ module _ {B : Type 0} where
     -- The events were done in order, as far as there are answers. If the run finished, all were done and none
     -- was out of memory; otherwise it stopped after the first that was, or before an event for whose answer
     -- there was no room.
-    pub record RunsEvents (old : World) (events : List Event) (answers : List (Result (Answer B) PairError)) (finished : Bool)
+    pub record RunsEvents (old : World) (events : List Event) (answers : List (Result (AnswerOf B) PairError)) (finished : Bool)
         (new : World) : Type 0 where
       pub moments : List Moment
       pub steps : IsRun old moments new
@@ -189,3 +178,7 @@ module _ {B : Type 0} where
     abbrev pub arrived : World → List Moment → Tag → List ℕ
     arrived old moments tag =
         (if list_any (does_send tag) moments then [] else bytes_in (held_at old tag)) ++ flat_map (payload_arrived tag) (since_send tag moments)
+
+    -- of each delivery whose registration is not over, the receiver holds exactly what arrived
+    abbrev pub HoldsWhatArrived : World → List Moment → World → Type 0
+    HoldsWhatArrived old moments new = (tag : Tag) → IsOpen (latest (fates_of tag new.ledger.records)) → bytes_in (held_at new tag) ≡ arrived old moments tag

@@ -21,11 +21,14 @@ ghost use Rattle.amqp_link_worlds.specs.Attachable.{CanAsk, CanTakeAsked, CanAns
 ghost use Rattle.amqp_link_worlds.specs.Callable.{CanSend, IsFree, CanGrant, CanCut, CanResume, CanComplete, CanSettle};
 ghost use Rattle.amqp_link_worlds.specs.Invariants.{IsWorld};
 ghost use Rattle.amqp_link_worlds.specs.Receiving.{CanReceive};
-ghost use Rattle.amqp_link_worlds.specs.PairRuns.{Answer, Does, Event, Settle, IsRun, Moment, RunsEvents, Step, arrived, is_out_after, is_send_of, tests_of};
+ghost use Rattle.amqp_link_worlds.specs.PairRuns.{Does, HoldsWhatArrived, IsRun, Moment, RunsEvents, Step, is_out_after, is_send_of, tests_of};
 ghost use Rattle.amqp_link_worlds.specs.Steps.{new_world, list_to_resume, later, sender_asking, receiver_at_limit, receiver_half_attached, receiver_together, Attaches, AttachStop, StopsAt, Grants, Sends, Arrives, Cuts, Resumes, PutsBack, HandsOutDelivery, Settles, after_hand_out, attach_tests, send_tests, arrive_tests, cut_tests, next_tests, hand_out_tests, settle_tests};
 ghost use Rattle.amqp_link_worlds.specs.Wires.{OnWire};
 ghost use Rattle.amqp_link_worlds.specs.Worlds.{World, is_out_at, Apart, Halfway, Good, IsOpen, is_together, standing, entry_in, held_at, bytes_in, receiver_entry};
 ghost use Rattle.amqp_link_worlds.specs.declared.error.PairError.{PairError as Refusal};
+ghost use Rattle.amqp_link_worlds.specs.declared.event.AnswerOf.{AnswerOf};
+ghost use Rattle.amqp_link_worlds.specs.declared.event.Event.{Event};
+ghost use Rattle.amqp_link_worlds.specs.declared.event.Event.TheVariants.{Settle};
 ghost use Rattle.amqp_link_worlds.specs.declared.progress.Progress.{Progress as TheProgress};
 
 /// A new pair has the invariant.
@@ -116,11 +119,11 @@ pub fn an_attach_hands_out_each_delivery_once()
 /// Every step and every run keeps the invariant.
 pub fn each_run_keeps_a_pair<B>()
     ensures step { (decoded : List ℕ → Result (TheMessage B) DecodeError) (old new : World) (e : Event)
-        (r : Result (Answer B) Refusal) → IsWorld old → Step decoded old e r new → IsWorld new }
+        (r : Result (AnswerOf B) Refusal) → IsWorld old → Step decoded old e r new → IsWorld new }
     ensures run { (decoded : List ℕ → Result (TheMessage B) DecodeError) (old new : World)
         (moments : List (Moment decoded)) → IsWorld old → IsRun decoded old moments new → IsWorld new }
     ensures events { (decoded : List ℕ → Result (TheMessage B) DecodeError) (old new : World) (events : List Event)
-        (answers : List (Result (Answer B) Refusal)) (finished : Bool) → IsWorld old
+        (answers : List (Result (AnswerOf B) Refusal)) (finished : Bool) → IsWorld old
         → RunsEvents decoded old events answers finished new → IsWorld new }
 {}
 
@@ -133,7 +136,7 @@ pub fn fates_move_once_in_a_run<B>()
 
 /// Only a settlement resolves a registration: one of its own tag, and with the outcome accepted.
 pub fn only_a_settlement_resolves<B>()
-    ensures { (decoded : List ℕ → Result (TheMessage B) DecodeError) (old new : World) (e : Event) (r : Result (Answer B) Refusal)
+    ensures { (decoded : List ℕ → Result (TheMessage B) DecodeError) (old new : World) (e : Event) (r : Result (AnswerOf B) Refusal)
         → IsWorld old → Step decoded old e r new
         → (n : ℕ) (tag : Tag) (outcome : Result (Option DeliveryState) LinkStateError)
         → slice_get old.ledger.records n ≡ Some (tag, Pending) → slice_get new.ledger.records n ≡ Some (tag, Resolved outcome)
@@ -143,7 +146,7 @@ pub fn only_a_settlement_resolves<B>()
 /// No step changes the payload of a delivery, unless it sends the tag anew.
 pub fn no_payload_changes<B>()
     ensures { (decoded : List ℕ → Result (TheMessage B) DecodeError) (tag : Tag) (old new : World) (e : Event)
-        (r : Result (Answer B) Refusal) → IsWorld old → Step decoded old e r new → is_send_of tag r ≡ false
+        (r : Result (AnswerOf B) Refusal) → IsWorld old → Step decoded old e r new → is_send_of tag r ≡ false
         → IsOpen (latest (fates_of tag new.ledger.records)) → entry_in (standing new tag) ≡ entry_in (standing old tag) }
 {}
 
@@ -151,15 +154,14 @@ pub fn no_payload_changes<B>()
 pub fn held_is_what_arrived<B>()
     ensures { (decoded : List ℕ → Result (TheMessage B) DecodeError) (old new : World)
         (moments : List (Moment decoded)) → IsWorld old → IsRun decoded old moments new
-        → (tag : Tag) → IsOpen (latest (fates_of tag new.ledger.records))
-        → bytes_in (held_at new tag) ≡ arrived decoded old moments tag }
+        → HoldsWhatArrived decoded old moments new }
 {}
 
 /// A delivery is out from its send or its resumption on, until a cut, an attach or its settlement: no other
 /// call changes that.
 pub fn out_from_send_or_resumption_on<B>()
     ensures answered { (decoded : List ℕ → Result (TheMessage B) DecodeError) (tag : Tag) (old new : World) (e : Event)
-        (answer : Answer B) → IsWorld old → refusal (tests_of decoded old e) ≡ None → Does decoded old e answer new
+        (answer : AnswerOf B) → IsWorld old → refusal (tests_of decoded old e) ≡ None → Does decoded old e answer new
         → is_out_at new tag ≡ is_out_after tag e answer (is_out_at old tag) }
     ensures refused { (decoded : List ℕ → Result (TheMessage B) DecodeError) (tag : Tag) (old new : World) (e : Event)
         (error : Refusal) → Step decoded old e (Err error) new → is_out_at new tag ≡ is_out_at old tag }

@@ -7,7 +7,8 @@ use Rattle.std.proofs.lemmas.List.{append_cancel_left}
 use Rattle.line_text.specs.Hex.{IsHexText, hex_bytes}
 use Rattle.linkrun.specs.Line.{IsNumber, IsBytes, Begins, Says, SaysNoWord, SaysNoNumber, SaysNoBytes}
 use Rattle.linkrun.specs.declared.event.Event.{Event}
-use Rattle.linkrun.specs.declared.event.Event.TheVariants.{Attach, Grant, Send, Arrive, Cut, ResumeNext, PutBackNext, HandOut, Settle, Show, Fate}
+use Rattle.linkrun.specs.declared.event.Event.TheVariants.{Call, Show, Fate}
+use Rattle.amqp_link_worlds.specs.declared.event.Event.TheVariants as call
 
 -- behind the word stands nothing but the text
 pub not_begun : (word line text : List ℕ) (P : List ℕ → Type 0) → line ≡ word ++ text → ¬ (P text) → ¬ (Begins word P line)
@@ -41,7 +42,7 @@ bytes_written word line text (Err error) is digits = (hex_bytes text, (text, is,
 
 -- of the events with a number, the last is read
 pub fate_read : (line : List ℕ) (found : Option ℕ)
-    → ((n : ℕ) → ¬ (Says line (Attach n))) → ((n : ℕ) → ¬ (Says line (Grant n))) → ((n : ℕ) → ¬ (Says line (Arrive n)))
+    → ((n : ℕ) → ¬ (Says line (Call (call.Attach n)))) → ((n : ℕ) → ¬ (Says line (Call (call.Grant n)))) → ((n : ℕ) → ¬ (Says line (Call (call.Arrive n))))
     → MatchOption found ((n : ℕ) → ¬ (Says line (Fate n))) (λ n. Says line (Fate n))
     → MatchOption (option_map Fate found) (SaysNoNumber line) (Says line)
 fate_read line (Some n) attach grant arrive said = said
@@ -49,15 +50,15 @@ fate_read line None attach grant arrive fate = λ n. (attach n, grant n, arrive 
 
 -- an event is a word alone, or has a number or bytes
 no_event : (line : List ℕ) → SaysNoWord line → SaysNoNumber line → SaysNoBytes line → (event : Event) → ¬ (Says line event)
-no_event line words numbers bytes (Attach limit) = (numbers limit).0
-no_event line words numbers bytes (Grant credit) = (numbers credit).1
-no_event line words numbers bytes (Send payload) = (bytes payload).0
-no_event line words numbers bytes (Arrive id) = (numbers id).2
-no_event line words numbers bytes Cut = words.0
-no_event line words numbers bytes ResumeNext = words.1
-no_event line words numbers bytes PutBackNext = words.2
-no_event line words numbers bytes (HandOut tag) = (bytes tag).1
-no_event line words numbers bytes (Settle tag) = (bytes tag).2
+no_event line words numbers bytes (Call (call.Attach limit)) = (numbers limit).0
+no_event line words numbers bytes (Call (call.Grant credit)) = (numbers credit).1
+no_event line words numbers bytes (Call (call.Send payload)) = (bytes payload).0
+no_event line words numbers bytes (Call (call.Arrive id)) = (numbers id).2
+no_event line words numbers bytes (Call call.Cut) = words.0
+no_event line words numbers bytes (Call call.ResumeNext) = words.1
+no_event line words numbers bytes (Call call.PutBackNext) = words.2
+no_event line words numbers bytes (Call (call.HandOut tag)) = (bytes tag).1
+no_event line words numbers bytes (Call (call.Settle tag)) = (bytes tag).2
 no_event line words numbers bytes (Show tag) = (bytes tag).3
 no_event line words numbers bytes (Fate number) = (numbers number).3
 

@@ -3,7 +3,8 @@ use Rattle.std.specs.Prelude.{◌≡◌, ℕ, ◌<◌, ◌^◌, ◌++◌, List, 
 use Rattle.std.specs.Str.Parse.{IsNumeral, digits_value}
 use Rattle.line_text.specs.Hex.{IsHexText, hex_bytes}
 use Rattle.linkrun.specs.declared.event.Event.{Event}
-use Rattle.linkrun.specs.declared.event.Event.TheVariants.{Attach, Grant, Send, Arrive, Cut, ResumeNext, PutBackNext, HandOut, Settle, Show, Fate}
+use Rattle.linkrun.specs.declared.event.Event.TheVariants.{Call, Show, Fate}
+use Rattle.amqp_link_worlds.specs.declared.event.Event.TheVariants as call
 
 -- the text writes n, in decimal digits and nothing else
 pub record IsNumber (text : List ℕ) (n : ℕ) : Type 0 where
@@ -22,26 +23,26 @@ Begins word P line = (rest : List ℕ) × (line ≡ word ++ rest) × P rest
 
 -- the line says the event
 abbrev pub Says : List ℕ → Event → Type 0
-Says line (Attach limit) = Begins (codes "attach ") (λ text. IsNumber text limit) line
-Says line (Grant credit) = Begins (codes "grant ") (λ text. IsNumber text credit) line
-Says line (Send payload) = Begins (codes "send ") (λ text. IsBytes text payload) line
-Says line (Arrive id) = Begins (codes "arrive ") (λ text. IsNumber text id) line
-Says line Cut = line ≡ codes "cut"
-Says line ResumeNext = line ≡ codes "resume"
-Says line PutBackNext = line ≡ codes "putback"
-Says line (HandOut tag) = Begins (codes "handout ") (λ text. IsBytes text tag) line
-Says line (Settle tag) = Begins (codes "settle ") (λ text. IsBytes text tag) line
+Says line (Call (call.Attach limit)) = Begins (codes "attach ") (λ text. IsNumber text limit) line
+Says line (Call (call.Grant credit)) = Begins (codes "grant ") (λ text. IsNumber text credit) line
+Says line (Call (call.Send payload)) = Begins (codes "send ") (λ text. IsBytes text payload) line
+Says line (Call (call.Arrive id)) = Begins (codes "arrive ") (λ text. IsNumber text id) line
+Says line (Call call.Cut) = line ≡ codes "cut"
+Says line (Call call.ResumeNext) = line ≡ codes "resume"
+Says line (Call call.PutBackNext) = line ≡ codes "putback"
+Says line (Call (call.HandOut tag)) = Begins (codes "handout ") (λ text. IsBytes text tag) line
+Says line (Call (call.Settle tag)) = Begins (codes "settle ") (λ text. IsBytes text tag) line
 Says line (Show tag) = Begins (codes "show ") (λ text. IsBytes text tag) line
 Says line (Fate number) = Begins (codes "fate ") (λ text. IsNumber text number) line
 
 -- the line says no event that is a word alone
 abbrev pub SaysNoWord : List ℕ → Type 0
-SaysNoWord line = (¬ (Says line Cut)) × (¬ (Says line ResumeNext)) × (¬ (Says line PutBackNext))
+SaysNoWord line = (¬ (Says line (Call call.Cut))) × (¬ (Says line (Call call.ResumeNext))) × (¬ (Says line (Call call.PutBackNext)))
 
 -- the line says no event with a number
 abbrev pub SaysNoNumber : List ℕ → Type 0
-SaysNoNumber line = (n : ℕ) → (¬ (Says line (Attach n))) × (¬ (Says line (Grant n))) × (¬ (Says line (Arrive n))) × (¬ (Says line (Fate n)))
+SaysNoNumber line = (n : ℕ) → (¬ (Says line (Call (call.Attach n)))) × (¬ (Says line (Call (call.Grant n)))) × (¬ (Says line (Call (call.Arrive n)))) × (¬ (Says line (Fate n)))
 
 -- the line says no event with bytes
 abbrev pub SaysNoBytes : List ℕ → Type 0
-SaysNoBytes line = (bytes : List ℕ) → (¬ (Says line (Send bytes))) × (¬ (Says line (HandOut bytes))) × (¬ (Says line (Settle bytes))) × (¬ (Says line (Show bytes)))
+SaysNoBytes line = (bytes : List ℕ) → (¬ (Says line (Call (call.Send bytes)))) × (¬ (Says line (Call (call.HandOut bytes)))) × (¬ (Says line (Call (call.Settle bytes)))) × (¬ (Says line (Show bytes)))

@@ -2,30 +2,16 @@
 use crate::event::Event;
 use crate::hex::{Hex, HexPieces};
 use amqp_link::{
-    Arrived, Delivery, DeliveryState, DeliveryTag, Fate, Pair, PairError, Payload, Resumed, Sent,
-    Whole,
+    Answer as Returned, Delivery, DeliveryState, DeliveryTag, Event as Call, Fate, Pair, PairError,
+    Payload, Whole,
 };
-use std::fmt;
+use std::{array, fmt};
 
 /// The answer to an event.
 #[derive(Drop)]
 pub enum Answer<'a> {
-    /// How many deliveries are to be resumed.
-    Attached(usize),
-    /// The credit that the sender then has.
-    Granted(u32),
-    /// The tag of the delivery, and how many transfers carry it.
-    Sent(Sent),
-    /// How far the delivery has come, and whether it is whole.
-    Arrived(Arrived),
-    /// The link is interrupted.
-    Cut,
-    /// The tag of the delivery, how many transfers carry its rest, and whether it is resumed or sent again.
-    Resumed(Resumed),
-    /// The tag of the delivery that was put back.
-    PutBack(DeliveryTag),
-    /// The delivery that the receiver handed out.
-    HandedOut(Delivery<Whole>),
+    /// What a call has returned.
+    Called(Returned),
     /// The tag of the delivery that was settled.
     Settled(&'a DeliveryTag),
     /// The pieces that the receiver holds, in order.
@@ -39,20 +25,12 @@ pub enum Answer<'a> {
 /// Does on the pair what the event asks for. A refusal is the pair's own.
 pub fn perform<'a>(pair: &'a mut Pair, event: &'a Event) -> Result<Answer<'a>, PairError> {
     Ok(match event {
-        Event::Attach(limit) => Answer::Attached(pair.attach(*limit)?),
-        Event::Grant(credit) => Answer::Granted(pair.grant(*credit)?),
-        Event::Send(payload) => Answer::Sent(pair.send(payload)?),
-        Event::Arrive(id) => Answer::Arrived(pair.arrive(*id)?),
-        Event::Cut => {
-            pair.cut()?;
-            Answer::Cut
-        }
-        Event::ResumeNext => Answer::Resumed(pair.resume_next()?),
-        Event::PutBackNext => Answer::PutBack(pair.put_back_next()?),
-        Event::HandOut(tag) => Answer::HandedOut(pair.hand_out::<Whole>(tag)?),
-        Event::Settle(tag) => {
-            pair.settle(tag)?;
-            Answer::Settled(tag)
+        Event::Call(call) => {
+            let returned = run_one(pair, call)?;
+            match call {
+                Call::Settle(tag) => Answer::Settled(tag),
+                _ => Answer::Called(returned),
+            }
         }
         Event::Show(tag) => match pair.held(tag) {
             Some(held) => Answer::Joined(held.pieces()),
@@ -65,20 +43,16 @@ pub fn perform<'a>(pair: &'a mut Pair, event: &'a Event) -> Result<Answer<'a>, P
     })
 }
 
+// Runs one call. If there is no room for its answer, it was not made.
+fn run_one(pair: &mut Pair, call: &Call) -> Result<Returned, PairError> {
+    let (mut answers, _) = pair.run(array::from_ref(call));
+    answers.pop().unwrap_or(Err(PairError::OutOfMemory))
+}
+
 impl fmt::Display for Answer<'_> {
     fn fmt<W: fmt::Write>(&self, f: &mut fmt::Formatter<W>) -> fmt::Result {
         match self {
-            Answer::Attached(count) => write!(f, "attached {count}"),
-            Answer::Granted(credit) => write!(f, "credit {credit}"),
-            Answer::Sent(sent) => write_counted(f, "sent", &sent.tag, sent.frames),
-            Answer::Arrived(arrived) => write_arrived(f, arrived),
-            Answer::Cut => f.write_str("cut"),
-            Answer::Resumed(resumed) => {
-                let word = if resumed.resume { "resumed" } else { "resent" };
-                write_counted(f, word, &resumed.tag, resumed.frames)
-            }
-            Answer::PutBack(tag) => write_tagged(f, "back", tag),
-            Answer::HandedOut(delivery) => write_delivery(f, delivery),
+            Answer::Called(returned) => write_returned(f, returned),
             Answer::Settled(tag) => write_tagged(f, "settled", tag),
             Answer::Joined(pieces) => {
                 let bytes = HexPieces(pieces);
@@ -87,6 +61,37 @@ impl fmt::Display for Answer<'_> {
             Answer::Became(fate) => f.write_str(fate_text(fate)),
             Answer::Unknown => f.write_str("unknown"),
         }
+    }
+}
+
+// What a call has returned. A settlement returns no tag.
+fn write_returned<W: fmt::Write>(f: &mut fmt::Formatter<W>, returned: &Returned) -> fmt::Result {
+    match returned {
+        Returned::Attached(count) => write!(f, "attached {count}"),
+        Returned::Granted(credit) => write!(f, "credit {credit}"),
+        Returned::Sent { tag, frames } => write_counted(f, "sent", tag, *frames),
+        Returned::Arrived {
+            tag,
+            section_number,
+            section_offset,
+            whole,
+        } => {
+            let word = if *whole { "whole" } else { "held" };
+            let tag = Hex(tag.as_bytes());
+            write!(f, "{word} {tag} {section_number} {section_offset}")
+        }
+        Returned::Cut => f.write_str("cut"),
+        Returned::Resumed {
+            tag,
+            frames,
+            resume,
+        } => {
+            let word = if *resume { "resumed" } else { "resent" };
+            write_counted(f, word, tag, *frames)
+        }
+        Returned::PutBack(tag) => write_tagged(f, "back", tag),
+        Returned::HandedOut(delivery) => write_delivery(f, delivery),
+        Returned::Settled => f.write_str("settled"),
     }
 }
 
@@ -109,15 +114,6 @@ fn write_counted<W: fmt::Write>(
 ) -> fmt::Result {
     let tag = Hex(tag.as_bytes());
     write!(f, "{word} {tag} {frames}")
-}
-
-// How far a delivery has come.
-fn write_arrived<W: fmt::Write>(f: &mut fmt::Formatter<W>, arrived: &Arrived) -> fmt::Result {
-    let state = if arrived.whole { "whole" } else { "held" };
-    let tag = Hex(arrived.tag.as_bytes());
-    let section = arrived.section_number;
-    let offset = arrived.section_offset;
-    write!(f, "{state} {tag} {section} {offset}")
 }
 
 // A delivery's tag, and the bytes of its message.

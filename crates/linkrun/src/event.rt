@@ -4,31 +4,16 @@ ghost use Rattle.linkrun.specs.declared.event.Event.{Event};
 ghost use Rattle.linkrun.specs.Line.{IsNumber, IsBytes, Begins, Says, SaysNoWord, SaysNoNumber, SaysNoBytes};
 
 use crate::number::parse_number;
-use amqp_link::{DeliveryTag, Payload};
+use amqp_link::{DeliveryTag, Event as Call, Payload};
 use line_text::hex::parse_bytes;
 use std::alloc::{AllocError, Global};
 
 /// What a line asks of the pair.
 #[derive(Drop)]
 pub enum Event {
-    /// `attach LIMIT`: attach both endpoints, with this frame limit in bytes.
-    Attach(u32),
-    /// `grant N`: the receiver grants credit for this many deliveries.
-    Grant(u32),
-    /// `send HEX`: the sender sends this payload.
-    Send(Payload),
-    /// `arrive ID`: the next transfer arrives, with this delivery id if it begins a delivery.
-    Arrive(u32),
-    /// `cut`: the link is interrupted, and what is under way is lost.
-    Cut,
-    /// `resume`: the sender sends the rest of the next delivery to resume.
-    ResumeNext,
-    /// `putback`: the sender keeps the next delivery to resume, and sends nothing of it.
-    PutBackNext,
-    /// `handout TAG`: the receiver hands out the delivery of this tag.
-    HandOut(DeliveryTag),
-    /// `settle TAG`: both endpoints settle the delivery of this tag as accepted.
-    Settle(DeliveryTag),
+    /// A call: `attach LIMIT`, `grant N`, `send HEX`, `arrive ID`, `cut`, `resume`, `putback`, `handout TAG` or
+    /// `settle TAG`.
+    Call(Call),
     /// `show TAG`: what the receiver holds of the delivery of this tag.
     Show(DeliveryTag),
     /// `fate N`: what became of the sender's registration of this number, counted from 0.
@@ -58,9 +43,9 @@ fn event_of_a_word(line: &[u8]) -> Option<Event>
     ensures { MatchOption result (SaysNoWord line.now) (Says line.now) }
 {
     match line {
-        b"cut" => Some(Event::Cut),
-        b"resume" => Some(Event::ResumeNext),
-        b"putback" => Some(Event::PutBackNext),
+        b"cut" => Some(Event::Call(Call::Cut)),
+        b"resume" => Some(Event::Call(Call::ResumeNext)),
+        b"putback" => Some(Event::Call(Call::PutBackNext)),
         _ => None,
     }
 }
@@ -70,13 +55,13 @@ fn event_with_number(line: &[u8]) -> Option<Event>
     ensures { MatchOption result (SaysNoNumber line.now) (Says line.now) }
 {
     if let Some(limit) = number_after(b"attach ", line) {
-        return Some(Event::Attach(limit));
+        return Some(Event::Call(Call::Attach(limit)));
     }
     if let Some(credit) = number_after(b"grant ", line) {
-        return Some(Event::Grant(credit));
+        return Some(Event::Call(Call::Grant(credit)));
     }
     if let Some(id) = number_after(b"arrive ", line) {
-        return Some(Event::Arrive(id));
+        return Some(Event::Call(Call::Arrive(id)));
     }
     number_after(b"fate ", line).map(Event::Fate)
 }
@@ -88,13 +73,13 @@ fn event_with_bytes(alloc: Global, line: &[u8]) -> Result<Option<Event>, AllocEr
     ensures err { OnErr result ((event : Event) × Says line.now event) }
 {
     if let Some(bytes) = bytes_after(alloc, b"send ", line)? {
-        return Ok(Some(Event::Send(Payload::from_vec(bytes)?)));
+        return Ok(Some(Event::Call(Call::Send(Payload::from_vec(bytes)?))));
     }
     if let Some(bytes) = bytes_after(alloc, b"handout ", line)? {
-        return Ok(Some(Event::HandOut(DeliveryTag::from(bytes))));
+        return Ok(Some(Event::Call(Call::HandOut(DeliveryTag::from(bytes)))));
     }
     if let Some(bytes) = bytes_after(alloc, b"settle ", line)? {
-        return Ok(Some(Event::Settle(DeliveryTag::from(bytes))));
+        return Ok(Some(Event::Call(Call::Settle(DeliveryTag::from(bytes)))));
     }
     if let Some(bytes) = bytes_after(alloc, b"show ", line)? {
         return Ok(Some(Event::Show(DeliveryTag::from(bytes))));

@@ -6,7 +6,7 @@ use Rattle.amqp_link_worlds.specs.Steps.{HandsOutDelivery, LeftByHandOut, hand_o
 use Rattle.amqp_link_worlds.specs.Worlds.{is_together}
 use Rattle.amqp_link_worlds.specs.declared.error.PairError.TheVariants.{OutOfMemory}
 use Rattle.amqp_link_worlds.proofs.WorldLemmas.{Good-from_world}
-use Rattle.amqp_link_pair.specs.Before.{before_decoding}
+use Rattle.amqp_link_worlds.specs.Before.{before_decoding}
 use Rattle.amqp_link_pair.specs.HandingOut.{delivery_tests}
 use Rattle.amqp_link_pair.specs.PairViews.{world_of}
 use Rattle.amqp_link_pair.proofs.HandOutLemmas.{answers_same, can_take, credit_tests_are, hands_out, left_by_hand_out, marks_after, outcome_of, tests_are, with_kept, world_after}

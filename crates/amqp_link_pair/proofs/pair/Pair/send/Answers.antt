@@ -12,7 +12,7 @@ use Rattle.amqp_link_worlds.specs.Worlds.{World, is_together}
 use Rattle.amqp_link_worlds.specs.declared.error.PairError.TheVariants as error
 use Rattle.amqp_link_worlds.proofs.CallLemmas.{can_send}
 use Rattle.amqp_link_worlds.proofs.WorldLemmas.{IsWorld-sends, Good-from_world, nothing_listed, nothing_there, none_hold, not_is_false}
-use Rattle.amqp_link_pair.specs.Before.{before_tag}
+use Rattle.amqp_link_worlds.specs.Before.{before_tag}
 use Rattle.amqp_link_pair.specs.Keeping.{just_sent}
 use Rattle.amqp_link_pair.specs.PairViews.{AreMarked, world_of}
 use Rattle.amqp_link_pair.proofs.MarkLemmas.{marks_entered, not_empty}

@@ -1,0 +1,11 @@
+//! What an application sends, and what it is told of a delivery that ended (OASIS AMQP 1.0 core, 2.6.12 and 3.4).
+#![tactic(auto)]
+
+pub mod outcome;
+pub mod sendable;
+
+pub use outcome::{
+    FromDeliveryFailure, FromDeliveryState, FromPreSettled, RecvError, SendError, SendResult,
+    outcome_of,
+};
+pub use sendable::{Builder, Sendable, Uninitialized};

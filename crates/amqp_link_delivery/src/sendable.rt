@@ -1,0 +1,177 @@
+//! A message with what its transfers state of it (2.7.5, 3.2).
+ghost use Rattle.std.specs.Prelude.{◌≡◌, [], None};
+
+use amqp_link_types::types::{Message, MessageFormat, Payload};
+use std::alloc::AllocError;
+
+/// A message to be sent.
+#[derive(Debug, PartialEq, Eq, Drop)]
+pub struct Sendable<T> {
+    /// The message.
+    pub message: Message<T>,
+    /// The format of the message (2.8.11).
+    pub message_format: MessageFormat,
+    /// Whether it is sent settled. Only a link of sender settle mode `Mixed` asks.
+    pub settled: Option<bool>,
+}
+
+/// No message, yet.
+#[derive(Clone, Copy, Debug, Default, PartialEq, Eq)]
+pub struct Uninitialized;
+
+/// A `Sendable` that is being built: `State` is `Uninitialized`, or the message.
+#[derive(Debug, PartialEq, Eq, Drop)]
+pub struct Builder<State> {
+    /// The message, once there is one.
+    pub message: State,
+    /// The format of the message (2.8.11).
+    pub message_format: MessageFormat,
+    /// Whether it is sent settled.
+    pub settled: Option<bool>,
+}
+
+impl Sendable<Uninitialized> {
+    /// A builder without a message, of format 0, that does not state whether the message is settled.
+    pub fn builder() -> Builder<Uninitialized>
+        ensures { result ≡ record { message = record {}; message_format = 0; settled = None } }
+    {
+        Builder::new()
+    }
+}
+
+impl<T> Sendable<T> {
+    /// This message, of format 0, without a statement whether it is settled.
+    pub fn from_message(message: Message<T>) -> Sendable<T>
+        ensures { result ≡ record { message = message; message_format = 0; settled = None } }
+    {
+        Sendable {
+            message,
+            message_format: 0,
+            settled: None,
+        }
+    }
+
+    /// A message of this body alone, of format 0, without a statement whether it is settled.
+    pub fn from_body(body: T) -> Sendable<T>
+        ensures { result ≡ record {
+          message = record { preamble = []; body = body; footer = [] };
+          message_format = 0;
+          settled = None;
+        } }
+    {
+        Sendable::from_message(Message {
+            preamble: Payload::new(),
+            body,
+            footer: Payload::new(),
+        })
+    }
+}
+
+impl<T: Clone + Drop> Clone for Sendable<T> {
+    ghost use Rattle.amqp_link_delivery.specs.Copies.{IsCopy};
+
+    ghost is_clone = { IsCopy T.is_clone };
+
+    fn clone(&self) -> Result<Sendable<T>, AllocError> {
+        let preamble = self.message.preamble.clone()?;
+        let footer = self.message.footer.clone()?;
+        Ok(Sendable {
+            message: Message {
+                preamble,
+                body: self.message.body.clone()?,
+                footer,
+            },
+            message_format: self.message_format,
+            settled: self.settled,
+        })
+    }
+}
+
+impl Builder<Uninitialized> {
+    /// No message, format 0, and no statement whether it is settled.
+    pub fn new() -> Builder<Uninitialized>
+        ensures { result ≡ record { message = record {}; message_format = 0; settled = None } }
+    {
+        Builder {
+            message: Uninitialized,
+            message_format: 0,
+            settled: None,
+        }
+    }
+}
+
+impl Default for Builder<Uninitialized> {
+    fn default() -> Builder<Uninitialized> {
+        Builder::new()
+    }
+}
+
+impl<State: Drop> Builder<State> {
+    /// The same with this message. One that was there is dropped.
+    pub fn message<T>(self, message: Message<T>) -> Builder<Message<T>>
+        ensures { result ≡ record {
+          message = message;
+          message_format = self.message_format;
+          settled = self.settled;
+        } }
+    {
+        Builder {
+            message,
+            message_format: self.message_format,
+            settled: self.settled,
+        }
+    }
+}
+
+impl<State> Builder<State> {
+    /// The same with this format.
+    pub fn message_format(self, message_format: MessageFormat) -> Builder<State>
+        ensures { result ≡ record self { message_format = message_format } }
+    {
+        Builder {
+            message: self.message,
+            message_format,
+            settled: self.settled,
+        }
+    }
+
+    /// The same with this statement whether the message is settled.
+    pub fn settled(self, settled: Option<bool>) -> Builder<State>
+        ensures { result ≡ record self { settled = settled } }
+    {
+        Builder {
+            message: self.message,
+            message_format: self.message_format,
+            settled,
+        }
+    }
+}
+
+impl<T> Builder<Message<T>> {
+    /// What was built.
+    pub fn build(self) -> Sendable<T>
+        ensures { result ≡ record {
+          message = self.message;
+          message_format = self.message_format;
+          settled = self.settled;
+        } }
+    {
+        Sendable {
+            message: self.message,
+            message_format: self.message_format,
+            settled: self.settled,
+        }
+    }
+}
+
+impl<T> From<Builder<Message<T>>> for Sendable<T> {
+    ghost from_gives = { λ builder sendable. sendable ≡ record {
+      message = builder.message;
+      message_format = builder.message_format;
+      settled = builder.settled;
+    } };
+
+    fn from(builder: Builder<Message<T>>) -> Sendable<T> {
+        builder.build()
+    }
+}

@@ -1,0 +1,168 @@
+//! Lists of calls, and what holds after any of them.
+ghost use Rattle.std.specs.Prelude.{◌≡◌};
+ghost use Rattle.amqp_link_payloads.specs.Bodies.{whole_message};
+ghost use Rattle.amqp_link_ledger.specs.Fates.{MovesOnce};
+ghost use Rattle.amqp_link_worlds.specs.Invariants.{IsWorld};
+ghost use Rattle.amqp_link_worlds.specs.PairRuns.{HoldsWhatArrived, RunsEvents, Step, is_out_of_memory as is_memory};
+ghost use Rattle.amqp_link_worlds.specs.Worlds.{Good};
+ghost use Rattle.amqp_link_worlds.specs.declared.event.Event.TheVariants as event;
+
+use crate::pair::Pair;
+use amqp_link_types::types::{DeliveryNumber, DeliveryTag, Payload, Whole};
+use amqp_link_worlds::error::PairError;
+use amqp_link_worlds::event::{Answer, Event};
+use std::alloc::Global;
+
+impl Pair {
+    /// Makes these calls in order: what each has returned, and whether all were made.
+    ///
+    /// Room for an answer is made before its call. The run stops, with false, before a call for whose answer there
+    /// is no room, and after a call that is out of memory, whose refusal is then the last answer. Any other refused
+    /// call has changed nothing but what its own clauses say, and the run goes on. To go on after it stopped, run
+    /// the events from the one that was out of memory, or from the first without an answer.
+    ///
+    /// What holds after any list of sends, grants, arrivals, cuts and new attachments: of each delivery whose
+    /// registration is not over, the receiver holds exactly the bytes that arrived over all attachments (`arrived`),
+    /// a front of its payload; what it reports gives the sender exactly the rest; the last transfer completes the
+    /// payload (all three `good`); and each registration is pending, withdrawn, handed out, or resolved once
+    /// (`fates`).
+    ///
+    /// It costs what the calls cost one by one.
+    pub fn run(&mut self, events: &[Event]) -> (Vec<Result<Answer, PairError>>, bool)
+        ensures run { RunsEvents whole_message self.old events.now result.0.items result.1 self.new }
+        ensures arrived { (run : RunsEvents whole_message self.old events.now result.0.items result.1 self.new)
+            → HoldsWhatArrived whole_message self.old run.moments self.new }
+        ensures fates { MovesOnce self.old.ledger.records self.new.ledger.records }
+        ensures good { Good self.new }
+        ensures kept { IsWorld self.new }
+    {
+        let mut answers = Vec::new(self.global());
+        for event in events {
+            if answers.reserve(1).is_err() {
+                return (answers, false);
+            }
+            let answer = self.answer_to(event);
+            let stops = is_out_of_memory(&answer);
+            answers.push_reserved(answer);
+            if stops {
+                return (answers, false);
+            }
+        }
+        (answers, true)
+    }
+
+    // Where answers are kept.
+    fn global(&self) -> Global
+        ensures { IsWorld self.now }
+    {
+        self.alloc
+    }
+
+    // Makes one call.
+    fn answer_to(&mut self, event: &Event) -> Result<Answer, PairError>
+        ensures step { Step whole_message self.old event.now result self.new }
+        ensures kept { IsWorld self.new }
+    {
+        match event {
+            Event::Attach(limit) => self.answer_attach(*limit),
+            Event::Grant(credit) => self.answer_grant(*credit),
+            Event::Send(payload) => self.answer_send(payload),
+            Event::Arrive(id) => self.answer_arrive(*id),
+            Event::Cut => self.answer_cut(),
+            Event::ResumeNext => self.answer_resume_next(),
+            Event::PutBackNext => self.answer_put_back_next(),
+            Event::HandOut(tag) => self.answer_hand_out(tag),
+            Event::Settle(tag) => self.answer_settle(tag),
+        }
+    }
+
+    fn answer_attach(&mut self, limit: u32) -> Result<Answer, PairError>
+        ensures step { Step whole_message self.old (event.Attach limit) result self.new }
+        ensures kept { IsWorld self.new }
+    {
+        Ok(Answer::Attached(self.attach(limit)?))
+    }
+
+    fn answer_grant(&mut self, credit: u32) -> Result<Answer, PairError>
+        ensures step { Step whole_message self.old (event.Grant credit) result self.new }
+        ensures kept { IsWorld self.new }
+    {
+        Ok(Answer::Granted(self.grant(credit)?))
+    }
+
+    fn answer_send(&mut self, payload: &Payload) -> Result<Answer, PairError>
+        ensures step { Step whole_message self.old (event.Send payload.now) result self.new }
+        ensures kept { IsWorld self.new }
+    {
+        let sent = self.send(payload)?;
+        Ok(Answer::Sent {
+            tag: sent.tag,
+            frames: sent.frames,
+        })
+    }
+
+    fn answer_arrive(&mut self, id: DeliveryNumber) -> Result<Answer, PairError>
+        ensures step { Step whole_message self.old (event.Arrive id) result self.new }
+        ensures kept { IsWorld self.new }
+    {
+        let arrived = self.arrive(id)?;
+        Ok(Answer::Arrived {
+            tag: arrived.tag,
+            section_number: arrived.section_number,
+            section_offset: arrived.section_offset,
+            whole: arrived.whole,
+        })
+    }
+
+    fn answer_cut(&mut self) -> Result<Answer, PairError>
+        ensures step { Step whole_message self.old event.Cut result self.new }
+        ensures kept { IsWorld self.new }
+    {
+        self.cut()?;
+        Ok(Answer::Cut)
+    }
+
+    fn answer_resume_next(&mut self) -> Result<Answer, PairError>
+        ensures step { Step whole_message self.old event.ResumeNext result self.new }
+        ensures kept { IsWorld self.new }
+    {
+        let resumed = self.resume_next()?;
+        Ok(Answer::Resumed {
+            tag: resumed.tag,
+            frames: resumed.frames,
+            resume: resumed.resume,
+        })
+    }
+
+    fn answer_put_back_next(&mut self) -> Result<Answer, PairError>
+        ensures step { Step whole_message self.old event.PutBackNext result self.new }
+        ensures kept { IsWorld self.new }
+    {
+        Ok(Answer::PutBack(self.put_back_next()?))
+    }
+
+    fn answer_hand_out(&mut self, tag: &DeliveryTag) -> Result<Answer, PairError>
+        ensures step { Step whole_message self.old (event.HandOut tag.now) result self.new }
+        ensures kept { IsWorld self.new }
+    {
+        Ok(Answer::HandedOut(self.hand_out::<Whole>(tag)?))
+    }
+
+    fn answer_settle(&mut self, tag: &DeliveryTag) -> Result<Answer, PairError>
+        ensures step { Step whole_message self.old (event.Settle tag.now) result self.new }
+        ensures kept { IsWorld self.new }
+    {
+        self.settle(tag)?;
+        Ok(Answer::Settled)
+    }
+}
+
+// Whether a call was out of memory.
+fn is_out_of_memory(answer: &Result<Answer, PairError>) -> bool
+    ensures { result ≡ is_memory answer.now }
+{
+    match answer {
+        Ok(_) => false,
+        Err(error) => matches!(error, PairError::OutOfMemory),
+    }
+}

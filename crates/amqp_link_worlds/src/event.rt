@@ -1,0 +1,73 @@
+//! The calls of a pair as values, and what each returns.
+use amqp_link_types::delivery::Delivery;
+use amqp_link_types::types::{DeliveryNumber, DeliveryTag, Payload, Whole};
+
+/// A call of a pair, with its arguments.
+#[derive(Debug, PartialEq, Eq, Drop)]
+pub enum Event {
+    /// `attach`, at this frame limit in bytes.
+    Attach(u32),
+    /// `grant`, of credit for so many deliveries.
+    Grant(u32),
+    /// `send`, of this payload.
+    Send(Payload),
+    /// `arrive`, with this delivery id.
+    Arrive(DeliveryNumber),
+    /// `cut`.
+    Cut,
+    /// `resume_next`.
+    ResumeNext,
+    /// `put_back_next`.
+    PutBackNext,
+    /// `hand_out`, of the delivery with this tag.
+    HandOut(DeliveryTag),
+    /// `settle`, of the delivery with this tag.
+    Settle(DeliveryTag),
+}
+
+/// What a call of a pair returns that was not refused, if messages have bodies of this type.
+#[derive(Debug, PartialEq, Eq, Drop)]
+pub enum AnswerOf<B> {
+    /// So many deliveries are to be resumed.
+    Attached(usize),
+    /// The sender has this credit.
+    Granted(u32),
+    /// A delivery was sent.
+    Sent {
+        /// The delivery's tag.
+        tag: DeliveryTag,
+        /// The number of its transfers.
+        frames: usize,
+    },
+    /// A transfer arrived.
+    Arrived {
+        /// The tag of its delivery.
+        tag: DeliveryTag,
+        /// The section in which what is held of the delivery ends, counted from 0.
+        section_number: u32,
+        /// The bytes that are held since that section's start.
+        section_offset: u64,
+        /// Whether the delivery's last transfer has arrived.
+        whole: bool,
+    },
+    /// The link was interrupted.
+    Cut,
+    /// The rest of a delivery was sent.
+    Resumed {
+        /// The delivery's tag.
+        tag: DeliveryTag,
+        /// The number of transfers.
+        frames: usize,
+        /// Whether the delivery is resumed: the receiver has something of it. Otherwise it is sent again.
+        resume: bool,
+    },
+    /// The entry of the delivery with this tag was registered again.
+    PutBack(DeliveryTag),
+    /// The receiver has handed out this delivery.
+    HandedOut(Delivery<B>),
+    /// Both endpoints have settled the delivery.
+    Settled,
+}
+
+/// What a call of a pair returns, if bodies are kept as their bytes.
+pub type Answer = AnswerOf<Whole>;
