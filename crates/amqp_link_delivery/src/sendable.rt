@@ -164,14 +164,24 @@ impl<T> Builder<Message<T>> {
     }
 }
 
-impl<T> From<Builder<Message<T>>> for Sendable<T> {
+impl<B> From<Builder<Message<B>>> for Sendable<B> {
     ghost from_gives = { λ builder sendable. sendable ≡ record {
       message = builder.message;
       message_format = builder.message_format;
       settled = builder.settled;
     } };
 
-    fn from(builder: Builder<Message<T>>) -> Sendable<T> {
-        builder.build()
+    // What `build` gives.
+    fn from(built: Builder<Message<B>>) -> Sendable<B> {
+        let Builder {
+            message,
+            message_format,
+            settled,
+        } = built;
+        Sendable {
+            message,
+            message_format,
+            settled,
+        }
     }
 }
