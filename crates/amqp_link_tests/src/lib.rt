@@ -1,9 +1,6 @@
-//! Tests by what `amqp_link` makes public: of a pair worked values, refused growths and lists of calls, and what is
-//! sent and made of a delivery that ended.
+//! Tests of a pair, by what it makes public: worked values, refused growths, and lists of calls.
 #![tactic(auto)]
 
-#[cfg(test)]
-mod deliveries;
 #[cfg(test)]
 mod interrupted;
 #[cfg(test)]
