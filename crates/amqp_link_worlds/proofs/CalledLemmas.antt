@@ -15,7 +15,7 @@ use Rattle.amqp_link_worlds.specs.declared.event.Event.TheVariants.{Attach, Gran
 use Rattle.amqp_link_worlds.specs.Steps.{Tests, LeftByAttach, LeftByHandOut, grant_tests, arrive_tests, cut_tests, next_tests, settle_tests, is_halfway_at_other}
 use Rattle.amqp_link_worlds.specs.Worlds.{World, is_together}
 use Rattle.amqp_link_worlds.specs.declared.error.PairError.{PairError}
-use Rattle.amqp_link_worlds.specs.declared.error.PairError.TheVariants.{AlreadyAttached, LimitChanged, LimitTooSmall, OutOfMemory, NotAttached, StillHandedOut, NothingToResume, UnknownTag, NotWhole, ResumeFirst, OnWire, WireEmpty, Decode}
+use Rattle.amqp_link_worlds.specs.declared.error.PairError.TheVariants.{AlreadyAttached, LimitChanged, LimitTooSmall, OutOfMemory, Decode}
 
 -- ---- answers
 
@@ -27,57 +27,38 @@ pub exactly_or : {A : Type 0} (r : Result A PairError) (tests : Tests) → Answe
 exactly_or (Ok a) tests h = h
 exactly_or (Err e) tests h = inr h
 
--- none of these tests names that a call is out of memory
+-- whether an error is that a call is out of memory
+abbrev is_memory : PairError → Bool
+is_memory OutOfMemory = true
+is_memory error = false
+
+-- none of these tests names it
 abbrev NamesNone : Tests → Type 0
 NamesNone [] = Unit {0}
-NamesNone (test ∷ tests) = (test.1 ≢ OutOfMemory) × NamesNone tests
+NamesNone (test ∷ tests) = (is_memory test.1 ≡ false) × NamesNone tests
 
-needs_none : (tests : Tests) → NamesNone tests → refusal tests ≢ Some OutOfMemory
-needs_none [] names h = cc
-needs_none (test ∷ tests) names h = by test.0 (needs_none tests names.1) h
+none_names_it : (tests : Tests) → NamesNone tests → refusal tests ≢ Some OutOfMemory
+none_names_it [] names h = cc
+none_names_it (test ∷ tests) names h = by test.0 (none_names_it tests names.1) h
   where
     by : (holds : Bool) → (refusal tests ≡ Some OutOfMemory → ⊥) → refusal ((holds, test.1) ∷ tests) ≡ Some OutOfMemory → ⊥
-    by true rest h = names.0 (some_is h)
+    by true rest h = false_is_not_true (sym names.0 ∙ ap is_memory (some_is h))
     by false rest h = rest h
 
-not_attached : NotAttached ≢ OutOfMemory
-not_attached h = cc
-
-wire_empty : WireEmpty ≢ OutOfMemory
-wire_empty h = cc
-
-still_handed_out : StillHandedOut ≢ OutOfMemory
-still_handed_out h = cc
-
-nothing_to_resume : NothingToResume ≢ OutOfMemory
-nothing_to_resume h = cc
-
-unknown_tag : UnknownTag ≢ OutOfMemory
-unknown_tag h = cc
-
-not_whole : NotWhole ≢ OutOfMemory
-not_whole h = cc
-
-resume_first : ResumeFirst ≢ OutOfMemory
-resume_first h = cc
-
-on_wire : OnWire ≢ OutOfMemory
-on_wire h = cc
-
 pub grant_needs_none : (w : World) → refusal (grant_tests w) ≢ Some OutOfMemory
-grant_needs_none w = needs_none (grant_tests w) (not_attached, tt)
+grant_needs_none w = none_names_it (grant_tests w) (refl, tt)
 
 pub arrive_needs_none : (w : World) → refusal (arrive_tests w) ≢ Some OutOfMemory
-arrive_needs_none w = needs_none (arrive_tests w) (not_attached, (wire_empty, tt))
+arrive_needs_none w = none_names_it (arrive_tests w) (refl, (refl, tt))
 
 pub cut_needs_none : (w : World) → refusal (cut_tests w) ≢ Some OutOfMemory
-cut_needs_none w = needs_none (cut_tests w) (not_attached, (still_handed_out, tt))
+cut_needs_none w = none_names_it (cut_tests w) (refl, (refl, tt))
 
 pub next_needs_none : (w : World) → refusal (next_tests w) ≢ Some OutOfMemory
-next_needs_none w = needs_none (next_tests w) (not_attached, (nothing_to_resume, tt))
+next_needs_none w = none_names_it (next_tests w) (refl, (refl, tt))
 
 pub settle_needs_none : (w : World) (tag : Tag) → refusal (settle_tests w tag) ≢ Some OutOfMemory
-settle_needs_none w tag = needs_none (settle_tests w tag) (not_attached, (unknown_tag, (not_whole, (resume_first, (on_wire, tt)))))
+settle_needs_none w tag = none_names_it (settle_tests w tag) (refl, (refl, (refl, (refl, (refl, tt)))))
 
 -- what a call returns that is out of memory only if no test holds
 pub memory_last : {A : Type 0} (r : Result A PairError) (tests : Tests) → refusal tests ≢ Some OutOfMemory → AnswersThenOutOfMemory OutOfMemory r tests → IsErrOf r OutOfMemory
