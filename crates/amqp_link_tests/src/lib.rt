@@ -1,6 +1,9 @@
-//! Tests of a pair, by what it makes public: worked values, refused growths, and lists of calls.
+//! Tests by what `amqp_link` makes public: of a pair worked values, refused growths and lists of calls; and a copy of
+//! what is sent.
 #![tactic(auto)]
 
+#[cfg(test)]
+mod deliveries;
 #[cfg(test)]
 mod interrupted;
 #[cfg(test)]
