@@ -1,7 +1,9 @@
 pub use Rattle.amqp_link_core.specs.AttachFields
 pub use Rattle.amqp_link_core.specs.AttachSent
+pub use Rattle.amqp_link_core.specs.AttachTests
 pub use Rattle.amqp_link_core.specs.Attaching
 pub use Rattle.amqp_link_core.specs.Detaching
+pub use Rattle.amqp_link_core.specs.Failing
 pub use Rattle.amqp_link_core.specs.Held
 pub use Rattle.amqp_link_core.specs.IncompleteRefusals
 pub use Rattle.amqp_link_core.specs.LinkStates
@@ -52,6 +54,8 @@ pub use Rattle.amqp_link_values.specs.Length
 pub use Rattle.amqp_link_values.specs.Same
 pub use Rattle.amqp_link_values.specs.SameLaws
 pub use Rattle.amqp_link_values.specs.View
+pub use Rattle.amqp_link_verification.specs.Filters
+pub use Rattle.amqp_link_verification.specs.Termini
 pub use Rattle.amqp_link_worlds.specs.Before
 pub use Rattle.amqp_link_worlds.specs.PairRuns
 pub use Rattle.amqp_link_worlds.specs.Resumptions

@@ -1,7 +1,7 @@
 -- Pieces that can be counted, and such as cannot.
-use Rattle.std.proofs.Common.{◌≡◌, ◌+◌, ◌-◌, ◌<◌, ◌≤◌, ◌^◌, ℕ, Bool, true, false, ◌||◌, not, List, length, sym, ap, ◌∙◌, refl, arith, ◌∷◌, [], ◌++◌, subst, filter}
+use Rattle.std.proofs.Common.{◌≡◌, ◌<◌, ◌≤◌, ◌^◌, ℕ, Bool, true, false, ◌||◌, not, List, length, sym, ap, ◌∙◌, refl, arith, ◌∷◌, [], ◌++◌, subst}
 use Rattle.std.specs.List.{concat, range_with_len}
-use Rattle.std.specs.Prelude.{Option, Some, None, SomeIff, nat_le}
+use Rattle.std.specs.Prelude.{Some, None, SomeIff, nat_le}
 use Rattle.std.proofs.lemmas.Bool.Decides.{nat_tests}
 use Rattle.std.proofs.lemmas.Bool.{cases_lt}
 use Rattle.std.proofs.lemmas.List.Filters.{length-filter_both}

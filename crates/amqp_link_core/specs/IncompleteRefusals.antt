@@ -1,5 +1,5 @@
 -- Why a transfer of a delivery is refused (OASIS AMQP 1.0 core, 2.7.5).
-use Rattle.std.specs.Prelude.{◌^◌, ℕ, Bool, false, not, ◌||◌, List, [], ◌∷◌, ◌++◌, length, nat_eq, nat_le, Option, Some, None, is_none}
+use Rattle.std.specs.Prelude.{◌^◌, ℕ, Bool, false, not, ◌||◌, List, [], ◌∷◌, ◌++◌, length, nat_eq, nat_le, Option, Some, is_none}
 use Rattle.std.specs.Str.{bytes_eq}
 use Rattle.amqp_link_types.specs.declared.types.transfer.Transfer.{Transfer}
 use Rattle.amqp_link_types.specs.declared.types.errors.ReceiverTransferError.{ReceiverTransferError}

@@ -8,8 +8,10 @@ pub use Rattle.amqp_link_types.specs.Refusals
 pub use Rattle.amqp_link_types.specs.Size
 pub mod AttachFields
 pub mod AttachSent
+pub mod AttachTests
 pub mod Attaching
 pub mod Detaching
+pub mod Failing
 pub mod Held
 pub mod IncompleteRefusals
 pub mod LinkStates

@@ -1,5 +1,6 @@
 -- What becomes of an unsettled delivery as its link is attached again (OASIS AMQP 1.0 core, 2.6.13).
 use Rattle.std.specs.Prelude.{◌≡◌, ℕ, Bool, true, false, List, drop, ◌&&◌, ◌||◌, ◌==◌, nat_lt, option_map, unwrap_or, Option, Some, None, IsSome, Result, Ok, if◌then◌else◌}
+use Rattle.amqp_link_types.specs.DeliveryStates.{carries_more}
 use Rattle.amqp_link_types.specs.Entries.{Tag}
 use Rattle.amqp_link_payloads.specs.Position.{place}
 use Rattle.amqp_link_types.specs.declared.delivery.UnsettledMessage.{UnsettledMessage}
@@ -118,6 +119,15 @@ abbrev pub outcome_by : PlannedResolution → UnsettledMessage → Option (Resul
 outcome_by plan.LocalOutcome entry = Some (Ok entry.state)
 outcome_by (plan.RemoteOutcome state) entry = Some (Ok (Some state))
 outcome_by _ entry = None
+
+-- the state or the outcome carries an error or annotations, which a copy allocates
+abbrev pub does_carry : Option DeliveryState → Bool
+does_carry None = false
+does_carry (Some state) = carries_more state
+
+abbrev pub does_outcome_carry : Option (Result (Option DeliveryState) LinkStateError) → Bool
+does_outcome_carry (Some (Ok state)) = does_carry state
+does_outcome_carry _ = false
 
 abbrev pub is_ended_by : PlannedResolution → Bool
 is_ended_by plan.LocalOutcome = true

@@ -3,9 +3,9 @@
 //!
 //! Contracts speak of an endpoint by the record of all that it shows. Each change that a call can make
 //! has one law: the record afterwards is the record before with these fields replaced.
-ghost use Rattle.std.specs.Prelude.{◌≡◌, ◌⊎◌, Bool, false, List, []};
+ghost use Rattle.std.specs.Prelude.{◌≡◌, ◌⊎◌, Bool, true, false, List, []};
 ghost use Rattle.std.specs.Prelude.{ℕ, if◌then◌else◌, unwrap_or};
-ghost use Rattle.std.specs.Prelude.{Option, None, Some, Ok, Err, MatchOption, MatchResult, IfOk, IfErr, IfNone, IsErrAnd, IsErrOf, OnErr, is_none};
+ghost use Rattle.std.specs.Prelude.{Option, None, Some, Ok, Err, MatchOption, MatchResult, IfOk, IfErr, IfNone, IfSome, IsErrAnd, IsErrOf, OnErr, is_none};
 ghost use Rattle.std.specs.Borrow.{Lends, sem};
 ghost use Rattle.std.specs.contracts.option.Option.{the_row as option_row};
 ghost use Rattle.amqp_link_types.specs.contracts.types.definitions.OutputHandle.{the_row as handle_row};
@@ -26,6 +26,7 @@ ghost use Rattle.amqp_link_core.specs.Shown.{Shown, shown_attached, shown_taken,
 pub mod attached;
 pub mod detached;
 pub mod dividing;
+pub mod failing;
 pub mod steps;
 pub mod table;
 pub mod target;
@@ -175,13 +176,20 @@ pub trait LinkAttach: LinkDetach {
     // the state after the attach.
     ghost exchanged: { Self.Unsettled → States → TheState → Self.AttachExchange → Type 0 };
 
+    // The errors that carry a list: there may be no memory for it.
+    ghost is_listing: { Self.AttachError → Bool };
+
+    // Whether there is anything for which taking it allocates.
+    ghost allocates: { Self → TheAttach → Bool };
+
     // What stays of it in the endpoint after each refusal.
     ghost left: { Self.AttachError → Self → TheAttach → Self };
 
     /// Takes the peer's attach, and exchanges the unsettled deliveries of both endpoints (2.6.13): a
     /// sender's are resolved, a receiver's stay. Illegal state, with nothing changed, if there is no
     /// transition from this state; else the state moves, also if the attach is refused: what more of it
-    /// stays then is stated at each endpoint. Out of memory comes after all refusals, with nothing changed.
+    /// stays then is stated at each endpoint. Out of memory comes after all refusals, or in place of one
+    /// whose error carries a list, with nothing changed.
     fn on_incoming_attach(
         &mut self,
         attach: Attach,
@@ -192,7 +200,9 @@ pub trait LinkAttach: LinkDetach {
         ensures refused { MatchResult result
             (λ _. refusal_of self.old attach ≡ None)
             (λ error. (error ≡ out_of_memory) ⊎ (refusal_of self.old attach ≡ Some error)) }
-        ensures memory { IsErrOf result out_of_memory → refusal_of self.old attach ≡ None }
+        ensures memory { IsErrOf result out_of_memory
+            → IfSome (refusal_of self.old attach) (λ error. is_listing error ≡ true) }
+        ensures growth { IsErrOf result out_of_memory → allocates self.old attach ≡ true }
         ensures left { IfErr result (λ error. self.new ≡ left error self.old attach) }
         ensures step { MatchOption (next_of (Self.shown self.old).local_state attach)
             (IsErrAnd result (λ error. error ≡ illegal_attach))

@@ -26,8 +26,8 @@ pub struct LinkParts<T: Drop> {
     /// The greatest size of a frame in bytes: its header of four bytes and its body. A peer's limit
     /// that counts four bytes of size in front as well is handed in less these four.
     pub max_frame_size: u32,
-    /// Whether the source that comes is to be verified. It has no effect yet.
+    /// Whether the source of the peer's attach is to be verified (3.5.3), if this endpoint has one.
     pub verify_incoming_source: bool,
-    /// Whether the target that comes is to be verified. It has no effect yet.
+    /// Whether the target of the peer's attach is to be verified (3.5.4), if this endpoint has one.
     pub verify_incoming_target: bool,
 }

@@ -6,14 +6,13 @@ ghost use Rattle.std.specs.Prelude.{◌≡◌, true, None, Some, IsSome, IsTrue,
 ghost use Rattle.amqp_link_types.specs.Entries.{Tag};
 ghost use Rattle.amqp_link_core.specs.Resuming.{front, ended, sender_report, IsPlannedOf, IsPlannedFor};
 ghost use Rattle.amqp_link_core.specs.Resuming.{is_resumed, row, resolution, resolution_by, outcome_by};
-ghost use Rattle.amqp_link_core.specs.Resuming.{does_carry_tag, is_restated, is_ended_by};
+ghost use Rattle.amqp_link_core.specs.Resuming.{does_carry_tag, is_restated, is_ended_by, does_carry, does_outcome_carry};
 
 pub(crate) mod states;
 
 use crate::resumption::states::{has_ended_as, is_past, rest_of};
 use amqp_link_types::delivery::{DeliveryOutcome, UnsettledMessage};
 use amqp_link_types::types::{DeliveryState, DeliveryTag, MessageFormat, Payload, has_ended};
-use amqp_link_values::copy::copy_of;
 use std::alloc::AllocError;
 
 /// What a sender sends of a delivery as its link is attached again (2.6.13).
@@ -97,15 +96,16 @@ impl PlannedResolution {
     }
 
     /// A copy of the outcome with which a delivery ends that has this entry, none if it has not ended.
-    /// Only a state that carries an error or fields allocates.
+    /// Only a state that carries an error or annotations allocates.
     pub fn copy_of_outcome(
         &self,
         local: &UnsettledMessage,
     ) -> Result<Option<DeliveryOutcome>, AllocError>
-        ensures { IfOk result (λ copy. copy ≡ outcome_by self.now local.now) }
+        ensures copy { IfOk result (λ copy. copy ≡ outcome_by self.now local.now) }
+        ensures memory { OnErr result (does_outcome_carry (outcome_by self.now local.now) ≡ true) }
     {
         match self {
-            PlannedResolution::LocalOutcome => Ok(Some(Ok(copy_of(&local.state)?))),
+            PlannedResolution::LocalOutcome => Ok(Some(Ok(copy_of_state(&local.state)?))),
             PlannedResolution::RemoteOutcome(state) => Ok(Some(Ok(Some(state.clone()?)))),
             _ => Ok(None),
         }
@@ -146,6 +146,17 @@ impl PlannedResolution {
             }
             PlannedResolution::RestateOutcome => restated(tag, local),
         }
+    }
+}
+
+// A copy of a state that may be absent: only an error or annotations allocate.
+fn copy_of_state(state: &Option<DeliveryState>) -> Result<Option<DeliveryState>, AllocError>
+    ensures copy { IfOk result (λ copy. copy ≡ state.now) }
+    ensures memory { OnErr result (does_carry state.now ≡ true) }
+{
+    match state {
+        Some(state) => Ok(Some(state.clone()?)),
+        None => Ok(None),
     }
 }
 

@@ -1,5 +1,5 @@
 -- Worked values of an exchange, found by hand.
-use Rattle.std.proofs.Common.{◌≡◌, [], ◌∷◌, refl, Some, None, List, ℕ, Ok}
+use Rattle.std.proofs.Common.{◌≡◌, [], ◌∷◌, refl, Some, None, List, Ok}
 use Rattle.amqp_link_payloads.specs.Header.{header_len}
 use Rattle.amqp_link_payloads.specs.Position.{starts}
 use Rattle.amqp_link_types.specs.Entries.{Entries}
@@ -9,7 +9,6 @@ use Rattle.amqp_link_core.specs.Attaching.{States}
 use Rattle.amqp_link_core.specs.Resuming.{resolution_by, outcome_by}
 use Rattle.amqp_link_core.specs.declared.resumption.PlannedResolution.TheVariants as plan
 use Rattle.amqp_link_core.specs.declared.resumption.Resolution.TheVariants.{Outcome}
-use Rattle.amqp_link_core.specs.declared.resumption.ResumingDelivery.{ResumingDelivery}
 use Rattle.amqp_link_core.specs.declared.resumption.ResumingDelivery.TheVariants.{Abort, Resend, Resume}
 use Rattle.amqp_link_exchange.specs.Exchanges.{deliveries_to_resume, outcomes_returned, unknown_aborted}
 use Rattle.amqp_link_exchange.specs.Plans.{resumed_count, ended_count}

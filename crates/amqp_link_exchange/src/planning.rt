@@ -1,5 +1,5 @@
 //! The exchange of a sender's unsettled map with the receiver's (2.6.13), in two halves.
-ghost use Rattle.std.specs.Prelude.{◌≡◌, ◌+◌, ◌<◌, ◌≤◌, ◌++◌, ◌∷◌, [], true, None, Some, slice_set, IfOk, OnOk, OnErr, map, length, vec_len, vec_capacity};
+ghost use Rattle.std.specs.Prelude.{◌≡◌, ◌≢◌, ◌+◌, ◌<◌, ◌≤◌, ◌++◌, ◌∷◌, [], true, None, Some, slice_set, IfOk, OnOk, OnErr, map, length, vec_len, vec_capacity};
 ghost use Rattle.amqp_link_types.specs.Entries.{IsMap};
 ghost use Rattle.amqp_link_core.specs.Attaching.{States};
 ghost use Rattle.amqp_link_core.specs.Resuming.{does_carry_tag};
@@ -190,15 +190,18 @@ fn resumed_among(steps: &[Step]) -> usize
 
 impl ExchangePlan {
     /// Copies of the outcomes that `exchange` returns, in their order, for a caller that keeps a record of
-    /// each. Only outcomes that carry an error or fields allocate, and the list.
+    /// each. Only the list allocates, and outcomes that carry an error or annotations: nothing does if no
+    /// delivery has ended.
     pub fn copies_of_outcomes(
         &self,
         alloc: Global,
         own: &UnsettledMap<UnsettledMessage>,
     ) -> Result<Vec<DeliveryOutcome>, AllocError>
         requires { (remote : States) × IsPlanOf self.now own.now remote }
-        ensures { IfOk result (λ copies. (remote : States) → IsPlanOf self.now own.now remote
+        ensures copies { IfOk result (λ copies. (remote : States) → IsPlanOf self.now own.now remote
             → copies.items ≡ map (λ ended. ended.1) (outcomes_returned own.now remote)) }
+        ensures memory { OnErr result ((remote : States) → IsPlanOf self.now own.now remote
+            → outcomes_returned own.now remote ≢ []) }
     {
         let copies = copies_by(alloc, own.pairs(), self.steps.as_slice())?;
         Ok(copies)
@@ -212,7 +215,9 @@ fn copies_by(
     steps: &[Step],
 ) -> Result<Vec<DeliveryOutcome>, AllocError>
     requires { length steps.now ≡ length pairs.now }
-    ensures { IfOk result (λ copies. copies.items ≡ map (λ ended. ended.1) (ended_by_steps pairs.now steps.now)) }
+    ensures copies { IfOk result (λ copies. copies.items
+        ≡ map (λ ended. ended.1) (ended_by_steps pairs.now steps.now)) }
+    ensures memory { OnErr result (ended_by_steps pairs.now steps.now ≢ []) }
 {
     let mut copies = Vec::new(alloc);
     for (i, (_, entry)) in pairs.iter().enumerate() {

@@ -6,7 +6,7 @@ use Rattle.std.specs.List.{filter_map}
 use Rattle.std.proofs.lemmas.Bool.Decides.{nat_tests}
 use Rattle.amqp_link_types.specs.Deliveries.{Ended}
 use Rattle.amqp_link_types.specs.Entries.{Tag, Entries, entry_at}
-use Rattle.amqp_link_types.specs.Refusals.{refusal}
+use Rattle.amqp_link_core.specs.AttachTests.{Tests, refused_if, first_refusal, left_by_first, left_after, left_after_is, refused_leaves}
 use Rattle.amqp_link_types.specs.declared.delivery.UnsettledMessage.{UnsettledMessage}
 use Rattle.amqp_link_types.specs.declared.types.attach.Attach.{Attach}
 use Rattle.amqp_link_types.specs.declared.types.errors.LinkStateError.TheVariants as link_error
@@ -15,16 +15,18 @@ use Rattle.amqp_link_types.specs.declared.types.errors.SenderAttachError.TheVari
 use Rattle.amqp_link_types.specs.declared.types.terminus.TargetArchetype.{TargetArchetype}
 use Rattle.amqp_link_state.specs.declared.state.LinkState.{LinkState}
 use Rattle.amqp_link_state.specs.declared.state.LinkState.TheVariants.{Unattached, AttachSent, IncompleteAttachSent, AttachReceived, IncompleteAttachReceived, Attached, IncompleteAttachExchanged, DetachSent, Detached, CloseSent, Closed}
-use Rattle.amqp_link_core.specs.AttachFields.{next_of, is_foreign}
+use Rattle.amqp_link_core.specs.AttachFields.{next_of, remote_entries}
 use Rattle.amqp_link_core.specs.Attaching.{States}
 use Rattle.amqp_link_core.specs.Resuming.{resolution}
 use Rattle.amqp_link_core.specs.declared.resumption.Resolution.{Resolution}
 use Rattle.amqp_link_core.specs.declared.resumption.Resolution.TheVariants.{Resuming, Outcome}
 use Rattle.amqp_link_exchange.specs.Exchanges.{resolutions, to_resume, to_return, unknown_aborted, deliveries_to_resume, outcomes_returned}
+use Rattle.amqp_link_sender.specs.declared.sender_link.incoming.AttachPlan.{AttachPlan}
+use Rattle.amqp_link_sender.specs.declared.sender_link.incoming.SenderAttachExchange.{SenderAttachExchange}
 use Rattle.amqp_link_sender.specs.declared.sender_link.incoming.SenderAttachExchange.TheVariants as exchange
-use Rattle.amqp_link_sender.specs.SenderAttaches.{all_illegal, is_nothing, resumption_in, exchange_in, disagree, sender_attached, sender_refusal, sender_left}
+use Rattle.amqp_link_sender.specs.SenderAttaches.{all_illegal, is_nothing, resumption_in, exchange_in, disagree, sender_attached, sender_came, sender_targeted, sender_termini_refusal, sender_tests, sender_refusal, sender_left, is_out_of_memory, IsAttachPlan}
 use Rattle.amqp_link_sender.specs.Senders.{Sender}
-use Rattle.amqp_link_ledger.specs.Exchanging.{deliveries_in, given_up}
+use Rattle.amqp_link_ledger.specs.Exchanging.{deliveries_in, given_up, ledger_taken}
 use Rattle.amqp_link_ledger.specs.Fates.{Records, HandsOut, Resolves, after, IsRecorded}
 use Rattle.amqp_link_ledger.specs.Ledgers.{Ledger}
 use Rattle.amqp_link_ledger.proofs.ListSteps.{false_true, entry_at-map, is_some-option_map}
@@ -137,69 +139,92 @@ module _ {T : Type 0} where
 
 -- ---- an attach that is refused
 
--- a test that holds is among the listed ones
-never_illegal : (a b c : Bool) → refusal ((a, error.CoordinatorIsNotImplemented) ∷ (b, error.IncomingTargetIsNone) ∷ (c, error.SndSettleModeNotSupported) ∷ []) ≡ Some error.IllegalState → ⊥
-never_illegal true b c h = cc
-never_illegal false true c h = cc
-never_illegal false false true h = cc
-never_illegal false false false h = cc
+-- the flag names the error of a call that is out of memory
+is_memory : (e : SenderAttachError) → is_out_of_memory e ≡ true → e ≡ error.OutOfMemory
+is_memory (error.SessionStopped why) h = absurd (cc)
+is_memory error.SessionNotMapped h = absurd (cc)
+is_memory error.IllegalState h = absurd (cc)
+is_memory error.NonAttachFrameReceived h = absurd (cc)
+is_memory error.ExpectImmediateDetach h = absurd (cc)
+is_memory (error.RemoteClosedWithError why) h = absurd (cc)
+is_memory error.DuplicatedLinkName h = absurd (cc)
+is_memory error.CoordinatorIsNotImplemented h = absurd (cc)
+is_memory error.IncomingTargetIsNone h = absurd (cc)
+is_memory error.SndSettleModeNotSupported h = absurd (cc)
+is_memory error.SourceAddressIsSomeWhenDynamicIsTrue h = absurd (cc)
+is_memory error.TargetAddressIsNoneWhenDynamicIsTrue h = absurd (cc)
+is_memory error.DynamicNodePropertiesIsSomeWhenDynamicIsFalse h = absurd (cc)
+is_memory error.AttachTooLarge h = absurd (cc)
+is_memory error.OutOfMemory h = refl
 
-never_large : (o a b c : Bool) → refusal ((o, error.IllegalState) ∷ (a, error.CoordinatorIsNotImplemented) ∷ (b, error.IncomingTargetIsNone) ∷ (c, error.SndSettleModeNotSupported) ∷ []) ≡ Some error.AttachTooLarge → ⊥
-never_large true a b c h = cc
-never_large false true b c h = cc
-never_large false false true c h = cc
-never_large false false false true h = cc
-never_large false false false false h = cc
+module _ {T : Type 0} (admitted : TargetArchetype → Option T) (refused : T → T → Option SenderAttachError) (s : Sender T) (attach : Attach) where
+  -- the tests past that for a transition
+  abbrev further : Tests SenderAttachError (Sender T)
+  further =
+      (sender_termini_refusal admitted refused s attach.source attach.target, sender_came s attach)
+      ∷ (refused_if (disagree s.snd_settle_mode attach.snd_settle_mode) error.SndSettleModeNotSupported, sender_targeted admitted s attach)
+      ∷ []
 
-module _ {T : Type 0} (admitted : TargetArchetype → Option T) (s : Sender T) (attach : Attach) where
+  -- all tests, if this is the transition
+  abbrev tests_at : Option LinkState → Tests SenderAttachError (Sender T)
+  tests_at o = (refused_if (is_none o) error.IllegalState, s) ∷ further
+
   -- without a transition
-  pub refused_without : (e : SenderAttachError) → (e ≡ error.OutOfMemory) ⊎ (sender_refusal admitted s attach ≡ Some e) → (e ≡ error.OutOfMemory → sender_refusal admitted s attach ≡ None)
-      → next_of s.local_state attach ≡ None → e ≡ error.IllegalState
+  pub refused_without : (e : SenderAttachError) → (e ≡ error.OutOfMemory) ⊎ (sender_refusal admitted refused s attach ≡ Some e)
+      → (e ≡ error.OutOfMemory → sender_refusal admitted refused s attach ≡ None) → next_of s.local_state attach ≡ None → e ≡ error.IllegalState
   refused_without e why memory none = by why
     where
-      first : sender_refusal admitted s attach ≡ Some error.IllegalState
-      first = ap (λ o. refusal ((is_none o, error.IllegalState) ∷ (is_foreign admitted attach.target, error.CoordinatorIsNotImplemented)
-          ∷ (is_none attach.target, error.IncomingTargetIsNone) ∷ (disagree s.snd_settle_mode attach.snd_settle_mode, error.SndSettleModeNotSupported) ∷ [])) none
+      first : sender_refusal admitted refused s attach ≡ Some error.IllegalState
+      first = ap (λ o. first_refusal (tests_at o)) none
 
-      by : (e ≡ error.OutOfMemory) ⊎ (sender_refusal admitted s attach ≡ Some e) → e ≡ error.IllegalState
+      by : (e ≡ error.OutOfMemory) ⊎ (sender_refusal admitted refused s attach ≡ Some e) → e ≡ error.IllegalState
       by (inl is) = let no = memory is in absurd (cc (no, first))
       by (inr stop) = let is : Some e ≡ Some error.IllegalState = sym stop ∙ first in cc
 
   -- with one the state has moved
-  pub refused_with : (e : SenderAttachError) → (e ≡ error.OutOfMemory) ⊎ (sender_refusal admitted s attach ≡ Some e) → (next : LinkState)
-      → next_of s.local_state attach ≡ Some next → (e ≡ error.OutOfMemory) ⊎ ((sender_left admitted e s attach).local_state ≡ next)
-  refused_with error.CoordinatorIsNotImplemented why next some = inr (ap (λ o. unwrap_or o s.local_state) some)
-  refused_with error.IncomingTargetIsNone why next some = inr (ap (λ o. unwrap_or o s.local_state) some)
-  refused_with error.SndSettleModeNotSupported why next some = inr (ap (λ o. unwrap_or o s.local_state) some)
-  refused_with error.OutOfMemory why next some = inl refl
-  refused_with error.IllegalState (inl is) next some = absurd (cc)
-  refused_with error.IllegalState (inr stop) next some =
-      absurd (never_illegal (is_foreign admitted attach.target) (is_none attach.target) (disagree s.snd_settle_mode attach.snd_settle_mode)
-      (sym (ap (λ o. refusal ((is_none o, error.IllegalState) ∷ (is_foreign admitted attach.target, error.CoordinatorIsNotImplemented)
-      ∷ (is_none attach.target, error.IncomingTargetIsNone) ∷ (disagree s.snd_settle_mode attach.snd_settle_mode, error.SndSettleModeNotSupported) ∷ [])) some) ∙ stop))
-  refused_with error.AttachTooLarge (inl is) next some = absurd (cc)
-  refused_with error.AttachTooLarge (inr stop) next some =
-      absurd (never_large (is_none (next_of s.local_state attach)) (is_foreign admitted attach.target) (is_none attach.target) (disagree s.snd_settle_mode attach.snd_settle_mode) stop)
+  pub refused_with : (e : SenderAttachError) → (e ≡ error.OutOfMemory) ⊎ (sender_refusal admitted refused s attach ≡ Some e) → (next : LinkState)
+      → next_of s.local_state attach ≡ Some next → (e ≡ error.OutOfMemory) ⊎ ((sender_left admitted refused e s attach).local_state ≡ next)
+  refused_with e (inl is) next some = inl is
+  refused_with e (inr stop) next some = by (is_out_of_memory e) refl
+    where
+      moved : unwrap_or (next_of s.local_state attach) s.local_state ≡ next
+      moved = ap (λ o. unwrap_or o s.local_state) some
 
-  module _ (e : SenderAttachError) (why : (e ≡ error.OutOfMemory) ⊎ (sender_refusal admitted s attach ≡ Some e)) (memory : e ≡ error.OutOfMemory → sender_refusal admitted s attach ≡ None) where
+      left : (left_by_first s further).local_state ≡ next
+      left = refused_leaves (λ (l : Sender T). l.local_state ≡ next) s further e (sym (ap (λ o. first_refusal (tests_at o)) some) ∙ stop) (moved, (moved, tt))
+
+      by : (b : Bool) → is_out_of_memory e ≡ b → (e ≡ error.OutOfMemory) ⊎ ((left_after b s (sender_tests admitted refused s attach)).local_state ≡ next)
+      by true h = inl (is_memory e h)
+      by false h = inr (ap (λ (l : Sender T). l.local_state) (ap (λ o. left_by_first s (tests_at o)) some) ∙ left)
+
+  module _ (e : SenderAttachError) (why : (e ≡ error.OutOfMemory) ⊎ (sender_refusal admitted refused s attach ≡ Some e)) (memory : e ≡ error.OutOfMemory → sender_refusal admitted refused s attach ≡ None) where
     pub step_refused : (o : Option LinkState) → next_of s.local_state attach ≡ o
-        → MatchOption o (e ≡ error.IllegalState) (λ next. (e ≡ error.OutOfMemory) ⊎ ((sender_left admitted e s attach).local_state ≡ next))
+        → MatchOption o (e ≡ error.IllegalState) (λ next. (e ≡ error.OutOfMemory) ⊎ ((sender_left admitted refused e s attach).local_state ≡ next))
     step_refused None h = refused_without e why memory h
     step_refused (Some next) h = refused_with e why next h
 
     pub kept_refused : (records : Records) (o : Option LinkState) → next_of s.local_state attach ≡ o
-        → IfNone o (let now : Ledger T = record { link = sender_left admitted e s attach; records = records } in now ≡ record { link = s; records = records })
+        → IfNone o (let now : Ledger T = record { link = sender_left admitted refused e s attach; records = records } in now ≡ record { link = s; records = records })
     kept_refused records None h =
         let is = refused_without e why memory h in
-        let same : sender_left admitted e s attach ≡ s = ap (λ x. sender_left admitted x s attach) is in
+        let first : left_by_first s (sender_tests admitted refused s attach) ≡ s = ap (λ o. left_by_first s (tests_at o)) h in
+        let same : sender_left admitted refused e s attach ≡ s = ap (λ x. sender_left admitted refused x s attach) is ∙ first in
         cc
     kept_refused records (Some next) h = tt
 
   -- no refusal touches the unsettled deliveries
-  pub unsettled-left : (e : SenderAttachError) → (sender_left admitted e s attach).unsettled ≡ s.unsettled
-  unsettled-left error.CoordinatorIsNotImplemented = refl
-  unsettled-left error.IncomingTargetIsNone = refl
-  unsettled-left error.SndSettleModeNotSupported = refl
-  unsettled-left error.IllegalState = refl
-  unsettled-left error.AttachTooLarge = refl
-  unsettled-left error.OutOfMemory = refl
+  pub unsettled-left : (e : SenderAttachError) → (sender_left admitted refused e s attach).unsettled ≡ s.unsettled
+  unsettled-left e = left_after_is (λ (l : Sender T). l.unsettled ≡ s.unsettled) (is_out_of_memory e) s (sender_tests admitted refused s attach) refl (refl, (refl, (refl, tt)))
+
+-- ---- an attach that is taken as it was planned
+
+module _ {T : Type 0} (admitted : TargetArchetype → Option T) (before now : Ledger T) (attach : Attach) (plan : AttachPlan T) (follows : SenderAttachExchange) (outcomes : List Ended) where
+  -- what follows is told by the state in the plan, which is that of the ledger afterwards
+  pub taken_by_plan : IsAttachPlan admitted before.link attach plan → now ≡ ledger_taken admitted before attach
+      → follows ≡ exchange_in plan.next before.link.unsettled (remote_entries attach) → outcomes ≡ outcomes_returned before.link.unsettled (remote_entries attach)
+      → (now ≡ ledger_taken admitted before attach) × ((follows ≡ exchange_in now.link.local_state before.link.unsettled (remote_entries attach))
+      × (outcomes ≡ outcomes_returned before.link.unsettled (remote_entries attach)))
+  taken_by_plan planned taken exchanged ended = (taken, (exchanged ∙ ap (λ state. exchange_in state before.link.unsettled (remote_entries attach)) (sym state), ended))
+    where
+      state : now.link.local_state ≡ plan.next
+      state = ap (λ (l : Ledger T). l.link.local_state) taken ∙ ap (λ o. unwrap_or o before.link.local_state) planned.next

@@ -2,6 +2,7 @@ pub mod BatchLemmas
 pub mod CountLemmas
 pub mod DisposeLemmas
 pub mod ExchangeLemmas
+pub mod FailLemmas
 pub mod FateLemmas
 pub mod LedgerLemmas
 pub mod ListSteps

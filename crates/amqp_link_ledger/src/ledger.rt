@@ -15,6 +15,7 @@ mod closing;
 mod detach;
 mod disposing;
 mod entering;
+mod failing;
 mod incoming;
 mod sending;
 mod shown;

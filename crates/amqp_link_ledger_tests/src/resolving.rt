@@ -4,6 +4,7 @@ use crate::samples::{attach_of, count_tag};
 use amqp_link_core::endpoint::{LinkAttach, LinkDetach, LinkExt};
 use amqp_link_ledger::fate::Fate;
 use amqp_link_ledger::ledger::OutcomeLedger;
+use amqp_link_samples::refusals::{Asked, Refusal, asked_by, at_sender};
 use amqp_link_samples::table::detach;
 use amqp_link_sender::SenderAttachExchange;
 use amqp_link_state::state::LinkState;
@@ -100,8 +101,11 @@ fn new_attach_resolves_all(rt: HostRuntime) {
 #[test]
 fn refused_new_attach_resolves_nothing(rt: HostRuntime) {
     let mut ledger = three_sent(&rt, SenderSettleMode::Mixed);
-    let refused = ledger.send_attach(true).err();
-    assert_eq!(rt; refused, Some(SenderAttachError::IllegalState));
+    let is_illegal = matches!(
+        ledger.send_attach(true),
+        Err(SenderAttachError::IllegalState)
+    );
+    assert!(rt; is_illegal, "there is no transition");
     assert_pending(&rt, &ledger);
     drop(ledger);
 }
@@ -113,10 +117,31 @@ fn refused_attach_resolves_nothing(rt: HostRuntime) {
     reattach(&rt, &mut ledger);
     assert_pending(&rt, &ledger);
     let attach = attach_of(&rt, Role::Receiver, SenderSettleMode::Settled);
-    let refused = ledger.on_incoming_attach(attach).err();
-    assert_eq!(rt; refused, Some(SenderAttachError::SndSettleModeNotSupported));
+    let is_refused = matches!(
+        ledger.on_incoming_attach(attach),
+        Err(SenderAttachError::SndSettleModeNotSupported)
+    );
+    assert!(rt; is_refused, "the modes do not agree");
     assert_pending(&rt, &ledger);
     drop(ledger);
+}
+
+// A link that is closed since its attach has failed resolves nothing.
+#[test]
+fn closed_for_a_failed_attach_resolves_nothing(rt: HostRuntime) {
+    let mut ledger = three_sent(&rt, SenderSettleMode::Mixed);
+    let answer = ledger.handle_attach_error(SenderAttachError::CoordinatorIsNotImplemented);
+    let (error, action) = answer.expect(&rt, "memory");
+    let told = (at_sender(&error), asked_by(&action));
+    drop((error, action));
+    assert_eq!(rt; *ledger.local_state(), LinkState::CloseSent);
+    assert_pending(&rt, &ledger);
+    drop(ledger);
+    let wanted = (
+        Refusal::CoordinatorIsNotImplemented,
+        Asked::CloseAsNotImplemented,
+    );
+    assert_eq!(rt; told, wanted);
 }
 
 // A detach that the peer initiates, and that closes, resolves all; the reply closes as well.

@@ -21,6 +21,7 @@ use Rattle.amqp_link_ledger.specs.Fates.{HandsOut, Resolves, after}
 use Rattle.amqp_link_ledger.specs.Ledgers.{Ledger}
 use Rattle.amqp_link_receiver.specs.ReceiverAttaches.{receiver_shown, receiver_taken}
 use Rattle.amqp_link_receiver.specs.Receivers.{Receiver}
+use Rattle.amqp_link_verification.specs.Termini.{sender_refuses_target}
 use Rattle.amqp_link_sender.specs.SenderAttaches.{sender_refusal, sender_taken, exchange_in}
 use Rattle.amqp_link_sender.specs.declared.sender_link.incoming.SenderAttachExchange.{SenderAttachExchange}
 use Rattle.amqp_link_worlds.specs.Attachable.{CanAttach, CanAsk, CanAnswer, CanTakeAnswered, attach_asked, attach_answered, list_in}
@@ -329,10 +330,10 @@ module _ (limit : ℕ) (w : World) (e : Ends) (at : e.stage ≡ stage.Answered) 
   takes = world_can_take_answered (with_ends w e) limit m.world
 
   -- no test of the sender refuses it
-  pub answer_allowed : sender_refusal plain_target e.ledger.link attach ≡ None
+  pub answer_allowed : sender_refusal plain_target (λ own theirs. sender_refuses_target theirs) e.ledger.link attach ≡ None
   answer_allowed =
-      ap (sender_refusal plain_target e.ledger.link) answer_is
-      ∙ ap (λ s. sender_refusal plain_target s (attach_answered e.receiver e.ledger.link.flow_state.delivery_count)) (sym asking)
+      ap (sender_refusal plain_target (λ own theirs. sender_refuses_target theirs) e.ledger.link) answer_is
+      ∙ ap (λ s. sender_refusal plain_target (λ own theirs. sender_refuses_target theirs) s (attach_answered e.receiver e.ledger.link.flow_state.delivery_count)) (sym asking)
       ∙ takes.allowed
 
   -- the sender and its ledger then

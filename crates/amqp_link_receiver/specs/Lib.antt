@@ -1,7 +1,9 @@
 pub use Rattle.amqp_link_core.specs.AttachFields
 pub use Rattle.amqp_link_core.specs.AttachSent
+pub use Rattle.amqp_link_core.specs.AttachTests
 pub use Rattle.amqp_link_core.specs.Attaching
 pub use Rattle.amqp_link_core.specs.Detaching
+pub use Rattle.amqp_link_core.specs.Failing
 pub use Rattle.amqp_link_core.specs.LinkStates
 pub use Rattle.amqp_link_core.specs.Shown
 pub use Rattle.amqp_link_core.specs.Targets
@@ -18,6 +20,8 @@ pub use Rattle.amqp_link_values.specs.Length
 pub use Rattle.amqp_link_types.specs.Refusals
 pub use Rattle.amqp_link_types.specs.Size
 pub use Rattle.amqp_link_types.specs.Unsettled
+pub use Rattle.amqp_link_verification.specs.Filters
+pub use Rattle.amqp_link_verification.specs.Termini
 pub mod Completing
 pub mod ReceiverAttaches
 pub mod ReceiverDeliveries

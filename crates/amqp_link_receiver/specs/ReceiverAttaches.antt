@@ -1,6 +1,6 @@
 -- The attach that a receiver's end sends, and the one that comes to it (OASIS AMQP 1.0 core, 2.6.3 and
 -- 2.7.3).
-use Rattle.std.specs.Prelude.{◌≡◌, ℕ, Bool, true, false, [], ◌∷◌, Option, Some, None, is_some, is_none, option_map, unwrap_or, if◌then◌else◌, refl}
+use Rattle.std.specs.Prelude.{◌≡◌, ℕ, ◌&&◌, ◌||◌, Bool, true, false, [], ◌∷◌, Option, Some, is_some, is_none, option_map, unwrap_or, if◌then◌else◌, refl}
 use Rattle.amqp_link_state.specs.declared.state.LinkState.{LinkState}
 use Rattle.amqp_link_state.specs.declared.state.LinkState.TheVariants.{IncompleteAttachSent, IncompleteAttachReceived, IncompleteAttachExchanged}
 use Rattle.amqp_link_types.specs.declared.types.attach.Attach.{Attach}
@@ -10,13 +10,16 @@ use Rattle.amqp_link_types.specs.declared.types.errors.ReceiverAttachError.{Rece
 use Rattle.amqp_link_types.specs.declared.types.errors.ReceiverAttachError.TheVariants as error
 use Rattle.amqp_link_types.specs.declared.types.terminus.TargetArchetype.{TargetArchetype}
 use Rattle.amqp_link_types.specs.Entries.{Entries}
-use Rattle.amqp_link_types.specs.Refusals.{refusal}
+use Rattle.amqp_link_types.specs.declared.types.terminus.Source.{Source}
 use Rattle.amqp_link_core.specs.AttachFields.{smaller_limit, merged_properties, is_foreign, next_of}
 use Rattle.amqp_link_core.specs.Attaching.{States}
+use Rattle.amqp_link_core.specs.AttachTests.{Tests, refused_if, verified, first_of, first_refusal, left_after, left_after_is}
+use Rattle.amqp_link_core.specs.Targets.{target_of}
 use Rattle.amqp_link_core.specs.Shown.{Shown, with_terms_of}
 use Rattle.amqp_link_receiver.specs.declared.receiver_link.attach.ReceiverAttachExchange.{ReceiverAttachExchange}
 use Rattle.amqp_link_receiver.specs.declared.receiver_link.attach.ReceiverAttachExchange.TheVariants as exchange
 use Rattle.amqp_link_receiver.specs.Receivers.{Receiver}
+use Rattle.amqp_link_verification.specs.Termini.{receiver_refuses_source}
 
 -- whether an attach states an unsettled delivery
 abbrev pub has_entries : States → Bool
@@ -30,6 +33,16 @@ receiver_exchange_in IncompleteAttachSent true = exchange.IncompleteUnsettled
 receiver_exchange_in IncompleteAttachReceived true = exchange.IncompleteUnsettled
 receiver_exchange_in IncompleteAttachExchanged true = exchange.IncompleteUnsettled
 receiver_exchange_in _ true = exchange.Resume
+
+-- whether an error is that of a call that is out of memory
+abbrev pub is_out_of_memory : ReceiverAttachError → Bool
+is_out_of_memory error.OutOfMemory = true
+is_out_of_memory _ = false
+
+-- whether an error carries a list, for which there may be no memory
+abbrev pub is_listing : ReceiverAttachError → Bool
+is_listing (error.DesiredFilterNotSupported names) = true
+is_listing _ = false
 
 module _ {T : Type 0} where
   -- what a receiver shows, if its target is sent so
@@ -54,15 +67,6 @@ module _ {T : Type 0} where
   }
 
   -- ---- the attach that comes
-
-  -- why it is refused, in this order
-  abbrev pub receiver_refusal : (TargetArchetype → Option T) → Receiver T → Attach → Option ReceiverAttachError
-  receiver_refusal admitted r attach = refusal (
-      (is_none (next_of r.local_state attach), error.IllegalState)
-      ∷ (is_none attach.source, error.IncomingSourceIsNone)
-      ∷ (is_none attach.initial_delivery_count, error.InitialDeliveryCountIsNone)
-      ∷ (is_foreign admitted attach.target, error.CoordinatorIsNotImplemented)
-      ∷ [])
 
   -- it has moved the state, the peer's handle is known, and no delivery is under way, if there is a
   -- transition
@@ -89,20 +93,53 @@ module _ {T : Type 0} where
     };
   }
 
-  -- what stays of it after a refusal
-  abbrev pub receiver_left : ReceiverAttachError → Receiver T → Attach → Receiver T
-  receiver_left error.IncomingSourceIsNone r attach = receiver_came r attach
-  receiver_left error.InitialDeliveryCountIsNone r attach = receiver_sourced r attach
-  receiver_left error.CoordinatorIsNotImplemented r attach = receiver_sourced r attach
-  receiver_left _ r attach = r
+  -- why the peer's source is refused by its verification
+  abbrev pub source_verdict : Receiver T → Source → Option ReceiverAttachError
+  source_verdict r theirs = verified r.verify_incoming_source receiver_refuses_source r.source (Some theirs)
+
+  -- the tests of its source, in order
+  abbrev pub receiver_source_refusal : Receiver T → Option Source → Option ReceiverAttachError
+  receiver_source_refusal r source = first_of (
+      refused_if (is_none source) error.IncomingSourceIsNone
+      ∷ verified r.verify_incoming_source receiver_refuses_source r.source source
+      ∷ [])
+
+  -- The tests of its count and its target, in order. The first parameters say what a target is taken as, and why a
+  -- target of the peer's is refused beside an own one.
+  abbrev pub receiver_target_refusal : (TargetArchetype → Option T) → (T → T → Option ReceiverAttachError) → Receiver T → Option ℕ → Option TargetArchetype → Option ReceiverAttachError
+  receiver_target_refusal admitted refused r count target = first_of (
+      refused_if (is_none count) error.InitialDeliveryCountIsNone
+      ∷ refused_if (is_foreign admitted target) error.CoordinatorIsNotImplemented
+      ∷ verified r.verify_incoming_target refused r.target (target_of admitted target)
+      ∷ [])
+
+  -- all its tests, in order, each with what its refusal leaves
+  abbrev pub receiver_tests : (TargetArchetype → Option T) → (T → T → Option ReceiverAttachError) → Receiver T → Attach → Tests ReceiverAttachError (Receiver T)
+  receiver_tests admitted refused r attach =
+      (refused_if (is_none (next_of r.local_state attach)) error.IllegalState, r)
+      ∷ (receiver_source_refusal r attach.source, receiver_came r attach)
+      ∷ (receiver_target_refusal admitted refused r attach.initial_delivery_count attach.target, receiver_sourced r attach)
+      ∷ []
+
+  -- why it is refused, and what stays of it then
+  abbrev pub receiver_refusal : (TargetArchetype → Option T) → (T → T → Option ReceiverAttachError) → Receiver T → Attach → Option ReceiverAttachError
+  receiver_refusal admitted refused r attach = first_refusal (receiver_tests admitted refused r attach)
+
+  abbrev pub receiver_left : (TargetArchetype → Option T) → (T → T → Option ReceiverAttachError) → ReceiverAttachError → Receiver T → Attach → Receiver T
+  receiver_left admitted refused error r attach = left_after (is_out_of_memory error) r (receiver_tests admitted refused r attach)
+
+  -- Whether taking it allocates: properties of both endpoints are put together, or a refusal names filters.
+  abbrev pub does_taking_allocate : (TargetArchetype → Option T) → (T → T → Option ReceiverAttachError) → Receiver T → Attach → Bool
+  does_taking_allocate admitted refused r attach =
+      is_some (receiver_refusal admitted refused r attach) || (is_some r.flow_state.properties && is_some attach.properties)
 
   -- ---- what a receiver shows then
 
-  pub receiver_shown_after_refusal : (sent_as : T → TargetArchetype) (e : ReceiverAttachError) (r : Receiver T) (attach : Attach)
-      → receiver_shown sent_as (receiver_left e r attach) ≡ with_terms_of (receiver_shown sent_as r) (receiver_shown sent_as (receiver_left e r attach))
-  receiver_shown_after_refusal sent_as error.IncomingSourceIsNone r attach = refl
-  receiver_shown_after_refusal sent_as error.InitialDeliveryCountIsNone r attach = refl
-  receiver_shown_after_refusal sent_as error.CoordinatorIsNotImplemented r attach = refl
-  receiver_shown_after_refusal sent_as error.IllegalState r attach = refl
-  receiver_shown_after_refusal sent_as error.AttachTooLarge r attach = refl
-  receiver_shown_after_refusal sent_as error.OutOfMemory r attach = refl
+  -- a refusal changes nothing but its terms
+  abbrev pub KeepsShown : (T → TargetArchetype) → Receiver T → Receiver T → Type 0
+  KeepsShown sent_as r left = receiver_shown sent_as left ≡ with_terms_of (receiver_shown sent_as r) (receiver_shown sent_as left)
+
+  pub receiver_shown_after_refusal : (sent_as : T → TargetArchetype) (admitted : TargetArchetype → Option T) (refused : T → T → Option ReceiverAttachError)
+      (e : ReceiverAttachError) (r : Receiver T) (attach : Attach) → KeepsShown sent_as r (receiver_left admitted refused e r attach)
+  receiver_shown_after_refusal sent_as admitted refused e r attach =
+      left_after_is (KeepsShown sent_as r) (is_out_of_memory e) r (receiver_tests admitted refused r attach) refl (refl, (refl, (refl, tt)))

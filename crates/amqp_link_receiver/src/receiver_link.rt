@@ -6,6 +6,7 @@ mod completing;
 mod deliveries;
 mod detach;
 mod disposing;
+mod failing;
 mod flow;
 mod shown;
 

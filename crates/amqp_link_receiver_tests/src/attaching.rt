@@ -5,6 +5,7 @@ use crate::transfers::{begins_next, transfer_arrives};
 use amqp_link_core::endpoint::{LinkAttach, LinkExt};
 use amqp_link_receiver::{ReceiverAttachExchange, ReceiverLink, get_max_message_size};
 use amqp_link_samples::nowhere::parts_to_nowhere;
+use amqp_link_samples::refusals::{Refusal, at_receiver};
 use amqp_link_state::state::LinkState;
 use amqp_link_types::types::{
     Attach, Handle, InputHandle, OutputHandle, ReceiverAttachError, ReceiverSettleMode, Role,
@@ -36,7 +37,7 @@ fn properties_that_come_are_taken(rt: HostRuntime) {
     let mut link = ReceiverLink::new(rt.alloc(), parts(&rt, SenderSettleMode::Mixed, 512));
     let mut attach = coming(&rt, Role::Sender, false);
     attach.properties = Some(fields(&rt, "k"));
-    let answer = link.on_incoming_attach(attach);
+    let answer = taken_by(link.on_incoming_attach(attach));
     let wanted = Some(fields(&rt, "k"));
     let is_taken = *link.properties() == wanted;
     drop(wanted);
@@ -65,10 +66,24 @@ fn link_in(rt: &(impl Abort + AllocGlobal), state: LinkState) -> ReceiverLink<Ta
     link
 }
 
+// What follows an attach that arrived, or why it was refused.
+pub(crate) fn taken_by(
+    answer: Result<ReceiverAttachExchange, ReceiverAttachError>,
+) -> Result<ReceiverAttachExchange, Refusal> {
+    match answer {
+        Ok(exchange) => Ok(exchange),
+        Err(error) => {
+            let refusal = at_receiver(&error);
+            drop(error);
+            Err(refusal)
+        }
+    }
+}
+
 // What a link shows after an attach has arrived, and whether the next transfer begins a delivery.
 #[derive(Clone, Copy, Debug, PartialEq, Eq)]
 struct Left {
-    answer: Result<ReceiverAttachExchange, ReceiverAttachError>,
+    answer: Result<ReceiverAttachExchange, Refusal>,
     state: LinkState,
     input_handle: Option<InputHandle>,
     snd_settle_mode: SenderSettleMode,
@@ -79,7 +94,7 @@ struct Left {
 // What an attach leaves of a link in this state.
 fn left_by(rt: &(impl Abort + AllocGlobal), state: LinkState, attach: Attach) -> Left {
     let mut link = link_in(rt, state);
-    let answer = link.on_incoming_attach(attach);
+    let answer = taken_by(link.on_incoming_attach(attach));
     let left = Left {
         answer,
         state: *link.local_state(),
@@ -114,17 +129,17 @@ fn incoming_attach_is_taken_as_far_as_it_goes(rt: HostRuntime) {
         begins: true,
     };
     let uncounted = Left {
-        answer: Err(ReceiverAttachError::InitialDeliveryCountIsNone),
+        answer: Err(Refusal::InitialDeliveryCountIsNone),
         count: 0,
         ..taken
     };
     let sourceless = Left {
-        answer: Err(ReceiverAttachError::IncomingSourceIsNone),
+        answer: Err(Refusal::IncomingTerminusIsNone),
         snd_settle_mode: SenderSettleMode::Mixed,
         ..uncounted
     };
     let untouched = Left {
-        answer: Err(ReceiverAttachError::IllegalState),
+        answer: Err(Refusal::IllegalState),
         state: LinkState::Attached,
         input_handle: Some(InputHandle(0)),
         begins: false,
@@ -152,17 +167,14 @@ fn target_of_another_kind_is_refused(rt: HostRuntime) {
     let mut link = ReceiverLink::new(rt.alloc(), parts);
     assert_eq!(rt; link.input_handle(), None);
     let attach = attach_of(&rt, Role::Sender, SenderSettleMode::Settled);
-    let answer = link.on_incoming_attach(attach);
+    let answer = taken_by(link.on_incoming_attach(attach));
     let left = (
         *link.local_state(),
         link.input_handle().is_some(),
         link.snd_settle_mode(),
     );
     drop(link);
-    assert_eq!(rt;
-        answer,
-        Err(ReceiverAttachError::CoordinatorIsNotImplemented)
-    );
+    assert_eq!(rt; answer, Err(Refusal::CoordinatorIsNotImplemented));
     let wanted = (LinkState::AttachReceived, true, SenderSettleMode::Settled);
     assert_eq!(rt; left, wanted, "what it leaves");
 }

@@ -17,3 +17,5 @@ mod samples;
 mod table;
 #[cfg(test)]
 mod transfers;
+#[cfg(test)]
+mod verifying;

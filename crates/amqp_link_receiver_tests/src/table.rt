@@ -1,9 +1,11 @@
 //! A receiver's end in each of its states: the rows of the standard's table (2.6.3 to 2.6.6), and what
 //! its attaches say.
+use crate::attaching::taken_by;
 use crate::led::lead_to;
 use crate::samples::{coming, count_tag, parts};
 use amqp_link_core::endpoint::{LinkAttach, LinkDetach, LinkExt};
 use amqp_link_receiver::{ReceiverAttachExchange, ReceiverLink};
+use amqp_link_samples::refusals::Refusal;
 use amqp_link_samples::table::{
     Call, STATES, answered, attached, detach, is_illegal, is_illegal_outcome, left, let_go, taken,
     wanted,
@@ -165,9 +167,12 @@ fn attach_that_fits_no_frame_is_refused(rt: HostRuntime) {
         assert_eq!(rt; told, (fits, state), "at {limit}");
     }
     let mut link = link_in(&rt, LinkState::Detached, 29);
-    let refused = link.send_attach(false).err();
+    let is_too_large = matches!(
+        link.send_attach(false),
+        Err(ReceiverAttachError::AttachTooLarge)
+    );
     drop(link);
-    assert_eq!(rt; refused, Some(ReceiverAttachError::AttachTooLarge));
+    assert!(rt; is_too_large, "no entry fits");
 }
 
 // What follows where the sender names a delivery, in full or not.
@@ -175,13 +180,13 @@ fn exchanged(
     rt: &(impl Abort + AllocGlobal),
     state: LinkState,
     incomplete: bool,
-) -> Result<ReceiverAttachExchange, ReceiverAttachError> {
+) -> Result<ReceiverAttachExchange, Refusal> {
     let mut entries = UnsettledMap::new(rt.alloc());
     drop(entries.put(count_tag(rt, 0), None));
     let mut attach = coming(rt, Role::Sender, incomplete);
     attach.unsettled = Some(entries);
     let mut link = link_in(rt, state, 512);
-    let told = link.on_incoming_attach(attach);
+    let told = taken_by(link.on_incoming_attach(attach));
     drop(link);
     told
 }

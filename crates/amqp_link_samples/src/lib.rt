@@ -4,4 +4,5 @@
 
 pub mod links;
 pub mod nowhere;
+pub mod refusals;
 pub mod table;

@@ -2,7 +2,10 @@
 use crate::links::parts;
 use amqp_link_core::endpoint::target::LinkTarget;
 use amqp_link_core::link_parts::LinkParts;
-use amqp_link_types::types::{SenderSettleMode, Target, TargetArchetype};
+use amqp_link_types::types::{
+    ReceiverAttachError, SenderAttachError, SenderSettleMode, Target, TargetArchetype,
+};
+use amqp_link_verification::VerifyTargetArchetype;
 use std::alloc::{AllocError, Global};
 
 /// A target that is sent as another, and takes none that comes.
@@ -37,6 +40,22 @@ impl LinkTarget for Nowhere {
 
     fn from_archetype(_archetype: TargetArchetype) -> Option<Nowhere> {
         None
+    }
+}
+
+impl VerifyTargetArchetype for Nowhere {
+    ghost use Rattle.std.specs.Prelude.{None};
+
+    ghost refused_by_sender = { λ own theirs. None };
+
+    ghost refused_by_receiver = { λ own theirs. None };
+
+    fn verify_as_sender(&self, _other: &Nowhere) -> Result<(), SenderAttachError> {
+        Ok(())
+    }
+
+    fn verify_as_receiver(&self, _other: &Nowhere) -> Result<(), ReceiverAttachError> {
+        Ok(())
     }
 }
 

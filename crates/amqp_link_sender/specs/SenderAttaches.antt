@@ -1,6 +1,6 @@
 -- The attach that a sender's end sends, and the one that comes to it (OASIS AMQP 1.0 core, 2.6.3 and
 -- 2.7.3).
-use Rattle.std.specs.Prelude.{◌≡◌, ℕ, Bool, true, false, List, [], ◌∷◌, ◌==◌, ◌&&◌, length, map, Option, Some, None, is_some, is_none, option_map, unwrap_or, if◌then◌else◌, Err, refl}
+use Rattle.std.specs.Prelude.{◌≡◌, ℕ, Bool, true, false, List, [], ◌∷◌, ◌==◌, ◌&&◌, ◌||◌, not, length, map, Option, Some, is_some, is_none, option_map, unwrap_or, if◌then◌else◌, Err, refl}
 use Rattle.std.specs.Option.{option_or}
 use Rattle.amqp_link_types.specs.declared.delivery.UnsettledMessage.{UnsettledMessage}
 use Rattle.amqp_link_state.specs.declared.state.LinkState.{LinkState}
@@ -14,19 +14,22 @@ use Rattle.amqp_link_types.specs.declared.types.errors.SenderAttachError.{Sender
 use Rattle.amqp_link_types.specs.declared.types.errors.SenderAttachError.TheVariants as error
 use Rattle.amqp_link_types.specs.declared.types.terminus.TargetArchetype.{TargetArchetype}
 use Rattle.amqp_link_types.specs.Entries.{Entries}
-use Rattle.amqp_link_types.specs.Refusals.{refusal}
+use Rattle.amqp_link_types.specs.declared.types.terminus.Source.{Source}
 use Rattle.amqp_link_types.specs.Deliveries.{Ended}
 use Rattle.amqp_link_types.specs.Unsettled.{states_of}
 use Rattle.amqp_link_core.specs.AttachFields.{smaller_limit, merged_properties, is_foreign, next_of, remote_entries}
 use Rattle.amqp_link_core.specs.Attaching.{States}
+use Rattle.amqp_link_core.specs.AttachTests.{Tests, refused_if, verified, first_of, first_refusal, left_after, left_after_is}
 use Rattle.amqp_link_core.specs.declared.resumption.ResumingDelivery.{ResumingDelivery}
 use Rattle.amqp_link_exchange.specs.Exchanges.{deliveries_to_resume}
 use Rattle.amqp_link_exchange.specs.Plans.{IsPlanOf}
 use Rattle.amqp_link_core.specs.Shown.{Shown, stated_count, with_terms_of}
+use Rattle.amqp_link_core.specs.Targets.{target_of}
 use Rattle.amqp_link_sender.specs.declared.sender_link.incoming.AttachPlan.{AttachPlan}
 use Rattle.amqp_link_sender.specs.declared.sender_link.incoming.SenderAttachExchange.{SenderAttachExchange}
 use Rattle.amqp_link_sender.specs.declared.sender_link.incoming.SenderAttachExchange.TheVariants as exchange
 use Rattle.amqp_link_sender.specs.Senders.{Sender}
+use Rattle.amqp_link_verification.specs.Termini.{sender_refuses_source}
 
 -- what becomes of each delivery as the link is attached anew
 abbrev pub all_illegal : Entries UnsettledMessage → List Ended
@@ -47,6 +50,11 @@ resumption_in _ list = exchange.Resume list
 abbrev pub exchange_in : LinkState → Entries UnsettledMessage → States → SenderAttachExchange
 exchange_in state own remote =
     if is_nothing own remote then exchange.Complete else resumption_in state (deliveries_to_resume own remote)
+
+-- whether an error is that of a call that is out of memory
+abbrev pub is_out_of_memory : SenderAttachError → Bool
+is_out_of_memory error.OutOfMemory = true
+is_out_of_memory _ = false
 
 -- whether one end settles what the other leaves unsettled
 abbrev pub disagree : SenderSettleMode → SenderSettleMode → Bool
@@ -91,26 +99,12 @@ module _ {T : Type 0} where
 
   -- ---- the attach that comes
 
-  -- why it is refused, in this order
-  abbrev pub sender_refusal : (TargetArchetype → Option T) → Sender T → Attach → Option SenderAttachError
-  sender_refusal admitted s attach = refusal (
-      (is_none (next_of s.local_state attach), error.IllegalState)
-      ∷ (is_foreign admitted attach.target, error.CoordinatorIsNotImplemented)
-      ∷ (is_none attach.target, error.IncomingTargetIsNone)
-      ∷ (disagree s.snd_settle_mode attach.snd_settle_mode, error.SndSettleModeNotSupported)
-      ∷ [])
-
   -- it has moved the state, and the peer's handle is known, if there is a transition
   abbrev pub sender_came : Sender T → Attach → Sender T
   sender_came s attach = record s {
     local_state = unwrap_or (next_of s.local_state attach) s.local_state;
     input_handle = if is_some (next_of s.local_state attach) then Some (record { 0 = attach.handle.0 }) else s.input_handle;
   }
-
-  -- what its target is taken as
-  abbrev pub target_of : (TargetArchetype → Option T) → Option TargetArchetype → Option T
-  target_of admitted None = None
-  target_of admitted (Some archetype) = admitted archetype
 
   -- and its target and the receiver's mode are taken
   abbrev pub sender_targeted : (TargetArchetype → Option T) → Sender T → Attach → Sender T
@@ -138,12 +132,40 @@ module _ {T : Type 0} where
     pub nothing : plan.is_nothing ≡ is_nothing s.unsettled (remote_entries attach)
     pub exchange : IsPlanOf plan.exchange s.unsettled (remote_entries attach)
 
-  -- what stays of it after a refusal
-  abbrev pub sender_left : (TargetArchetype → Option T) → SenderAttachError → Sender T → Attach → Sender T
-  sender_left admitted error.CoordinatorIsNotImplemented s attach = sender_came s attach
-  sender_left admitted error.IncomingTargetIsNone s attach = sender_came s attach
-  sender_left admitted error.SndSettleModeNotSupported s attach = sender_targeted admitted s attach
-  sender_left admitted _ s attach = s
+  -- why the peer's source is refused by its verification
+  abbrev pub source_verdict : Sender T → Option Source → Option SenderAttachError
+  source_verdict s theirs = verified s.verify_incoming_source (λ own theirs. sender_refuses_source theirs) s.source theirs
+
+  -- The tests of its termini, in order. The first parameters say what a target is taken as, and why a target of
+  -- the peer's is refused beside an own one.
+  abbrev pub sender_termini_refusal : (TargetArchetype → Option T) → (T → T → Option SenderAttachError) → Sender T → Option Source → Option TargetArchetype → Option SenderAttachError
+  sender_termini_refusal admitted refused s source target = first_of (
+      source_verdict s source
+      ∷ refused_if (is_foreign admitted target) error.CoordinatorIsNotImplemented
+      ∷ refused_if (is_none target) error.IncomingTargetIsNone
+      ∷ verified s.verify_incoming_target refused s.target (target_of admitted target)
+      ∷ [])
+
+  -- all its tests, in order, each with what its refusal leaves
+  abbrev pub sender_tests : (TargetArchetype → Option T) → (T → T → Option SenderAttachError) → Sender T → Attach → Tests SenderAttachError (Sender T)
+  sender_tests admitted refused s attach =
+      (refused_if (is_none (next_of s.local_state attach)) error.IllegalState, s)
+      ∷ (sender_termini_refusal admitted refused s attach.source attach.target, sender_came s attach)
+      ∷ (refused_if (disagree s.snd_settle_mode attach.snd_settle_mode) error.SndSettleModeNotSupported, sender_targeted admitted s attach)
+      ∷ []
+
+  -- why it is refused, and what stays of it then
+  abbrev pub sender_refusal : (TargetArchetype → Option T) → (T → T → Option SenderAttachError) → Sender T → Attach → Option SenderAttachError
+  sender_refusal admitted refused s attach = first_refusal (sender_tests admitted refused s attach)
+
+  abbrev pub sender_left : (TargetArchetype → Option T) → (T → T → Option SenderAttachError) → SenderAttachError → Sender T → Attach → Sender T
+  sender_left admitted refused error s attach = left_after (is_out_of_memory error) s (sender_tests admitted refused s attach)
+
+  -- Whether taking it allocates: there are unsettled deliveries to exchange, or properties of both endpoints to
+  -- be put together.
+  abbrev pub does_taking_allocate : Sender T → Attach → Bool
+  does_taking_allocate s attach =
+      not (is_nothing s.unsettled (remote_entries attach)) || (is_some s.flow_state.properties && is_some attach.properties)
 
   -- ---- what a sender shows then
 
@@ -151,11 +173,11 @@ module _ {T : Type 0} where
   abbrev pub sender_target_taken : (T → TargetArchetype) → (TargetArchetype → Option T) → Attach → Option TargetArchetype
   sender_target_taken sent_as admitted attach = option_map sent_as (target_of admitted attach.target)
 
-  pub sender_shown_after_refusal : (sent_as : T → TargetArchetype) (admitted : TargetArchetype → Option T) (e : SenderAttachError) (s : Sender T) (attach : Attach)
-      → sender_shown sent_as (sender_left admitted e s attach) ≡ with_terms_of (sender_shown sent_as s) (sender_shown sent_as (sender_left admitted e s attach))
-  sender_shown_after_refusal sent_as admitted error.CoordinatorIsNotImplemented s attach = refl
-  sender_shown_after_refusal sent_as admitted error.IncomingTargetIsNone s attach = refl
-  sender_shown_after_refusal sent_as admitted error.SndSettleModeNotSupported s attach = refl
-  sender_shown_after_refusal sent_as admitted error.IllegalState s attach = refl
-  sender_shown_after_refusal sent_as admitted error.AttachTooLarge s attach = refl
-  sender_shown_after_refusal sent_as admitted error.OutOfMemory s attach = refl
+  -- a refusal changes nothing but its terms
+  abbrev pub KeepsShown : (T → TargetArchetype) → Sender T → Sender T → Type 0
+  KeepsShown sent_as s left = sender_shown sent_as left ≡ with_terms_of (sender_shown sent_as s) (sender_shown sent_as left)
+
+  pub sender_shown_after_refusal : (sent_as : T → TargetArchetype) (admitted : TargetArchetype → Option T) (refused : T → T → Option SenderAttachError)
+      (e : SenderAttachError) (s : Sender T) (attach : Attach) → KeepsShown sent_as s (sender_left admitted refused e s attach)
+  sender_shown_after_refusal sent_as admitted refused e s attach =
+      left_after_is (KeepsShown sent_as s) (is_out_of_memory e) s (sender_tests admitted refused s attach) refl (refl, (refl, (refl, tt)))

@@ -10,6 +10,7 @@ ghost use Rattle.amqp_link_split.specs.Split.{IsFewestPieces};
 mod attach;
 mod detach;
 mod disposing;
+mod failing;
 mod flow;
 pub mod incoming;
 mod resending;

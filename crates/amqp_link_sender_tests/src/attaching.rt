@@ -4,6 +4,7 @@ use crate::sending::{Told, attached, new_link, send_flagged, told_by, told_by_er
 use amqp_link_core::endpoint::target::LinkTarget;
 use amqp_link_core::endpoint::{LinkAttach, LinkDetach, LinkExt};
 use amqp_link_samples::nowhere::parts_to_nowhere;
+use amqp_link_samples::refusals::{Refusal, at_sender};
 use amqp_link_sender::{SenderAttachExchange, SenderLink};
 use amqp_link_state::state::LinkState;
 use amqp_link_types::delivery::{Outcomes, UnsettledMessage};
@@ -40,16 +41,16 @@ fn shown_by(frame: &LinkFrame) -> Option<Shown> {
 
 fn shown_of(
     sent: &Result<(LinkFrame, Outcomes), SenderAttachError>,
-) -> Result<Option<Shown>, SenderAttachError> {
+) -> Result<Option<Shown>, Refusal> {
     match sent {
         Ok((frame, _)) => Ok(shown_by(frame)),
-        Err(error) => Err(*error),
+        Err(error) => Err(at_sender(error)),
     }
 }
 
 fn shown_in(
     sent: Result<(LinkFrame, Outcomes), SenderAttachError>,
-) -> Result<Option<Shown>, SenderAttachError> {
+) -> Result<Option<Shown>, Refusal> {
     let shown = shown_of(&sent);
     drop(sent);
     shown
@@ -60,7 +61,7 @@ fn sent_at(
     rt: &(impl Abort + AllocGlobal),
     pending: u8,
     limit: u32,
-) -> Result<Option<Shown>, SenderAttachError> {
+) -> Result<Option<Shown>, Refusal> {
     let mut link = detached_after(rt, pending, 0u32.wrapping_sub(u32::from(pending)), false);
     link.set_max_frame_size(limit);
     let shown = shown_in(link.send_attach(false));
@@ -68,11 +69,7 @@ fn sent_at(
     shown
 }
 
-fn as_sent(
-    len: u64,
-    entries: Option<usize>,
-    incomplete: bool,
-) -> Result<Option<Shown>, SenderAttachError> {
+fn as_sent(len: u64, entries: Option<usize>, incomplete: bool) -> Result<Option<Shown>, Refusal> {
     Ok(Some(Shown {
         len: Some(len),
         count: Some(0),
@@ -87,12 +84,12 @@ fn as_sent(
 fn attach_names_what_fits(rt: HostRuntime) {
     for (pending, limit, wanted) in [
         (0u8, 28u32, as_sent(24, None, false)),
-        (0, 27, Err(SenderAttachError::AttachTooLarge)),
+        (0, 27, Err(Refusal::AttachTooLarge)),
         (4, 58, as_sent(54, Some(4), false)),
         (4, 57, as_sent(40, Some(2), true)),
         (4, 37, as_sent(33, Some(1), true)),
         (4, 30, as_sent(26, Some(0), true)),
-        (4, 29, Err(SenderAttachError::AttachTooLarge)),
+        (4, 29, Err(Refusal::AttachTooLarge)),
     ] {
         assert_eq!(rt;
             sent_at(&rt, pending, limit),
@@ -202,8 +199,8 @@ fn reattach_gives_pending_deliveries_up(rt: HostRuntime) {
 fn refused_reattach_keeps_what_is_pending(rt: HostRuntime) {
     let mut link = detached_after(&rt, 3, 0, true);
     assert_eq!(rt; *link.local_state(), LinkState::Closed);
-    let refused = link.send_attach(true).err();
-    assert_eq!(rt; refused, Some(SenderAttachError::IllegalState));
+    let refused = shown_in(link.send_attach(true));
+    assert_eq!(rt; refused, Err(Refusal::IllegalState));
     assert_eq!(rt; link.unsettled().len(), 3);
     drop(link);
 }
@@ -211,15 +208,32 @@ fn refused_reattach_keeps_what_is_pending(rt: HostRuntime) {
 // What a link shows after an attach came.
 #[derive(Clone, Copy, Debug, PartialEq, Eq)]
 struct Left {
-    refused: Option<SenderAttachError>,
+    refused: Option<Refusal>,
     state: LinkState,
     rcv_settle_mode: ReceiverSettleMode,
     max_message_size: Option<u64>,
 }
 
+// Why an attach that came was refused.
+pub(crate) fn refused_by(
+    answer: Result<(SenderAttachExchange, Outcomes), SenderAttachError>,
+) -> Option<Refusal> {
+    match answer {
+        Ok(taken) => {
+            drop(taken);
+            None
+        }
+        Err(error) => {
+            let refusal = at_sender(&error);
+            drop(error);
+            Some(refusal)
+        }
+    }
+}
+
 // A link in this mode, with a limit of 7 bytes a message, to which an attach comes.
 fn left_by<T: LinkTarget>(mut link: SenderLink<T>, attach: Attach) -> Left {
-    let refused = link.on_incoming_attach(attach).err();
+    let refused = refused_by(link.on_incoming_attach(attach));
     let left = Left {
         refused,
         state: *link.local_state(),
@@ -258,7 +272,7 @@ fn incoming_attach_is_taken_as_far_as_it_goes(rt: HostRuntime) {
         taken
     );
     let disagreed = Left {
-        refused: Some(SenderAttachError::SndSettleModeNotSupported),
+        refused: Some(Refusal::SndSettleModeNotSupported),
         max_message_size: Some(7),
         ..taken
     };
@@ -268,7 +282,7 @@ fn incoming_attach_is_taken_as_far_as_it_goes(rt: HostRuntime) {
         disagreed
     );
     let untargeted = Left {
-        refused: Some(SenderAttachError::IncomingTargetIsNone),
+        refused: Some(Refusal::IncomingTerminusIsNone),
         rcv_settle_mode: ReceiverSettleMode::First,
         ..disagreed
     };
@@ -310,7 +324,7 @@ fn target_of_another_kind_is_refused(rt: HostRuntime) {
     let parts = parts_to_nowhere(rt.alloc(), SenderSettleMode::Mixed).expect(&rt, "memory");
     let link = SenderLink::new(rt.alloc(), parts);
     let wanted = Left {
-        refused: Some(SenderAttachError::CoordinatorIsNotImplemented),
+        refused: Some(Refusal::CoordinatorIsNotImplemented),
         state: LinkState::AttachReceived,
         rcv_settle_mode: ReceiverSettleMode::First,
         max_message_size: Some(7),

@@ -1,5 +1,5 @@
 //! Worked values of the exchange of unsettled maps, as a sender is attached again (2.6.13).
-use crate::attaching::reply;
+use crate::attaching::{refused_by, reply};
 use crate::samples::{attach_of, count_tag, payload_of};
 use crate::sending::{Told, attached, new_link, send_flagged, told_by};
 use amqp_link_core::endpoint::target::LinkTarget;
@@ -7,13 +7,14 @@ use amqp_link_core::endpoint::{LinkAttach, LinkDetach, LinkExt};
 use amqp_link_core::resumption::ResumingDelivery;
 use amqp_link_samples::links::went;
 use amqp_link_samples::nowhere::{Nowhere, parts_to_nowhere};
+use amqp_link_samples::refusals::Refusal;
 use amqp_link_sender::sender_link::incoming::{commit_incoming_attach, plan_incoming_attach};
 use amqp_link_sender::{SenderAttachExchange, SenderLink};
 use amqp_link_state::state::LinkState;
 use amqp_link_types::delivery::{DeliveryOutcome, Outcomes, UnsettledMessage};
 use amqp_link_types::types::{
-    Attach, DeliveryState, DeliveryTag, OutputHandle, Payload, Role, SenderAttachError,
-    SenderSettleMode, Target, UnsettledMap,
+    Attach, DeliveryState, DeliveryTag, OutputHandle, Payload, Role, SenderSettleMode, Target,
+    UnsettledMap,
 };
 use std::process::Abort;
 
@@ -612,15 +613,15 @@ fn deliveries_of_one_endpoint_keep_their_order(rt: HostRuntime) {
 }
 
 // Why an attach is refused, and the last bytes of the first two tags in the map then, with their number.
-type Refused = (Option<SenderAttachError>, [Option<u8>; 2], usize);
+type Refused = (Option<Refusal>, [Option<u8>; 2], usize);
 
 fn last_of<T: LinkTarget>(link: &SenderLink<T>, index: usize) -> Option<u8> {
     let (tag, _) = link.unsettled().pair_at(index)?;
     tag.as_bytes().last().copied()
 }
 
-fn refused_by<T: LinkTarget>(mut link: SenderLink<T>, attach: Attach) -> Refused {
-    let refused = link.on_incoming_attach(attach).err();
+fn left_by<T: LinkTarget>(mut link: SenderLink<T>, attach: Attach) -> Refused {
+    let refused = refused_by(link.on_incoming_attach(attach));
     let tags = [last_of(&link, 0), last_of(&link, 1)];
     let pending = link.unsettled().len();
     drop(link);
@@ -629,8 +630,8 @@ fn refused_by<T: LinkTarget>(mut link: SenderLink<T>, attach: Attach) -> Refused
 
 const TWO: [(u8, Known); 2] = [(4, Known::Null), (5, Known::Accepted)];
 
-fn keeps_both(error: SenderAttachError) -> Refused {
-    (Some(error), [Some(4), Some(5)], 2)
+fn keeps_both(refusal: Refusal) -> Refused {
+    (Some(refusal), [Some(4), Some(5)], 2)
 }
 
 // A link with two deliveries, which admits no target.
@@ -658,14 +659,14 @@ fn refused_attaches_resolve_nothing(rt: HostRuntime) {
         let put = went(link.put_back(count_tag(&rt, count), entry_of(known)));
         assert!(rt; put, "a free tag");
     }
-    let illegal = keeps_both(SenderAttachError::IllegalState);
-    assert_eq!(rt; refused_by(link, rejecting(&rt)), illegal);
+    let illegal = keeps_both(Refusal::IllegalState);
+    assert_eq!(rt; left_by(link, rejecting(&rt)), illegal);
     let mut attach = rejecting(&rt);
     attach.target = None;
-    let untargeted = keeps_both(SenderAttachError::IncomingTargetIsNone);
-    assert_eq!(rt; refused_by(attaching_with(&rt, &TWO), attach), untargeted);
-    let other = keeps_both(SenderAttachError::CoordinatorIsNotImplemented);
-    assert_eq!(rt; refused_by(nowhere_with_two(&rt), rejecting(&rt)), other);
+    let untargeted = keeps_both(Refusal::IncomingTerminusIsNone);
+    assert_eq!(rt; left_by(attaching_with(&rt, &TWO), attach), untargeted);
+    let other = keeps_both(Refusal::CoordinatorIsNotImplemented);
+    assert_eq!(rt; left_by(nowhere_with_two(&rt), rejecting(&rt)), other);
 }
 
 // A sender that leaves all unsettled, and a receiver that wants all settled.
@@ -678,8 +679,8 @@ fn attach_of_another_settle_mode_resolves_nothing(rt: HostRuntime) {
     }
     let mut attach = rejecting(&rt);
     attach.snd_settle_mode = SenderSettleMode::Settled;
-    let refused = keeps_both(SenderAttachError::SndSettleModeNotSupported);
-    assert_eq!(rt; refused_by(link, attach), refused);
+    let refused = keeps_both(Refusal::SndSettleModeNotSupported);
+    assert_eq!(rt; left_by(link, attach), refused);
 }
 
 // What `complete_or` returns with 7 for the exchange of these own deliveries with an empty map.

@@ -18,4 +18,6 @@ mod sending;
 #[cfg(test)]
 mod table;
 #[cfg(test)]
+mod verifying;
+#[cfg(test)]
 mod waiting;

@@ -84,6 +84,11 @@ impl Fields {
         self.entries.into_iter()
     }
 
+    /// What the fields were made with, for a list of some of them. Does not allocate.
+    pub fn allocator(&self) -> Global {
+        *self.entries.allocator()
+    }
+
     /// The value under a name.
     pub fn get(&self, name: &Symbol) -> Option<&Value>
         ensures { option_map (λ v. view v.now) result ≡ lookup (bytes_eq name.now) self.now }

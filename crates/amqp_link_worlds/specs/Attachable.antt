@@ -16,6 +16,7 @@ use Rattle.amqp_link_core.specs.Shown.{Shown, attach_stated, counted_attach}
 use Rattle.amqp_link_core.specs.Targets.{plain_target}
 use Rattle.amqp_link_core.specs.declared.resumption.ResumingDelivery.{ResumingDelivery}
 use Rattle.amqp_link_exchange.specs.Exchanges.{deliveries_to_resume}
+use Rattle.amqp_link_verification.specs.Termini.{sender_refuses_target, receiver_refuses_target}
 use Rattle.amqp_link_sender.specs.SenderAttaches.{sender_shown, sender_attached, sender_refusal, sender_taken, exchange_in}
 use Rattle.amqp_link_sender.specs.declared.sender_link.incoming.SenderAttachExchange.{SenderAttachExchange}
 use Rattle.amqp_link_sender.specs.declared.sender_link.incoming.SenderAttachExchange.TheVariants as exchange
@@ -53,7 +54,7 @@ pub record CanAsk (limit : ℕ) (s : Sender Target) : Type 0 where
 
 -- the receiver takes the sender's attach, and is half attached then
 pub record CanTakeAsked (limit : ℕ) (s : Sender Target) (r : Receiver Target) : Type 0 where
-  pub allowed : receiver_refusal plain_target (receiver_at_limit limit r) (attach_asked s) ≡ None
+  pub allowed : receiver_refusal plain_target (λ own theirs. receiver_refuses_target theirs) (receiver_at_limit limit r) (attach_asked s) ≡ None
   pub after : receiver_taken (receiver_at_limit limit r) (attach_asked s) ≡ receiver_half_attached limit s.flow_state.delivery_count r
 
 -- a receiver that is half attached can send its attach, which is then this one, and leaves it attached
@@ -70,7 +71,7 @@ list_in (exchange.Resume list) = list
 
 -- a sender that asks takes the receiver's attach, reads the receiver's map from it, and is attached then
 pub record CanTakeAnswered (limit count : ℕ) (s : Sender Target) (r : Receiver Target) : Type 0 where
-  pub allowed : sender_refusal plain_target (sender_asking limit s) (attach_answered r count) ≡ None
+  pub allowed : sender_refusal plain_target (λ own theirs. sender_refuses_target theirs) (sender_asking limit s) (attach_answered r count) ≡ None
   pub after : sender_taken plain_target (sender_asking limit s) (attach_answered r count) ≡ sender_together limit s
   pub remote : remote_entries (attach_answered r count) ≡ r.unsettled
   pub list : list_in (exchange_in Attached s.unsettled r.unsettled) ≡ deliveries_to_resume s.unsettled r.unsettled

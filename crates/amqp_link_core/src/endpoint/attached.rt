@@ -1,7 +1,7 @@
 //! What an endpoint states in the attach that it sends, and what it takes of one that arrives (2.7.3).
 ghost use Rattle.std.specs.Prelude.{◌≡◌, ◌≢◌, ◌&&◌, ◌||◌, [], true, Some, IfOk, OnErr, is_some};
 ghost use Rattle.std.specs.Option.{option_map, option_or};
-ghost use Rattle.amqp_link_core.specs.AttachFields.{message_limit, smaller_limit, merged_properties, is_foreign as is_foreign_to};
+ghost use Rattle.amqp_link_core.specs.AttachFields.{message_limit, smaller_limit, merged_properties};
 
 use crate::endpoint::target::LinkTarget;
 use amqp_link_types::types::{Fields, Source, TargetArchetype, Text};
@@ -78,16 +78,6 @@ pub fn name_and_properties_of(
 {
     let name = name.clone()?;
     Ok((name, copy_of(properties)?))
-}
-
-/// Whether a target arrived that is not of the link's kind. Does not allocate.
-pub fn is_foreign<T: LinkTarget>(target: Option<TargetArchetype>) -> bool
-    ensures { result ≡ is_foreign_to T.admitted target }
-{
-    match target {
-        Some(archetype) => T::from_archetype(archetype).is_none(),
-        None => false,
-    }
 }
 
 /// What is to take the place of the own properties once those of the peer's attach arrived (2.7.3): the

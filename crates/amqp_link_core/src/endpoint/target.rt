@@ -3,10 +3,11 @@ ghost use Rattle.std.specs.Prelude.{◌≡◌, Option, Some};
 ghost use Rattle.amqp_link_types.specs.declared.types.terminus.TargetArchetype.{TargetArchetype as Archetype};
 
 use amqp_link_types::types::{Target, TargetArchetype};
+use amqp_link_verification::VerifyTargetArchetype;
 
-/// A target that a link can have: it is sent as a `TargetArchetype`, and one that comes is taken
-/// where it is of the link's kind.
-pub trait LinkTarget: Clone + Drop {
+/// A target that a link can have: it is sent as a `TargetArchetype`, and one that arrives is taken
+/// if it is of the link's kind, and can be verified.
+pub trait LinkTarget: Clone + Drop + VerifyTargetArchetype {
     // What is sent for it.
     ghost sent_as: { Self → Archetype };
 

@@ -1,7 +1,7 @@
 //! A ledger is attached (2.6.3, 2.6.4), and its unsettled deliveries are exchanged (2.6.13).
 //!
 //! A delivery that the exchange gives to the user is handed out, one that has ended is resolved.
-ghost use Rattle.std.specs.Prelude.{◌≡◌, IfOk, OnOk, OnErr};
+ghost use Rattle.std.specs.Prelude.{◌≡◌, ◌≢◌, [], IfOk, OnOk, OnErr};
 ghost use Rattle.amqp_link_types.specs.declared.types.attach.Attach.{Attach as TheAttach};
 ghost use Rattle.amqp_link_core.specs.AttachFields.{remote_entries};
 ghost use Rattle.amqp_link_exchange.specs.Exchanges.{outcomes_returned};
@@ -45,6 +45,8 @@ impl<T: LinkTarget> OutcomeLedger<T> {
             → taken.0 ≡ exchange_in plan.next self.old.link.unsettled (remote_entries attach)) }
         ensures outcomes { IfOk result (λ taken. (attach : TheAttach) → IsAttachPlan T.admitted self.old.link attach plan
             → taken.1.items ≡ outcomes_returned self.old.link.unsettled (remote_entries attach)) }
+        ensures memory { OnErr result ((attach : TheAttach) → IsAttachPlan T.admitted self.old.link attach plan
+            → outcomes_returned self.old.link.unsettled (remote_entries attach) ≢ []) }
         ensures left { OnErr result (self.new ≡ self.old) }
     {
         let copies = match plan
@@ -65,10 +67,10 @@ impl<T: LinkTarget> OutcomeLedger<T> {
 }
 
 impl<T: LinkTarget> LinkAttach for OutcomeLedger<T> {
-    ghost use Rattle.std.specs.Prelude.{◌≡◌, [], refl};
+    ghost use Rattle.std.specs.Prelude.{◌≡◌, false, [], refl};
     ghost use Rattle.amqp_link_types.specs.declared.types.errors.SenderAttachError.TheVariants.{IllegalState, AttachTooLarge, OutOfMemory};
     ghost use Rattle.amqp_link_exchange.specs.Exchanges.{outcomes_returned};
-    ghost use Rattle.amqp_link_sender.specs.SenderAttaches.{sender_attached, sender_refusal, sender_left, exchange_in};
+    ghost use Rattle.amqp_link_sender.specs.SenderAttaches.{sender_attached, sender_refusal, sender_left, does_taking_allocate, exchange_in};
     ghost use Rattle.amqp_link_sender.specs.SenderAttaches.{sender_target_taken, sender_shown_after_refusal};
     ghost use Rattle.amqp_link_ledger.specs.Exchanging.{given_up, ledger_taken};
 
@@ -90,7 +92,7 @@ impl<T: LinkTarget> LinkAttach for OutcomeLedger<T> {
 
     ghost out_of_memory = { OutOfMemory };
 
-    ghost refusal_of = { λ ledger. sender_refusal T.admitted ledger.link };
+    ghost refusal_of = { λ ledger. sender_refusal T.admitted T.refused_by_sender ledger.link };
 
     ghost taken = { ledger_taken T.admitted };
 
@@ -99,8 +101,12 @@ impl<T: LinkTarget> LinkAttach for OutcomeLedger<T> {
     ghost exchanged = { λ own remote state answer. (answer.0 ≡ exchange_in state own remote)
         × (answer.1.items ≡ outcomes_returned own remote) };
 
+    ghost is_listing = { λ error. false };
+
+    ghost allocates = { λ ledger. does_taking_allocate ledger.link };
+
     ghost left = { λ error ledger attach.
-        record ledger { link = sender_left T.admitted error ledger.link attach } };
+        record ledger { link = sender_left T.admitted T.refused_by_sender error ledger.link attach } };
 
     ghost errors_differ = { ((λ h. Prim.cc), (λ h. Prim.cc), (λ h. Prim.cc)) };
 
@@ -111,7 +117,7 @@ impl<T: LinkTarget> LinkAttach for OutcomeLedger<T> {
     ghost shown_after_taking = { λ ledger a. refl };
 
     ghost shown_after_refusal = { λ e ledger a.
-        sender_shown_after_refusal T.sent_as T.admitted e ledger.link a };
+        sender_shown_after_refusal T.sent_as T.admitted T.refused_by_sender e ledger.link a };
 
     ghost left_by_memory = { λ ledger a. refl };
 
@@ -130,7 +136,8 @@ impl<T: LinkTarget> LinkAttach for OutcomeLedger<T> {
     /// ended are resolved with the outcomes that are returned, and those of the deliveries in the list are
     /// handed out.
     ///
-    /// Each outcome is copied for its registration, after all tests: `OutOfMemory` leaves all as it was.
+    /// Each outcome is copied for its registration, after all tests: `OutOfMemory` leaves all as it was, and comes
+    /// only if there are deliveries to exchange or properties of both endpoints.
     fn on_incoming_attach(
         &mut self,
         attach: Attach,

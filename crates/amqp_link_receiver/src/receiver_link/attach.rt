@@ -1,6 +1,6 @@
 //! A receiver's end is attached (2.6.3, 2.6.4).
-ghost use Rattle.std.specs.Prelude.{◌≡◌, ◌↔◌, ◌⊎◌, true, false, List, [], if◌then◌else◌};
-ghost use Rattle.std.specs.Prelude.{None, Some, Ok, Err, IfOk, IfErr, IsErrOf, IsTrue, is_none, unwrap_or};
+ghost use Rattle.std.specs.Prelude.{◌≡◌, ◌↔◌, ◌⊎◌, true, false, ℕ, List, [], if◌then◌else◌};
+ghost use Rattle.std.specs.Prelude.{None, Some, Ok, Err, IfOk, IfErr, IsErrOf, IsTrue, MatchResult, is_none, unwrap_or};
 ghost use Rattle.std.specs.Option.{option_or};
 ghost use Rattle.amqp_link_types.specs.declared.frame.LinkFrame.TheVariants as frame;
 ghost use Rattle.amqp_link_core.specs.AttachFields.{remote_entries};
@@ -9,12 +9,14 @@ ghost use Rattle.amqp_link_core.specs.Shown.{counted_attach};
 ghost use Rattle.amqp_link_core.specs.Attaching.{FitsFrame, with_entries};
 ghost use Rattle.amqp_link_core.specs.LinkStates.{Call, next_state};
 ghost use Rattle.amqp_link_receiver.specs.ReceiverAttaches.{has_entries as names_any, receiver_exchange_in as exchanged_in};
-ghost use Rattle.amqp_link_receiver.specs.ReceiverAttaches.{receiver_shown};
+ghost use Rattle.amqp_link_receiver.specs.ReceiverAttaches.{receiver_shown, receiver_target_refusal, source_verdict, is_out_of_memory};
+ghost use Rattle.amqp_link_core.specs.AttachTests.{verified};
+ghost use Rattle.amqp_link_verification.specs.Termini.{verdict};
 
 use crate::receiver_link::ReceiverLink;
 use amqp_link_core::endpoint::LinkAttach;
 use amqp_link_core::endpoint::attached::{
-    get_max_message_size, is_foreign, merged_with, name_and_properties_of, sent_limit, termini_of,
+    get_max_message_size, merged_with, name_and_properties_of, sent_limit, termini_of,
 };
 use amqp_link_core::endpoint::dividing::{divided, fits_whole};
 use amqp_link_core::endpoint::steps::{handle_or_zero, step_of};
@@ -29,6 +31,7 @@ use amqp_link_types::types::{
     SenderSettleMode, SequenceNo, Source, TargetArchetype,
 };
 use amqp_link_values::copy::copies_of;
+use amqp_link_verification::VerifySource;
 use std::alloc::{AllocError, Global};
 
 /// What follows once a receiver's end has exchanged attaches.
@@ -204,17 +207,6 @@ fn read(attach: Attach) -> Incoming
     }
 }
 
-// Why an attach is refused that has a source, and lacks a count or has a foreign target.
-fn refusal_past_source(count: Option<SequenceNo>) -> ReceiverAttachError
-    ensures { result ≡ (if is_none count then ReceiverAttachError.InitialDeliveryCountIsNone
-        else ReceiverAttachError.CoordinatorIsNotImplemented) }
-{
-    match count {
-        None => ReceiverAttachError::InitialDeliveryCountIsNone,
-        Some(_) => ReceiverAttachError::CoordinatorIsNotImplemented,
-    }
-}
-
 fn exchange(state: LinkState, has_entries: bool) -> ReceiverAttachExchange
     ensures { result ≡ exchanged_in state has_entries }
 {
@@ -243,11 +235,91 @@ impl<T: LinkTarget> ReceiverLink<T> {
         self.more = false;
     }
 
+    // Verifies the peer's source beside the own one, if this is asked for. Only the list of the filters that are
+    // missing allocates.
+    fn verify_source(&self, theirs: &Source) -> Result<(), ReceiverAttachError>
+        ensures refused { MatchResult result
+            (λ _. source_verdict self.now theirs.now ≡ None)
+            (λ error. (error ≡ ReceiverAttachError.OutOfMemory) ⊎ (source_verdict self.now theirs.now ≡ Some error)) }
+        ensures memory { IsErrOf result ReceiverAttachError.OutOfMemory → (names : List (List ℕ))
+            × (source_verdict self.now theirs.now ≡ Some (ReceiverAttachError.DesiredFilterNotSupported names)) }
+    {
+        if !self.verify_incoming_source {
+            return Ok(());
+        }
+        match &self.source {
+            Some(own) => own.verify_as_receiver(theirs),
+            None => Ok(()),
+        }
+    }
+
+    // Verifies the peer's target beside the own one, if this is asked for. Does not allocate.
+    fn verify_target(&self, theirs: &T) -> Result<(), ReceiverAttachError>
+        ensures refused { result ≡ verdict (verified self.now.verify_incoming_target
+            T.refused_by_receiver self.now.target (Some theirs.now)) }
+        ensures memory { IsErrOf result ReceiverAttachError.OutOfMemory → ⊥ }
+    {
+        if !self.verify_incoming_target {
+            return Ok(());
+        }
+        match &self.target {
+            Some(own) => own.verify_as_receiver(theirs),
+            None => Ok(()),
+        }
+    }
+
+    // The count at which the sender begins, if the link takes an attach with this count and this target. Does
+    // not allocate.
+    fn count_to_take(
+        &self,
+        count: Option<SequenceNo>,
+        target: Option<TargetArchetype>,
+    ) -> Result<SequenceNo, ReceiverAttachError>
+        ensures taken { IfOk result (λ taken. count ≡ Some taken) }
+        ensures refused { MatchResult result
+            (λ _. receiver_target_refusal T.admitted T.refused_by_receiver self.now count target ≡ None)
+            (λ error. receiver_target_refusal T.admitted T.refused_by_receiver self.now count target ≡ Some error) }
+        ensures memory { IsErrOf result ReceiverAttachError.OutOfMemory → ⊥ }
+    {
+        let Some(count) = count else {
+            drop(target);
+            return Err(ReceiverAttachError::InitialDeliveryCountIsNone);
+        };
+        let Some(target) = target else {
+            return Ok(count);
+        };
+        let Some(target) = T::from_archetype(target) else {
+            return Err(ReceiverAttachError::CoordinatorIsNotImplemented);
+        };
+        self.verify_target(&target)?;
+        Ok(count)
+    }
+
     fn take_source(&mut self, source: Source, mode: SenderSettleMode)
         ensures { self.new ≡ record self.old { source = Some source; snd_settle_mode = mode } }
     {
         drop(self.source.replace(source));
         self.snd_settle_mode = mode;
+    }
+
+    // An attach is refused for its source: it has moved the link if that was not for want of memory.
+    fn without_source(
+        &mut self,
+        handle: Handle,
+        next: LinkState,
+        refused: ReceiverAttachError,
+    ) -> ReceiverAttachError
+        ensures error { result ≡ refused }
+        ensures left { self.new ≡ (if is_out_of_memory refused then self.old else record self.old {
+          local_state = next;
+          input_handle = Some (record { 0 = handle.0 });
+          more = false;
+        }) }
+    {
+        if !matches!(refused, ReceiverAttachError::OutOfMemory) {
+            self.record_remote_attach(handle, next);
+        }
+        refused
     }
 
     // The link counts from where the sender begins, and other properties take the place of the own ones,
@@ -272,7 +344,7 @@ impl<T: LinkTarget> ReceiverLink<T> {
 impl<T: LinkTarget> LinkAttach for ReceiverLink<T> {
     ghost use Rattle.std.specs.Prelude.{◌≡◌, [], option_map, refl};
     ghost use Rattle.amqp_link_types.specs.declared.types.errors.ReceiverAttachError.TheVariants.{IllegalState, AttachTooLarge, OutOfMemory};
-    ghost use Rattle.amqp_link_receiver.specs.ReceiverAttaches.{receiver_refusal, receiver_taken, receiver_left, has_entries, receiver_exchange_in};
+    ghost use Rattle.amqp_link_receiver.specs.ReceiverAttaches.{receiver_refusal, receiver_taken, receiver_left, is_listing, does_taking_allocate, has_entries, receiver_exchange_in};
     ghost use Rattle.amqp_link_receiver.specs.ReceiverAttaches.{receiver_shown_after_refusal};
 
     type AttachExchange = ReceiverAttachExchange;
@@ -293,7 +365,7 @@ impl<T: LinkTarget> LinkAttach for ReceiverLink<T> {
 
     ghost out_of_memory = { OutOfMemory };
 
-    ghost refusal_of = { receiver_refusal T.admitted };
+    ghost refusal_of = { receiver_refusal T.admitted T.refused_by_receiver };
 
     ghost taken = { receiver_taken };
 
@@ -301,7 +373,11 @@ impl<T: LinkTarget> LinkAttach for ReceiverLink<T> {
 
     ghost exchanged = { λ _ remote state answer. answer ≡ receiver_exchange_in state (has_entries remote) };
 
-    ghost left = { receiver_left };
+    ghost is_listing = { is_listing };
+
+    ghost allocates = { does_taking_allocate T.admitted T.refused_by_receiver };
+
+    ghost left = { receiver_left T.admitted T.refused_by_receiver };
 
     ghost errors_differ = { ((λ h. Prim.cc), (λ h. Prim.cc), (λ h. Prim.cc)) };
 
@@ -311,7 +387,7 @@ impl<T: LinkTarget> LinkAttach for ReceiverLink<T> {
 
     ghost shown_after_taking = { λ link a. refl };
 
-    ghost shown_after_refusal = { receiver_shown_after_refusal T.sent_as };
+    ghost shown_after_refusal = { receiver_shown_after_refusal T.sent_as T.admitted T.refused_by_receiver };
 
     ghost left_by_memory = { λ link a. refl };
 
@@ -328,12 +404,19 @@ impl<T: LinkTarget> LinkAttach for ReceiverLink<T> {
         Ok((LinkFrame::Attach(attach), Vec::new(self.alloc)))
     }
 
-    /// Takes the sender's attach. Want of memory comes after all tests, and leaves all as it was.
+    /// Takes the sender's attach.
     ///
-    /// Refused in this order: illegal state, with nothing changed, where the state has no row for it.
-    /// From here on the state has moved, the other's handle is known, and no delivery goes on: no
-    /// source; past it the source and the sender's mode are taken: no initial count; no coordinator here,
-    /// where the target is not of the link's kind.
+    /// Refused in this order: `IllegalState`, with nothing changed, if there is no transition from this
+    /// state. In the refusals below the state has moved, the peer's handle is known, and no delivery is under
+    /// way: `IncomingSourceIsNone`; those of the source's verification as a receiver, if the link verifies
+    /// sources and has one. Then the source and the sender's settle mode are taken:
+    /// `InitialDeliveryCountIsNone`; `CoordinatorIsNotImplemented` if the target is not of the link's kind;
+    /// those of the target's verification, if the link verifies targets and both endpoints have one. So what
+    /// `DynamicNodePropertiesIsSomeWhenDynamicIsFalse` leaves depends on the terminus that it is about.
+    ///
+    /// `OutOfMemory`, with nothing changed, comes after all of these, or in place of
+    /// `DesiredFilterNotSupported`, whose list of names allocates. `handle_attach_error` says what follows a
+    /// refusal.
     fn on_incoming_attach(
         &mut self,
         attach: Attach,
@@ -349,21 +432,27 @@ impl<T: LinkTarget> LinkAttach for ReceiverLink<T> {
             max_message_size,
             properties,
         } = read(attach);
-        let is_foreign = is_foreign::<T>(target);
         let Some(next) = after_incoming_attach(self.local_state, incomplete) else {
-            drop((source, properties));
+            drop((source, target, properties));
             return Err(ReceiverAttachError::IllegalState);
         };
         let Some(source) = source else {
             self.record_remote_attach(handle, next);
-            drop(properties);
+            drop((target, properties));
             return Err(ReceiverAttachError::IncomingSourceIsNone);
         };
-        let (Some(count), false) = (count, is_foreign) else {
-            self.record_remote_attach(handle, next);
-            self.take_source(source, snd_settle_mode);
-            drop(properties);
-            return Err(refusal_past_source(count));
+        if let Err(refused) = self.verify_source(&source) {
+            drop((source, target, properties));
+            return Err(self.without_source(handle, next, refused));
+        }
+        let count = match self.count_to_take(count, target) {
+            Ok(count) => count,
+            Err(refused) => {
+                self.record_remote_attach(handle, next);
+                self.take_source(source, snd_settle_mode);
+                drop(properties);
+                return Err(refused);
+            }
         };
         let Ok(properties) = merged_with(self.flow_state.properties(), properties) else {
             drop(source);

@@ -195,10 +195,10 @@ impl<T: LinkTarget> SenderLink<T> {
 }
 
 impl<T: LinkTarget> LinkAttach for SenderLink<T> {
-    ghost use Rattle.std.specs.Prelude.{◌≡◌, [], refl};
+    ghost use Rattle.std.specs.Prelude.{◌≡◌, false, [], refl};
     ghost use Rattle.amqp_link_types.specs.declared.types.errors.SenderAttachError.TheVariants.{IllegalState, AttachTooLarge, OutOfMemory};
     ghost use Rattle.amqp_link_exchange.specs.Exchanges.{outcomes_returned};
-    ghost use Rattle.amqp_link_sender.specs.SenderAttaches.{sender_attached, sender_refusal, sender_taken, sender_left, exchange_in};
+    ghost use Rattle.amqp_link_sender.specs.SenderAttaches.{sender_attached, sender_refusal, sender_taken, sender_left, does_taking_allocate, exchange_in};
     ghost use Rattle.amqp_link_sender.specs.SenderAttaches.{sender_target_taken, sender_shown_after_refusal};
 
     type AttachExchange = (SenderAttachExchange, Outcomes);
@@ -219,7 +219,7 @@ impl<T: LinkTarget> LinkAttach for SenderLink<T> {
 
     ghost out_of_memory = { OutOfMemory };
 
-    ghost refusal_of = { sender_refusal T.admitted };
+    ghost refusal_of = { sender_refusal T.admitted T.refused_by_sender };
 
     ghost taken = { sender_taken T.admitted };
 
@@ -228,7 +228,11 @@ impl<T: LinkTarget> LinkAttach for SenderLink<T> {
     ghost exchanged = { λ own remote state answer. (answer.0 ≡ exchange_in state own remote)
         × (answer.1.items ≡ outcomes_returned own remote) };
 
-    ghost left = { sender_left T.admitted };
+    ghost is_listing = { λ error. false };
+
+    ghost allocates = { does_taking_allocate };
+
+    ghost left = { sender_left T.admitted T.refused_by_sender };
 
     ghost errors_differ = { ((λ h. Prim.cc), (λ h. Prim.cc), (λ h. Prim.cc)) };
 
@@ -238,7 +242,7 @@ impl<T: LinkTarget> LinkAttach for SenderLink<T> {
 
     ghost shown_after_taking = { λ link a. refl };
 
-    ghost shown_after_refusal = { sender_shown_after_refusal T.sent_as T.admitted };
+    ghost shown_after_refusal = { sender_shown_after_refusal T.sent_as T.admitted T.refused_by_sender };
 
     ghost left_by_memory = { λ link a. refl };
 
@@ -260,11 +264,13 @@ impl<T: LinkTarget> LinkAttach for SenderLink<T> {
     /// that have ended are beside it, and no delivery is left in the link's map.
     ///
     /// Refused in this order: `IllegalState`, with nothing changed, if there is no transition from this
-    /// state. In the refusals below the state has moved and the peer's handle is known:
-    /// `CoordinatorIsNotImplemented` if the target is not of the link's kind; `IncomingTargetIsNone`. Then
-    /// the target and the receiver's settle mode are taken: `SndSettleModeNotSupported` if one endpoint
-    /// settles what the other leaves unsettled. No refusal resolves a delivery. `OutOfMemory` comes after
-    /// all of these, with nothing changed.
+    /// state. In the refusals below the state has moved and the peer's handle is known: those of the source's
+    /// verification as a sender, if the link verifies sources and both endpoints have one;
+    /// `CoordinatorIsNotImplemented` if the target is not of the link's kind; `IncomingTargetIsNone`; those of
+    /// the target's verification, if the link verifies targets and has one. Then the target and the receiver's
+    /// settle mode are taken: `SndSettleModeNotSupported` if one endpoint settles what the other leaves
+    /// unsettled. No refusal resolves a delivery. `OutOfMemory` comes after all of these, with nothing
+    /// changed, and only if there are deliveries to exchange or properties of both endpoints. `handle_attach_error` says what follows a refusal.
     ///
     /// Each entry of the attach's map is looked up once in the link's.
     fn on_incoming_attach(

@@ -2,14 +2,17 @@
 //!
 //! It is taken in two halves: a plan, which tests and allocates, and the change itself, which does neither.
 //! A caller that keeps records of outcomes makes room for them between the two.
-ghost use Rattle.std.specs.Prelude.{◌≡◌, ◌⊎◌, ◌&&◌, None, Some, Ok, Err, IfOk, IfErr, OnOk, IsErrOf, IsErrAnd, IfNone, MatchOption, MatchResult, [], unwrap_or, if◌then◌else◌};
+ghost use Rattle.std.specs.Prelude.{◌≡◌, ◌⊎◌, ◌&&◌, ◌||◌, not, true, is_some, None, Some, Ok, Err, IfOk, IfErr, OnOk, OnErr, IsErrOf, IsErrAnd, IfNone, MatchOption, MatchResult, [], unwrap_or, if◌then◌else◌};
 ghost use Rattle.std.specs.Option.{option_or};
 ghost use Rattle.amqp_link_types.specs.declared.types.attach.Attach.{Attach as TheAttach};
 ghost use Rattle.amqp_link_core.specs.AttachFields.{remote_entries, merged_properties, next_of};
 ghost use Rattle.amqp_link_exchange.specs.Exchanges.{outcomes_returned};
 ghost use Rattle.amqp_link_exchange.specs.Plans.{IsPlanOf};
 ghost use Rattle.amqp_link_sender.specs.SenderAttaches.{disagree as do_disagree, is_nothing, resumption_in, exchange_in};
-ghost use Rattle.amqp_link_sender.specs.SenderAttaches.{sender_refusal, sender_taken, sender_left, IsAttachPlan};
+ghost use Rattle.amqp_link_core.specs.AttachTests.{verified};
+ghost use Rattle.amqp_link_core.specs.Targets.{target_of};
+ghost use Rattle.amqp_link_verification.specs.Termini.{verdict};
+ghost use Rattle.amqp_link_sender.specs.SenderAttaches.{source_verdict, sender_termini_refusal, sender_refusal, sender_taken, sender_left, does_taking_allocate, IsAttachPlan};
 
 use crate::sender_link::SenderLink;
 use amqp_link_core::endpoint::attached::{get_max_message_size, merged_with};
@@ -21,8 +24,9 @@ use amqp_link_types::delivery::{Outcomes, UnsettledMessage};
 use amqp_link_types::types::unsettled_map::UnsettledMap;
 use amqp_link_types::types::{
     Attach, DeliveryState, Fields, Handle, InputHandle, ReceiverSettleMode, SenderAttachError,
-    SenderSettleMode, TargetArchetype,
+    SenderSettleMode, Source, TargetArchetype,
 };
+use amqp_link_verification::VerifySource;
 use std::alloc::{AllocError, Global};
 
 /// What follows once a sender has exchanged attaches.
@@ -85,12 +89,13 @@ pub fn plan_incoming_attach<T: LinkTarget>(
     ensures planned { IfOk result (λ plan. IsAttachPlan T.admitted link.old attach plan) }
     ensures kept { OnOk result (link.new ≡ link.old) }
     ensures refused { MatchResult result
-        (λ _. sender_refusal T.admitted link.old attach ≡ None)
+        (λ _. sender_refusal T.admitted T.refused_by_sender link.old attach ≡ None)
         (λ error. (error ≡ SenderAttachError.OutOfMemory)
-        ⊎ (sender_refusal T.admitted link.old attach ≡ Some error)) }
+        ⊎ (sender_refusal T.admitted T.refused_by_sender link.old attach ≡ Some error)) }
     ensures memory { IsErrOf result SenderAttachError.OutOfMemory
-        → sender_refusal T.admitted link.old attach ≡ None }
-    ensures left { IfErr result (λ error. link.new ≡ sender_left T.admitted error link.old attach) }
+        → sender_refusal T.admitted T.refused_by_sender link.old attach ≡ None }
+    ensures growth { IsErrOf result SenderAttachError.OutOfMemory → does_taking_allocate link.old attach ≡ true }
+    ensures left { IfErr result (λ error. link.new ≡ sender_left T.admitted T.refused_by_sender error link.old attach) }
 {
     link.plan_remote_attach(attach)
 }
@@ -117,6 +122,7 @@ struct Incoming {
     handle: Handle,
     snd_settle_mode: SenderSettleMode,
     rcv_settle_mode: ReceiverSettleMode,
+    source: Option<Source>,
     target: Option<TargetArchetype>,
     incomplete: bool,
     unsettled: Option<UnsettledMap<Option<DeliveryState>>>,
@@ -129,6 +135,7 @@ fn read(attach: Attach) -> Incoming
       handle = attach.handle;
       snd_settle_mode = attach.snd_settle_mode;
       rcv_settle_mode = attach.rcv_settle_mode;
+      source = attach.source;
       target = attach.target;
       incomplete = attach.incomplete_unsettled;
       unsettled = attach.unsettled;
@@ -151,11 +158,12 @@ fn read(attach: Attach) -> Incoming
         properties,
         ..
     } = attach;
-    drop((name, source, offered_capabilities, desired_capabilities));
+    drop((name, offered_capabilities, desired_capabilities));
     Incoming {
         handle,
         snd_settle_mode,
         rcv_settle_mode,
+        source,
         target,
         incomplete: incomplete_unsettled,
         unsettled,
@@ -204,6 +212,63 @@ impl<T: LinkTarget> SenderLink<T> {
         }
     }
 
+    // Verifies the peer's source beside the own one, if this is asked for.
+    fn verify_source(&self, source: &Option<Source>) -> Result<(), SenderAttachError>
+        ensures { MatchResult result
+            (λ _. source_verdict self.now source.now ≡ None)
+            (λ error. source_verdict self.now source.now ≡ Some error) }
+    {
+        if !self.verify_incoming_source {
+            return Ok(());
+        }
+        match (&self.source, source) {
+            (Some(own), Some(theirs)) => own.verify_as_sender(theirs),
+            _ => Ok(()),
+        }
+    }
+
+    // Verifies the peer's target beside the own one, if this is asked for.
+    fn verify_target(&self, theirs: &T) -> Result<(), SenderAttachError>
+        ensures refused { result ≡ verdict (verified self.now.verify_incoming_target
+            T.refused_by_sender self.now.target (Some theirs.now)) }
+        ensures memory { IsErrOf result SenderAttachError.OutOfMemory → ⊥ }
+    {
+        if !self.verify_incoming_target {
+            return Ok(());
+        }
+        match &self.target {
+            Some(own) => own.verify_as_sender(theirs),
+            None => Ok(()),
+        }
+    }
+
+    // The target that the link takes of an attach with these termini. Does not allocate.
+    fn target_to_take(
+        &self,
+        source: Option<Source>,
+        target: Option<TargetArchetype>,
+    ) -> Result<T, SenderAttachError>
+        ensures taken { IfOk result (λ taken. target_of T.admitted target ≡ Some taken) }
+        ensures refused { MatchResult result
+            (λ _. sender_termini_refusal T.admitted T.refused_by_sender self.now source target ≡ None)
+            (λ error. sender_termini_refusal T.admitted T.refused_by_sender self.now source target ≡ Some error) }
+        ensures memory { IsErrOf result SenderAttachError.OutOfMemory → ⊥ }
+    {
+        if let Err(refused) = self.verify_source(&source) {
+            drop((source, target));
+            return Err(refused);
+        }
+        drop(source);
+        let Some(target) = target else {
+            return Err(SenderAttachError::IncomingTargetIsNone);
+        };
+        let Some(target) = T::from_archetype(target) else {
+            return Err(SenderAttachError::CoordinatorIsNotImplemented);
+        };
+        self.verify_target(&target)?;
+        Ok(target)
+    }
+
     // The first half of `on_incoming_attach`.
     pub(super) fn plan_remote_attach(
         &mut self,
@@ -212,12 +277,13 @@ impl<T: LinkTarget> SenderLink<T> {
         ensures planned { IfOk result (λ plan. IsAttachPlan T.admitted self.old attach plan) }
         ensures kept { OnOk result (self.new ≡ self.old) }
         ensures refused { MatchResult result
-            (λ _. sender_refusal T.admitted self.old attach ≡ None)
+            (λ _. sender_refusal T.admitted T.refused_by_sender self.old attach ≡ None)
             (λ error. (error ≡ SenderAttachError.OutOfMemory)
-            ⊎ (sender_refusal T.admitted self.old attach ≡ Some error)) }
+            ⊎ (sender_refusal T.admitted T.refused_by_sender self.old attach ≡ Some error)) }
         ensures memory { IsErrOf result SenderAttachError.OutOfMemory
-            → sender_refusal T.admitted self.old attach ≡ None }
-        ensures left { IfErr result (λ error. self.new ≡ sender_left T.admitted error self.old attach) }
+            → sender_refusal T.admitted T.refused_by_sender self.old attach ≡ None }
+        ensures growth { IsErrOf result SenderAttachError.OutOfMemory → does_taking_allocate self.old attach ≡ true }
+        ensures left { IfErr result (λ error. self.new ≡ sender_left T.admitted T.refused_by_sender error self.old attach) }
         ensures step { MatchOption (next_of self.old.local_state attach)
             (IsErrAnd result (λ error. error ≡ SenderAttachError.IllegalState))
             (λ next. IfErr result (λ error. (error ≡ SenderAttachError.OutOfMemory)
@@ -228,6 +294,7 @@ impl<T: LinkTarget> SenderLink<T> {
             handle,
             snd_settle_mode,
             rcv_settle_mode,
+            source,
             target,
             incomplete,
             unsettled,
@@ -235,18 +302,16 @@ impl<T: LinkTarget> SenderLink<T> {
             properties,
         } = read(attach);
         let Some(next) = after_incoming_attach(self.local_state, incomplete) else {
-            drop((target, unsettled, properties));
+            drop((source, target, unsettled, properties));
             return Err(SenderAttachError::IllegalState);
         };
-        let Some(target) = target else {
-            self.record_remote_attach(handle, next);
-            drop((unsettled, properties));
-            return Err(SenderAttachError::IncomingTargetIsNone);
-        };
-        let Some(target) = T::from_archetype(target) else {
-            self.record_remote_attach(handle, next);
-            drop((unsettled, properties));
-            return Err(SenderAttachError::CoordinatorIsNotImplemented);
+        let target = match self.target_to_take(source, target) {
+            Ok(target) => target,
+            Err(refused) => {
+                self.record_remote_attach(handle, next);
+                drop((unsettled, properties));
+                return Err(refused);
+            }
         };
         if disagree(self.snd_settle_mode, snd_settle_mode) {
             self.record_remote_attach(handle, next);
@@ -282,6 +347,8 @@ impl<T: LinkTarget> SenderLink<T> {
         ensures exchange { IfOk result (λ plan. IsPlanOf plan.1 self.now.unsettled (unwrap_or unsettled [])) }
         ensures properties { IfOk result (λ plan. option_or plan.2 self.now.flow_state.properties
             ≡ merged_properties self.now.flow_state.properties properties) }
+        ensures memory { OnErr result ((not (is_nothing self.now.unsettled (unwrap_or unsettled []))
+            || (is_some self.now.flow_state.properties && is_some properties)) ≡ true) }
     {
         let remote = entries_of(self.alloc, unsettled);
         let is_nothing = are_empty(&self.unsettled, &remote);

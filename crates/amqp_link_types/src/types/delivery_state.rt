@@ -1,7 +1,7 @@
 //! The state of a delivery (3.4).
-ghost use Rattle.std.specs.Prelude.{◌≡◌, false};
+ghost use Rattle.std.specs.Prelude.{◌≡◌, true, false, IfOk, OnErr};
 ghost use Rattle.std.specs.Option.{option_map_or};
-ghost use Rattle.amqp_link_types.specs.DeliveryStates.{is_terminal, state_of};
+ghost use Rattle.amqp_link_types.specs.DeliveryStates.{is_terminal, carries_more, state_of};
 
 use crate::types::definitions::Error;
 use amqp_link_values::copy::copy_of;
@@ -106,7 +106,11 @@ impl From<Outcome> for DeliveryState {
 impl Clone for DeliveryState {
     ghost is_clone = { λ state copy. copy ≡ state };
 
-    fn clone(&self) -> Result<DeliveryState, AllocError> {
+    // Only an error or annotations allocate.
+    fn clone(&self) -> Result<DeliveryState, AllocError>
+        ensures copy { IfOk result (λ copy. copy ≡ self.now) }
+        ensures memory { OnErr result (carries_more self.now ≡ true) }
+    {
         let copy = match self {
             DeliveryState::Accepted => DeliveryState::Accepted,
             DeliveryState::Rejected { error } => DeliveryState::Rejected {

@@ -5,6 +5,7 @@ use crate::delivery::DeliveryInfo;
 use crate::types::definitions::Error as RemoteError;
 use crate::types::stop_reason::SessionStopReason;
 use amqp_link_payloads::DecodeError;
+use amqp_link_values::symbols::Symbols;
 use std::alloc::{AllocError, AllocFailed};
 use thiserror::Error;
 
@@ -120,25 +121,54 @@ pub enum ApplyRemoteDetachError {
     RemoteClosedWithError(RemoteError),
 }
 
-/// Why an attach of a sender's end was refused, the one that it sends or the one that comes.
-#[derive(Clone, Copy, Debug, PartialEq, Eq, Error)]
+/// Why the attach of a link's sending endpoint fails: the attach that it sends, the one that arrives, or
+/// what arrives in its place. The links return the errors of the first two; those of what arrives in its
+/// place are for a session to name, and for `handle_attach_error` to take.
+#[derive(Debug, PartialEq, Eq, Drop, Error)]
 pub enum SenderAttachError {
-    /// The link is not in a state for this call, or has no output handle to be named.
+    /// The session has stopped for this reason.
+    #[error("the session has stopped")]
+    SessionStopped(SessionStopReason),
+    /// The session is not mapped, so that no link can be attached in it.
+    #[error("the session is not mapped")]
+    SessionNotMapped,
+    /// The link is not in a state for this call, or has no output handle.
     #[error("the link is not in a state for this call")]
     IllegalState,
+    /// Another frame arrived in place of the attach.
+    #[error("another frame arrived in place of the attach")]
+    NonAttachFrameReceived,
+    /// The peer refuses the link (2.6.3), and the detach that has to follow did not arrive.
+    #[error("the detach of a refused link did not arrive")]
+    ExpectImmediateDetach,
+    /// The peer has closed the link with this error.
+    #[error("the peer has closed the link with an error")]
+    RemoteClosedWithError(RemoteError),
+    /// Another link of the session has the same name (2.6.1).
+    #[error("another link of the session has the same name")]
+    DuplicatedLinkName,
     /// The target is of a kind that the link does not take.
     #[error("the target is of a kind that the link does not take")]
     CoordinatorIsNotImplemented,
-    /// The other end has no target, which refuses the link (2.6.3).
-    #[error("the other end has no target")]
+    /// The peer has no target: it refuses the link (2.6.3).
+    #[error("the peer has no target")]
     IncomingTargetIsNone,
-    /// One end settles what the other leaves unsettled.
-    #[error("the two ends do not agree on when the sender settles")]
+    /// One of the two endpoints settles what the other leaves unsettled.
+    #[error("the two endpoints do not agree on when the sender settles")]
     SndSettleModeNotSupported,
-    /// The attach is larger than a frame, also with no delivery named.
+    /// The peer asks for a dynamic source and gives its address, which is for the sender to choose (3.5.3).
+    #[error("the source that is to be made has an address already")]
+    SourceAddressIsSomeWhenDynamicIsTrue,
+    /// The peer has made a dynamic target and does not give its address (3.5.4).
+    #[error("the target that was made has no address")]
+    TargetAddressIsNoneWhenDynamicIsTrue,
+    /// A terminus that is not dynamic has properties of a dynamic node (3.5.3, 3.5.4).
+    #[error("a terminus that is not dynamic has properties of a dynamic node")]
+    DynamicNodePropertiesIsSomeWhenDynamicIsFalse,
+    /// The attach is larger than a frame, even if it states no unsettled delivery.
     #[error("the attach is larger than a frame")]
     AttachTooLarge,
-    /// There was no memory.
+    /// Out of memory.
     #[error("out of memory")]
     OutOfMemory,
 }
@@ -153,25 +183,54 @@ impl From<AllocError> for SenderAttachError {
     }
 }
 
-/// Why an attach of a receiver's end was refused, the one that it sends or the one that comes.
-#[derive(Clone, Copy, Debug, PartialEq, Eq, Error)]
+/// Why the attach of a link's receiving endpoint fails: the attach that it sends, the one that arrives, or
+/// what arrives in its place. The links return the errors of the first two; those of what arrives in its
+/// place are for a session to name, and for `handle_attach_error` to take.
+#[derive(Debug, PartialEq, Eq, Drop, Error)]
 pub enum ReceiverAttachError {
-    /// The link is not in a state for this call, or has no output handle to be named.
+    /// The session has stopped for this reason.
+    #[error("the session has stopped")]
+    SessionStopped(SessionStopReason),
+    /// The link is not in a state for this call, or has no output handle.
     #[error("the link is not in a state for this call")]
     IllegalState,
-    /// The other end has no source, which refuses the link (2.6.3).
-    #[error("the other end has no source")]
+    /// Another frame arrived in place of the attach.
+    #[error("another frame arrived in place of the attach")]
+    NonAttachFrameReceived,
+    /// The peer refuses the link (2.6.3), and the detach that has to follow did not arrive.
+    #[error("the detach of a refused link did not arrive")]
+    ExpectImmediateDetach,
+    /// The peer has closed the link with this error.
+    #[error("the peer has closed the link with an error")]
+    RemoteClosedWithError(RemoteError),
+    /// Another link of the session has the same name (2.6.1).
+    #[error("another link of the session has the same name")]
+    DuplicatedLinkName,
+    /// The peer has no source: it refuses the link (2.6.3).
+    #[error("the peer has no source")]
     IncomingSourceIsNone,
-    /// The sender does not say at which count it begins (2.7.3).
-    #[error("the sender does not say at which count it begins")]
+    /// The sender does not state its initial delivery-count (2.7.3).
+    #[error("the sender does not state its initial delivery-count")]
     InitialDeliveryCountIsNone,
     /// The target is of a kind that the link does not take.
     #[error("the target is of a kind that the link does not take")]
     CoordinatorIsNotImplemented,
-    /// The attach is larger than a frame, also with no delivery named.
+    /// Filters of these names were asked for, and are not in place (3.5.8).
+    #[error("filters that were asked for are not in place")]
+    DesiredFilterNotSupported(Symbols),
+    /// The peer has made a dynamic source and does not give its address (3.5.3).
+    #[error("the source that was made has no address")]
+    SourceAddressIsNoneWhenDynamicIsTrue,
+    /// The peer asks for a dynamic target and gives its address, which is for the receiver to choose (3.5.4).
+    #[error("the target that is to be made has an address already")]
+    TargetAddressIsSomeWhenDynamicIsTrue,
+    /// A terminus that is not dynamic has properties of a dynamic node (3.5.3, 3.5.4).
+    #[error("a terminus that is not dynamic has properties of a dynamic node")]
+    DynamicNodePropertiesIsSomeWhenDynamicIsFalse,
+    /// The attach is larger than a frame, even if it states no unsettled delivery.
     #[error("the attach is larger than a frame")]
     AttachTooLarge,
-    /// There was no memory.
+    /// Out of memory.
     #[error("out of memory")]
     OutOfMemory,
 }

@@ -1,4 +1,4 @@
-use Rattle.std.proofs.Common.{◌≡◌, ◌+◌, ◌<◌, ◌^◌, ◌++◌, ◌∙◌, sym, length, length-append, arith, rules}
+use Rattle.std.proofs.Common.{◌≡◌, ◌+◌, ◌<◌, ◌^◌, ◌∙◌, sym, length, length-append, arith, rules}
 use Rattle.std.specs.List.{concat}
 use Rattle.amqp_link_core.proofs.CountLemmas.{few_counted}
 use Rattle.amqp_link_core.proofs.incomplete_transfer.pieces.counted_size.Goals as goal

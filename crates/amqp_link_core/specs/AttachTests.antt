@@ -1,0 +1,57 @@
+-- The tests of an attach that arrives, in order (OASIS AMQP 1.0 core, 2.6.3).
+use Rattle.std.specs.Prelude.{◌≡◌, Bool, true, false, List, [], ◌∷◌, Option, Some, None, if◌then◌else◌}
+
+-- a test that refuses with this error if it holds
+abbrev pub refused_if : {E : Type 0} → Bool → E → Option E
+refused_if holds error = if holds then Some error else None
+
+-- the peer's terminus is verified beside the own one if this is asked for, and both are there
+abbrev pub verified : {A E : Type 0} → Bool → (A → A → Option E) → Option A → Option A → Option E
+verified true refused (Some own) (Some theirs) = refused own theirs
+verified _ refused _ _ = None
+
+-- the error of the first test that refuses
+abbrev pub first_of : {E : Type 0} → List (Option E) → Option E
+first_of [] = None
+first_of (None ∷ tests) = first_of tests
+first_of (Some error ∷ tests) = Some error
+
+-- each test with what a refusal by it leaves of the endpoint
+abbrev pub Tests : Type 0 → Type 0 → Type 0
+Tests E S = List (Option E × S)
+
+module _ {E S : Type 0} where
+  abbrev pub first_refusal : Tests E S → Option E
+  first_refusal [] = None
+  first_refusal ((None, left) ∷ tests) = first_refusal tests
+  first_refusal ((Some error, left) ∷ tests) = Some error
+
+  -- what the first test that refuses leaves, or this endpoint if none does
+  abbrev pub left_by_first : S → Tests E S → S
+  left_by_first s [] = s
+  left_by_first s ((None, left) ∷ tests) = left_by_first s tests
+  left_by_first s ((Some error, left) ∷ tests) = left
+
+  -- what is left after a refusal: the endpoint as it was if it is out of memory
+  abbrev pub left_after : Bool → S → Tests E S → S
+  left_after out_of_memory s tests = if out_of_memory then s else left_by_first s tests
+
+  -- what holds of each is so of the one that is left
+  abbrev pub Each : (S → Type 0) → Tests E S → Type 0
+  Each P [] = Unit {0}
+  Each P (test ∷ tests) = P test.1 × Each P tests
+
+  pub left_by_first_is : (P : S → Type 0) (s : S) (tests : Tests E S) → P s → Each P tests → P (left_by_first s tests)
+  left_by_first_is P s [] own each = own
+  left_by_first_is P s ((None, left) ∷ tests) own each = left_by_first_is P s tests own each.1
+  left_by_first_is P s ((Some error, left) ∷ tests) own each = each.0
+
+  pub left_after_is : (P : S → Type 0) (out_of_memory : Bool) (s : S) (tests : Tests E S) → P s → Each P tests → P (left_after out_of_memory s tests)
+  left_after_is P true s tests own each = own
+  left_after_is P false s tests own each = left_by_first_is P s tests own each
+
+  -- after a refusal it is one of those that the tests leave
+  pub refused_leaves : (P : S → Type 0) (s : S) (tests : Tests E S) (error : E) → first_refusal tests ≡ Some error → Each P tests → P (left_by_first s tests)
+  refused_leaves P s [] error stop each = absurd (cc)
+  refused_leaves P s ((None, left) ∷ tests) error stop each = refused_leaves P s tests error stop each.1
+  refused_leaves P s ((Some first, left) ∷ tests) error stop each = each.0

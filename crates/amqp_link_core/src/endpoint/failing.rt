@@ -1,0 +1,167 @@
+//! What follows once an attach has failed (2.6.3): the link is closed, the session is ended, or neither.
+ghost use Rattle.std.specs.Prelude.{◌≡◌, true, None, IfOk, OnErr, MatchOption, is_some};
+ghost use Rattle.amqp_link_core.specs.Failing.{condition_text, handle_in_use, can_close as does_close, error_sent, handled, state_after};
+ghost use Rattle.amqp_link_core.specs.Failing.{sender_remedy as remedy_at_sender, receiver_remedy as remedy_at_receiver};
+
+use crate::endpoint::LinkDetach;
+use crate::endpoint::table::after_sent_detach;
+use amqp_link_state::state::LinkState;
+use amqp_link_types::frame::LinkFrame;
+use amqp_link_types::types::{
+    Error, OutputHandle, ReceiverAttachError, SenderAttachError, Symbol, Text,
+};
+use std::alloc::{AllocError, Global};
+
+/// What is to be done once an attach has failed.
+#[derive(Debug, PartialEq, Eq, Drop)]
+pub enum Action {
+    /// Nothing.
+    Nothing,
+    /// This detach is to be sent: it closes the link.
+    Detach(LinkFrame),
+    /// The session is to be ended with this error.
+    EndSession(Error),
+}
+
+/// The condition of an error that an endpoint sends as it closes a link (2.8.15).
+#[derive(Clone, Copy, Debug, PartialEq, Eq)]
+pub enum Condition {
+    /// What the peer asks for is not implemented.
+    NotImplemented,
+    /// A field of the peer's attach is not as it has to be.
+    InvalidField,
+}
+
+/// What an error of an attach asks for.
+#[derive(Clone, Copy, Debug, PartialEq, Eq)]
+pub enum Remedy {
+    /// Nothing.
+    Nothing,
+    /// The link is to be closed, without an error or with one of this condition.
+    Close(Option<Condition>),
+    /// The session is to be ended, since the name of the link is in use (2.5.8).
+    EndSession,
+}
+
+/// What an error of a sender's attach asks for. Does not allocate.
+pub fn sender_remedy(error: &SenderAttachError) -> Remedy
+    ensures { result ≡ remedy_at_sender error.now }
+{
+    match error {
+        SenderAttachError::DuplicatedLinkName => Remedy::EndSession,
+        SenderAttachError::SndSettleModeNotSupported | SenderAttachError::IncomingTargetIsNone => {
+            Remedy::Close(None)
+        }
+        SenderAttachError::CoordinatorIsNotImplemented => {
+            Remedy::Close(Some(Condition::NotImplemented))
+        }
+        SenderAttachError::SourceAddressIsSomeWhenDynamicIsTrue
+        | SenderAttachError::TargetAddressIsNoneWhenDynamicIsTrue
+        | SenderAttachError::DynamicNodePropertiesIsSomeWhenDynamicIsFalse => {
+            Remedy::Close(Some(Condition::InvalidField))
+        }
+        _ => Remedy::Nothing,
+    }
+}
+
+/// What an error of a receiver's attach asks for. Does not allocate.
+pub fn receiver_remedy(error: &ReceiverAttachError) -> Remedy
+    ensures { result ≡ remedy_at_receiver error.now }
+{
+    match error {
+        ReceiverAttachError::DuplicatedLinkName => Remedy::EndSession,
+        ReceiverAttachError::IncomingSourceIsNone => Remedy::Close(None),
+        ReceiverAttachError::CoordinatorIsNotImplemented => {
+            Remedy::Close(Some(Condition::NotImplemented))
+        }
+        ReceiverAttachError::InitialDeliveryCountIsNone
+        | ReceiverAttachError::SourceAddressIsNoneWhenDynamicIsTrue
+        | ReceiverAttachError::TargetAddressIsSomeWhenDynamicIsTrue
+        | ReceiverAttachError::DynamicNodePropertiesIsSomeWhenDynamicIsFalse => {
+            Remedy::Close(Some(Condition::InvalidField))
+        }
+        _ => Remedy::Nothing,
+    }
+}
+
+/// The error that is sent for a remedy in this state and at this output handle: none if the link is to be
+/// closed and cannot be. Only its text allocates.
+pub fn error_to_send(
+    alloc: Global,
+    remedy: Remedy,
+    state: LinkState,
+    handle: Option<OutputHandle>,
+) -> Result<Option<Error>, AllocError>
+    ensures error { IfOk result (λ error. error ≡ error_sent remedy state handle) }
+    ensures memory { OnErr result (is_some (error_sent remedy state handle) ≡ true) }
+{
+    match remedy {
+        Remedy::Close(Some(condition)) if can_close(state, handle) => Ok(Some(Error {
+            condition: symbol(alloc, text_of(condition))?,
+            description: None,
+            info: None,
+        })),
+        Remedy::EndSession => Ok(Some(error_in_use(alloc)?)),
+        _ => Ok(None),
+    }
+}
+
+// Whether a closing detach can be sent in this state and at this output handle.
+fn can_close(state: LinkState, handle: Option<OutputHandle>) -> bool
+    ensures { result ≡ does_close state handle }
+{
+    after_sent_detach(state, true).is_some() && handle.is_some()
+}
+
+fn text_of(condition: Condition) -> &'static str
+    ensures { result.now ≡ condition_text condition }
+{
+    match condition {
+        Condition::NotImplemented => "amqp:not-implemented",
+        Condition::InvalidField => "amqp:invalid-field",
+    }
+}
+
+// The error with which a session ends in which a link's name is in use.
+fn error_in_use(alloc: Global) -> Result<Error, AllocError>
+    ensures { IfOk result (λ error. error ≡ handle_in_use) }
+{
+    let condition = symbol(alloc, "amqp:session:handle-in-use")?;
+    let description = Text::from(String::from_str(alloc, "Link name is in use")?);
+    Ok(Error {
+        condition,
+        description: Some(description),
+        info: None,
+    })
+}
+
+fn symbol(alloc: Global, text: &str) -> Result<Symbol, AllocError>
+    ensures { IfOk result (λ symbol. symbol ≡ text.now) }
+{
+    Ok(Symbol::from(String::from_str(alloc, text)?))
+}
+
+/// Carries a remedy out, with the error that is sent for it: what `handle_attach_error` of a link returns
+/// and leaves, `illegal` being its error if the link is to be closed and cannot be. Does not allocate.
+pub fn carry_out<L: LinkDetach, E: Drop>(
+    link: &mut L,
+    error: E,
+    illegal: E,
+    remedy: Remedy,
+    sent: Option<Error>,
+) -> (E, Action)
+    requires { sent ≡ error_sent remedy (L.shown link.old).local_state (L.shown link.old).output_handle }
+    ensures answer { result ≡ handled error illegal remedy (L.shown link.old).local_state (L.shown link.old).output_handle }
+    ensures after { MatchOption (state_after remedy (L.shown link.old).local_state)
+        (link.new ≡ link.old)
+        (λ next. link.new ≡ L.moved link.old next None) }
+{
+    match (remedy, sent) {
+        (Remedy::EndSession, Some(reason)) => (error, Action::EndSession(reason)),
+        (Remedy::Close(_), sent) => match link.send_detach(true, sent) {
+            Ok(frame) => (error, Action::Detach(frame)),
+            Err(_) => (illegal, Action::Nothing),
+        },
+        _ => (error, Action::Nothing),
+    }
+}

@@ -1,0 +1,184 @@
+//! A sender verifies the termini of the receiver's attach, and what follows an attach that has failed.
+use crate::attaching::refused_by;
+use crate::samples::{attach_of, fields, parts, text};
+use amqp_link_core::endpoint::{LinkAttach, LinkExt};
+use amqp_link_samples::refusals::{Asked, Refusal, asked_by, at_sender};
+use amqp_link_sender::SenderLink;
+use amqp_link_state::state::LinkState;
+use amqp_link_types::types::{
+    Attach, OutputHandle, ReceiverSettleMode, Role, SenderAttachError, SenderSettleMode, Source,
+    Target, TargetArchetype,
+};
+use std::process::Abort;
+
+// What is wrong of a receiver's attach.
+#[derive(Clone, Copy, Debug, PartialEq, Eq)]
+enum Fault {
+    Nothing,
+    SourceHasAddress,
+    SourceHasProperties,
+    TargetWithoutAddress,
+    TargetHasProperties,
+}
+
+fn source_with(rt: &(impl Abort + AllocGlobal), fault: Fault) -> Source {
+    let mut source = Source::default();
+    match fault {
+        Fault::SourceHasAddress => {
+            source.dynamic = true;
+            source.address = Some(text(rt, "q"));
+        }
+        Fault::SourceHasProperties => source.dynamic_node_properties = Some(fields(rt, "k")),
+        _ => {}
+    }
+    source
+}
+
+fn target_with(rt: &(impl Abort + AllocGlobal), fault: Fault) -> Target {
+    let mut target = Target::default();
+    match fault {
+        Fault::TargetWithoutAddress => target.dynamic = true,
+        Fault::TargetHasProperties => target.dynamic_node_properties = Some(fields(rt, "k")),
+        _ => {}
+    }
+    target
+}
+
+// The attach of a receiver in the second mode.
+fn attach_with(rt: &(impl Abort + AllocGlobal), fault: Fault) -> Attach {
+    let mut attach = attach_of(rt, Role::Receiver, SenderSettleMode::Mixed);
+    attach.rcv_settle_mode = ReceiverSettleMode::Second;
+    attach.source = Some(source_with(rt, fault));
+    attach.target = Some(TargetArchetype::Target(target_with(rt, fault)));
+    attach
+}
+
+// The link "l" at output handle 0 that has sent its attach, and verifies both termini or none.
+fn attaching(rt: &(impl Abort + AllocGlobal), verifies: bool) -> SenderLink<Target> {
+    let mut parts = parts(rt, SenderSettleMode::Mixed, 512);
+    parts.verify_incoming_source = verifies;
+    parts.verify_incoming_target = verifies;
+    let mut link = SenderLink::new(rt.alloc(), parts).with_output_handle(OutputHandle(0));
+    drop(link.send_attach(false));
+    link
+}
+
+// Why the attach is refused, and the state and the receiver's mode then.
+fn left_by(
+    rt: &(impl Abort + AllocGlobal),
+    verifies: bool,
+    fault: Fault,
+) -> (Option<Refusal>, LinkState, ReceiverSettleMode) {
+    let mut link = attaching(rt, verifies);
+    let refused = refused_by(link.on_incoming_attach(attach_with(rt, fault)));
+    let left = (refused, *link.local_state(), *link.rcv_settle_mode());
+    drop(link);
+    left
+}
+
+#[test]
+fn termini_are_verified_where_asked_for(rt: HostRuntime) {
+    for (fault, refusal) in [
+        (Fault::Nothing, None),
+        (Fault::SourceHasAddress, Some(Refusal::SourceAddress)),
+        (Fault::SourceHasProperties, Some(Refusal::NodeProperties)),
+        (Fault::TargetWithoutAddress, Some(Refusal::TargetAddress)),
+        (Fault::TargetHasProperties, Some(Refusal::NodeProperties)),
+    ] {
+        // A link that refuses the attach has not taken the mode.
+        let mode = match refusal {
+            Some(_) => ReceiverSettleMode::First,
+            None => ReceiverSettleMode::Second,
+        };
+        let wanted = (refusal, LinkState::Attached, mode);
+        assert_eq!(rt; left_by(&rt, true, fault), wanted, "{fault:?}");
+        let taken = (None, LinkState::Attached, ReceiverSettleMode::Second);
+        assert_eq!(rt; left_by(&rt, false, fault), taken, "{fault:?} unverified");
+    }
+}
+
+// What is answered of an error, and the state then.
+pub(crate) fn handled(
+    rt: &(impl Abort + AllocGlobal),
+    link: &mut SenderLink<Target>,
+    error: SenderAttachError,
+) -> (Refusal, Asked, LinkState) {
+    let (error, action) = link.handle_attach_error(error).expect(rt, "memory");
+    let told = (at_sender(&error), asked_by(&action), *link.local_state());
+    drop((error, action));
+    told
+}
+
+// A link that was refused its target's address closes with a condition, and only once.
+#[test]
+fn refused_link_is_closed_once(rt: HostRuntime) {
+    let mut link = attaching(&rt, true);
+    let attach = attach_with(&rt, Fault::TargetWithoutAddress);
+    assert_eq!(rt;
+        refused_by(link.on_incoming_attach(attach)),
+        Some(Refusal::TargetAddress)
+    );
+    let first = handled(
+        &rt,
+        &mut link,
+        SenderAttachError::TargetAddressIsNoneWhenDynamicIsTrue,
+    );
+    let second = handled(
+        &rt,
+        &mut link,
+        SenderAttachError::TargetAddressIsNoneWhenDynamicIsTrue,
+    );
+    drop(link);
+    let closes = (
+        Refusal::TargetAddress,
+        Asked::CloseAsInvalid,
+        LinkState::CloseSent,
+    );
+    assert_eq!(rt; first, closes);
+    let refused = (Refusal::IllegalState, Asked::Nothing, LinkState::CloseSent);
+    assert_eq!(rt; second, refused);
+}
+
+// What is answered at a link that is attached.
+fn handled_attached(
+    rt: &(impl Abort + AllocGlobal),
+    error: SenderAttachError,
+) -> (Refusal, Asked, LinkState) {
+    let mut link = attaching(rt, false);
+    drop(link.on_incoming_attach(attach_with(rt, Fault::Nothing)));
+    let told = handled(rt, &mut link, error);
+    drop(link);
+    told
+}
+
+#[test]
+fn each_error_has_its_action(rt: HostRuntime) {
+    assert_eq!(rt;
+        handled_attached(&rt, SenderAttachError::DuplicatedLinkName),
+        (
+            Refusal::DuplicatedLinkName,
+            Asked::EndAsInUse,
+            LinkState::Attached
+        )
+    );
+    assert_eq!(rt;
+        handled_attached(&rt, SenderAttachError::IncomingTargetIsNone),
+        (
+            Refusal::IncomingTerminusIsNone,
+            Asked::Close,
+            LinkState::CloseSent
+        )
+    );
+    assert_eq!(rt;
+        handled_attached(&rt, SenderAttachError::CoordinatorIsNotImplemented),
+        (
+            Refusal::CoordinatorIsNotImplemented,
+            Asked::CloseAsNotImplemented,
+            LinkState::CloseSent
+        )
+    );
+    assert_eq!(rt;
+        handled_attached(&rt, SenderAttachError::AttachTooLarge),
+        (Refusal::AttachTooLarge, Asked::Nothing, LinkState::Attached)
+    );
+}

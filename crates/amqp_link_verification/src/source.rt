@@ -1,0 +1,67 @@
+//! The source of the peer's attach (3.5.3).
+ghost use Rattle.std.specs.Prelude.{◌≡◌, ◌⊎◌, List, ℕ, Option, Some, None, MatchResult, IsErrOf};
+ghost use Rattle.amqp_link_types.specs.declared.types.errors.SenderAttachError.{SenderAttachError as SenderError};
+ghost use Rattle.amqp_link_types.specs.declared.types.errors.ReceiverAttachError.{ReceiverAttachError as ReceiverError};
+ghost use Rattle.amqp_link_verification.specs.Termini.{verdict};
+
+use crate::filter::verify_filter;
+use amqp_link_types::types::{ReceiverAttachError, SenderAttachError, Source};
+
+/// A source that is verified as it arrives in an attach.
+pub trait VerifySource {
+    // Why a sender with the first refuses the second, its peer's.
+    ghost refused_by_sender: { Self → Self → Option SenderError };
+
+    // Why a receiver does.
+    ghost refused_by_receiver: { Self → Self → Option ReceiverError };
+
+    /// Whether a sender with this source takes its peer's, `other`. Does not allocate.
+    ///
+    /// Refused in this order: an address, though the sender is to make the source; properties of a dynamic
+    /// node, though the source is not dynamic.
+    fn verify_as_sender(&self, other: &Self) -> Result<(), SenderAttachError>
+        ensures { result ≡ verdict (refused_by_sender self.now other.now) };
+
+    /// Whether a receiver with this source takes its peer's, `other`. Only the list of the missing filters
+    /// allocates.
+    ///
+    /// Refused in this order: filters that are missing; no address, though the sender has made the source;
+    /// properties of a dynamic node, though the source is not dynamic.
+    fn verify_as_receiver(&self, other: &Self) -> Result<(), ReceiverAttachError>
+        ensures refused { MatchResult result
+            (λ _. refused_by_receiver self.now other.now ≡ None)
+            (λ error. (error ≡ ReceiverError.OutOfMemory)
+            ⊎ (refused_by_receiver self.now other.now ≡ Some error)) }
+        ensures memory { IsErrOf result ReceiverError.OutOfMemory → (names : List (List ℕ))
+            × (refused_by_receiver self.now other.now
+            ≡ Some (ReceiverError.DesiredFilterNotSupported names)) };
+}
+
+impl VerifySource for Source {
+    ghost use Rattle.amqp_link_verification.specs.Termini.{sender_refuses_source, receiver_refuses_source};
+
+    ghost refused_by_sender = { λ own theirs. sender_refuses_source theirs };
+
+    ghost refused_by_receiver = { receiver_refuses_source };
+
+    fn verify_as_sender(&self, other: &Source) -> Result<(), SenderAttachError> {
+        if other.dynamic && other.address.is_some() {
+            return Err(SenderAttachError::SourceAddressIsSomeWhenDynamicIsTrue);
+        }
+        if !other.dynamic && other.dynamic_node_properties.is_some() {
+            return Err(SenderAttachError::DynamicNodePropertiesIsSomeWhenDynamicIsFalse);
+        }
+        Ok(())
+    }
+
+    fn verify_as_receiver(&self, other: &Source) -> Result<(), ReceiverAttachError> {
+        verify_filter(&self.filter, &other.filter)?;
+        if other.dynamic && other.address.is_none() {
+            return Err(ReceiverAttachError::SourceAddressIsNoneWhenDynamicIsTrue);
+        }
+        if !other.dynamic && other.dynamic_node_properties.is_some() {
+            return Err(ReceiverAttachError::DynamicNodePropertiesIsSomeWhenDynamicIsFalse);
+        }
+        Ok(())
+    }
+}
