@@ -4,7 +4,9 @@ ghost use Rattle.amqp_link_types.specs.declared.types.errors.SenderAttachError.{
 ghost use Rattle.amqp_link_types.specs.declared.types.errors.ReceiverAttachError.{ReceiverAttachError as ReceiverError};
 ghost use Rattle.amqp_link_verification.specs.Termini.{verdict};
 
-use amqp_link_types::types::{ReceiverAttachError, SenderAttachError, Target, TargetArchetype};
+use amqp_link_types::types::{
+    ReceiverAttachError, SenderAttachError, Target, TargetArchetype, terminus,
+};
 
 /// A target that is verified as it arrives in an attach. Nothing here allocates.
 pub trait VerifyTargetArchetype {
@@ -99,7 +101,7 @@ impl VariantOfTargetArchetype for Target {
     }
 }
 
-impl VariantOfTargetArchetype for TargetArchetype {
+impl VariantOfTargetArchetype for terminus::TargetArchetype {
     ghost use Rattle.std.specs.Prelude.{false};
 
     ghost coordinates = { λ archetype. false };

@@ -43,6 +43,12 @@ pub enum Remedy {
     EndSession,
 }
 
+// The link is closed, since a field of the peer's attach is not as it has to be, or since what it asks for is
+// not implemented.
+const INVALID: Remedy = Remedy::Close(Some(Condition::InvalidField));
+
+const UNKNOWN: Remedy = Remedy::Close(Some(Condition::NotImplemented));
+
 /// What an error of a sender's attach asks for. Does not allocate.
 pub fn sender_remedy(error: &SenderAttachError) -> Remedy
     ensures { result ≡ remedy_at_sender error.now }
@@ -52,14 +58,10 @@ pub fn sender_remedy(error: &SenderAttachError) -> Remedy
         SenderAttachError::SndSettleModeNotSupported | SenderAttachError::IncomingTargetIsNone => {
             Remedy::Close(None)
         }
-        SenderAttachError::CoordinatorIsNotImplemented => {
-            Remedy::Close(Some(Condition::NotImplemented))
-        }
-        SenderAttachError::SourceAddressIsSomeWhenDynamicIsTrue
-        | SenderAttachError::TargetAddressIsNoneWhenDynamicIsTrue
-        | SenderAttachError::DynamicNodePropertiesIsSomeWhenDynamicIsFalse => {
-            Remedy::Close(Some(Condition::InvalidField))
-        }
+        SenderAttachError::CoordinatorIsNotImplemented => UNKNOWN,
+        SenderAttachError::SourceAddressIsSomeWhenDynamicIsTrue => INVALID,
+        SenderAttachError::TargetAddressIsNoneWhenDynamicIsTrue => INVALID,
+        SenderAttachError::DynamicNodePropertiesIsSomeWhenDynamicIsFalse => INVALID,
         _ => Remedy::Nothing,
     }
 }
@@ -71,15 +73,11 @@ pub fn receiver_remedy(error: &ReceiverAttachError) -> Remedy
     match error {
         ReceiverAttachError::DuplicatedLinkName => Remedy::EndSession,
         ReceiverAttachError::IncomingSourceIsNone => Remedy::Close(None),
-        ReceiverAttachError::CoordinatorIsNotImplemented => {
-            Remedy::Close(Some(Condition::NotImplemented))
-        }
-        ReceiverAttachError::InitialDeliveryCountIsNone
-        | ReceiverAttachError::SourceAddressIsNoneWhenDynamicIsTrue
-        | ReceiverAttachError::TargetAddressIsSomeWhenDynamicIsTrue
-        | ReceiverAttachError::DynamicNodePropertiesIsSomeWhenDynamicIsFalse => {
-            Remedy::Close(Some(Condition::InvalidField))
-        }
+        ReceiverAttachError::CoordinatorIsNotImplemented => UNKNOWN,
+        ReceiverAttachError::InitialDeliveryCountIsNone => INVALID,
+        ReceiverAttachError::SourceAddressIsNoneWhenDynamicIsTrue => INVALID,
+        ReceiverAttachError::TargetAddressIsSomeWhenDynamicIsTrue => INVALID,
+        ReceiverAttachError::DynamicNodePropertiesIsSomeWhenDynamicIsFalse => INVALID,
         _ => Remedy::Nothing,
     }
 }
