@@ -97,15 +97,22 @@ fn new_attach_resolves_all(rt: HostRuntime) {
     drop(ledger);
 }
 
+// Why a call on an attach was refused.
+fn refusal_of<A>(answer: &Result<A, SenderAttachError>) -> Option<Refusal> {
+    match answer {
+        Ok(_) => None,
+        Err(error) => Some(at_sender(error)),
+    }
+}
+
 // Where the state has no transition for it, nothing is given up.
 #[test]
 fn refused_new_attach_resolves_nothing(rt: HostRuntime) {
     let mut ledger = three_sent(&rt, SenderSettleMode::Mixed);
-    let is_illegal = matches!(
-        ledger.send_attach(true),
-        Err(SenderAttachError::IllegalState)
-    );
-    assert!(rt; is_illegal, "there is no transition");
+    let sent = ledger.send_attach(true);
+    let refusal = refusal_of(&sent);
+    drop(sent);
+    assert_eq!(rt; refusal, Some(Refusal::IllegalState));
     assert_pending(&rt, &ledger);
     drop(ledger);
 }
@@ -117,11 +124,10 @@ fn refused_attach_resolves_nothing(rt: HostRuntime) {
     reattach(&rt, &mut ledger);
     assert_pending(&rt, &ledger);
     let attach = attach_of(&rt, Role::Receiver, SenderSettleMode::Settled);
-    let is_refused = matches!(
-        ledger.on_incoming_attach(attach),
-        Err(SenderAttachError::SndSettleModeNotSupported)
-    );
-    assert!(rt; is_refused, "the modes do not agree");
+    let answer = ledger.on_incoming_attach(attach);
+    let refusal = refusal_of(&answer);
+    drop(answer);
+    assert_eq!(rt; refusal, Some(Refusal::SndSettleModeNotSupported));
     assert_pending(&rt, &ledger);
     drop(ledger);
 }
