@@ -24,7 +24,7 @@ abbrev pub reply_error : Bool → Error → DetachError
 reply_error true error = detach.RemoteClosedWithError error
 reply_error false error = detach.RemoteDetachedWithError error
 
--- and in a detach that the other end sent of itself
+-- and in a detach that the peer initiated
 abbrev pub remote_error : Bool → Error → ApplyRemoteDetachError
 remote_error true error = apply.RemoteClosedWithError error
 remote_error false error = apply.RemoteDetachedWithError error

@@ -4,7 +4,7 @@ use Rattle.amqp_link_state.specs.declared.state.LinkState.{LinkState}
 use Rattle.amqp_link_state.specs.declared.state.LinkState.TheVariants.{Unattached, AttachSent, IncompleteAttachSent, AttachReceived, IncompleteAttachReceived, Attached, IncompleteAttachExchanged, DetachSent, Detached, CloseSent, Closed}
 
 -- what moves a link: an attach or a detach is sent, an attach comes, a detach comes in answer to an
--- own one, or the other end detaches of itself
+-- own one, or the peer initiates a detach
 pub data Call : Type 0 where
   SendAttach : Call
   IncomingAttach : Call

@@ -1,4 +1,4 @@
--- What a link endpoint shows of itself, and how an attach follows from it (OASIS AMQP 1.0 core, 2.6.3,
+-- What a link endpoint shows, and how an attach follows from it (OASIS AMQP 1.0 core, 2.6.3,
 -- 2.6.4 and 2.7.3).
 use Rattle.std.specs.Prelude.{ℕ, false, List, [], Option, None, Some, unwrap_or}
 use Rattle.amqp_link_state.specs.declared.state.LinkFlowStateInner.{LinkFlowStateInner}

@@ -238,7 +238,7 @@ pub trait LinkAttach: LinkDetach {
 /// A link endpoint that can be attached and detached.
 pub trait Link: LinkAttach + LinkDetach {}
 
-/// What a link endpoint shows of itself. Nothing here allocates.
+/// What a link endpoint shows. Nothing here allocates.
 pub trait LinkExt: Link {
     /// The role of the endpoint, by which its flow state is marked.
     type Marker;

@@ -12,7 +12,7 @@ use Rattle.amqp_link_dispositions.specs.Said.{is_settled_by, said_of}
 abbrev pub is_settled_one : Option Bool → ReceiverSettleMode → Info → Bool
 is_settled_one given own info = is_settled_by given own info.rcv_settle_mode
 
--- what is said of one delivery, if it is kept
+-- the disposition of one delivery, if it is kept
 abbrev pub said_of_one : Option Bool → ReceiverSettleMode → DeliveryState → Bool → Info → Entries (Option DeliveryState) → Option LinkFrame
 said_of_one given own state batchable info es =
     if is_some (entry_at es info.delivery_tag)

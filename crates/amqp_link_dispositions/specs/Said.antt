@@ -14,7 +14,7 @@ use Rattle.amqp_link_types.specs.Deliveries.{Info}
 use Rattle.amqp_link_dispositions.specs.declared.groups.Group.{Group}
 use Rattle.amqp_link_dispositions.specs.Groups.{AreGroups, numbered}
 
--- what is said of one delivery, or of those from the first to the last
+-- the disposition of one delivery, or of those from the first to the last
 abbrev pub said_of : Role → ℕ → Option ℕ → Bool → DeliveryState → Bool → LinkFrame
 said_of role first last settled state batchable = frame.Disposition (record {
   role = role;

@@ -125,7 +125,7 @@ fn parted<'a>(
 /// Says of a delivery that it has this state, and is settled or not. A settled one is forgotten; else
 /// the state is kept of it. Of a delivery that is not kept nothing is said.
 ///
-/// Refused where memory is wanting, with nothing changed; only a delivery that is kept on takes
+/// Refused if it is out of memory, with nothing changed; only a delivery that is kept on takes
 /// memory.
 #[tactic(auto, using(crate::proofs::ListLemmas::unmoved))]
 pub fn dispose(
@@ -164,7 +164,7 @@ pub fn dispose(
 /// frame says as many as it can: those whose numbers follow each other, in one mode. Its last number
 /// always stands. A delivery that is settled is not entered again, though it is listed twice.
 ///
-/// Refused where memory is wanting, with nothing changed.
+/// Refused if it is out of memory, with nothing changed.
 pub fn dispose_all(
     alloc: Global,
     unsettled: &mut UnsettledMap<Option<DeliveryState>>,

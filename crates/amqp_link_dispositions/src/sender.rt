@@ -233,7 +233,7 @@ pub fn dispose(
 /// The same of several deliveries, by rising numbers, those of one number as they are listed. The
 /// frames name each number as often as it is listed.
 ///
-/// Refused where memory is wanting, with nothing changed.
+/// Refused if it is out of memory, with nothing changed.
 pub fn batch_dispose(
     alloc: Global,
     unsettled: &mut UnsettledMap<UnsettledMessage>,

@@ -28,7 +28,7 @@ pub struct Message<T> {
 
 /// A body that is read from the pieces of a delivery's payload.
 ///
-/// Want of memory aside, the answer is a function of the joined bytes: `decoded`, which each body
+/// Out of memory aside, the answer is a function of the joined bytes: `decoded`, which each body
 /// states.
 pub trait FromBody: Drop {
     /// What these bytes are read as, where there is memory.
@@ -41,6 +41,6 @@ pub trait FromBody: Drop {
             (λ error. (error ≡ DecodeError.OutOfMemory)
             ⊎ (decoded (concat pieces.now) ≡ Err error)) };
 
-    /// No bytes are read as want of memory.
+    /// No bytes are read as out of memory.
     ghost memory_aside: { (bytes : List ℕ) → decoded bytes ≡ Err OutOfMemory → ⊥ };
 }

@@ -99,7 +99,7 @@ module _ {B : Type 0} where
       Some (error.MessageDecode (record { source = source; info = info_of t }))
   delivery_refusal r t (Ok message) = if is_none r.output_handle then Some error.IllegalState else None
 
-  -- why it is refused, want of memory aside, with the link that the refusal leaves
+  -- why it is refused, out of memory aside, with the link that the refusal leaves
   abbrev pub completion_refusal : {T : Type 0} → Receiver T → Transfer → ℕ → ℕ
       → Result (Message B) DecodeError → Option (ReceiverTransferError × Receiver T)
   completion_refusal r t number offset decoded = first_of (

@@ -1,4 +1,4 @@
-//! Worked values of deliveries that come whole.
+//! Worked values of complete deliveries.
 ghost use Rattle.std.specs.Prelude.{[], Ok, Err};
 
 use crate::led::lead_to;
@@ -146,7 +146,7 @@ fn has_data(answer: &Result<Delivery<DataBody>, ReceiverTransferError>, wanted: 
     }
 }
 
-// An unsettled delivery of two bytes comes whole: what is given, whether with its bytes, and what is
+// An unsettled delivery of two bytes is complete: what is given, whether with its bytes, and what is
 // left.
 fn given_unsettled(rt: &(impl Abort + AllocGlobal)) -> (Option<Given>, bool, Left) {
     let mut link = link_in(rt, ReceiverSettleMode::First, 1);
@@ -259,7 +259,7 @@ fn byte_tag(rt: &(impl Abort + AllocGlobal)) -> DeliveryTag {
     DeliveryTag::from(vec![in rt.alloc(); 1u8].expect(rt, "memory"))
 }
 
-// What is told of a delivery that comes whole on this link, one byte in one piece.
+// What is returned of a complete delivery on this link, one byte in one piece.
 fn unread_on(rt: &(impl Abort + AllocGlobal), link: &mut ReceiverLink<Target>) -> Option<Unread> {
     let transfer = named(byte_tag(rt));
     let piece = [payload_of(rt, &[0x41])];
@@ -270,7 +270,7 @@ fn unread_on(rt: &(impl Abort + AllocGlobal), link: &mut ReceiverLink<Target>) -
     unread
 }
 
-// The delivery 3 with tag 01 comes whole, one byte in one piece, which is no section of data.
+// The delivery 3 with tag 01 is complete, one byte in one piece, which is no section of data.
 fn unread(rt: &(impl Abort + AllocGlobal)) -> (Option<Unread>, Left) {
     let mut link = link_in(rt, ReceiverSettleMode::First, 1);
     let unread = unread_on(rt, &mut link);

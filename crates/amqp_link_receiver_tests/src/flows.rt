@@ -75,7 +75,7 @@ fn sent_by(
     told
 }
 
-// What goes back for a flow of the sender, and what goes out then of itself.
+// What goes back for a flow of the sender, and the flow that the receiver sends then.
 fn back_and_out(
     rt: &(impl Abort + AllocGlobal),
 ) -> (

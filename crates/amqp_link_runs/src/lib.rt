@@ -21,7 +21,7 @@ pub struct Run {
 /// Sorts pairs by their ids; those of one id stay in the order in which they are listed. An id is
 /// compared as a number here, and does not wrap.
 ///
-/// Refused, with nothing changed, for want of memory alone; up to 20 pairs take none.
+/// Refused, with nothing changed, only if it is out of memory; up to 20 pairs allocate nothing.
 pub fn sort_by_id<T>(pairs: &mut Vec<(u32, T)>) -> Result<(), AllocError>
     ensures sorted { OnOk result (pairs.new.items ≡ sorted_by (λ pair. pair.0) pairs.old.items) }
     ensures left { OnErr result (pairs.new.items ≡ pairs.old.items) }

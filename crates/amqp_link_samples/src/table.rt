@@ -115,7 +115,7 @@ pub fn is_illegal<T: Drop>(answer: Result<T, DetachError>) -> bool {
     is_illegal
 }
 
-/// The same of one that the other end has sent of itself.
+/// The same of one that the peer has initiated.
 pub fn is_illegal_outcome(answer: Result<(), ApplyRemoteDetachError>) -> bool {
     let is_illegal = matches!(&answer, Err(ApplyRemoteDetachError::IllegalState));
     drop(answer);

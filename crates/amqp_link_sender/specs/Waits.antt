@@ -21,7 +21,7 @@ abbrev pub stop_error : Option SessionStopReason → LinkStateError
 stop_error (Some reason) = error.SessionStopped reason
 stop_error None = error.ExpectImmediateDetach
 
--- what a detach says that the other end sent of itself, by whether it closes and its error
+-- what a detach states that the peer initiated, by whether it closes and its error
 abbrev pub told_by : Bool → Option Error → LinkStateError
 told_by true None = error.RemoteClosed
 told_by false None = error.RemoteDetached

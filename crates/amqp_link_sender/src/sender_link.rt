@@ -262,7 +262,7 @@ impl<T: LinkTarget> SenderLink<T> {
     ///
     /// What waits comes first. A detach is recorded as by `apply_remote_detach_outcome`, which moves
     /// the state and releases the output handle, and answered `RemoteDetached`, `RemoteClosed` or with
-    /// that call's error (`IllegalState` where the state has no row for it, with nothing changed).
+    /// that call's error (`IllegalState` if there is no transition, with nothing changed).
     /// Another frame, or a stop without a reason, is `ExpectImmediateDetach`; a stop with one is
     /// `SessionStopped`.
     ///

@@ -87,7 +87,7 @@ with_stated credit drain own = record own {
   drain = unwrap_or drain own.drain;
 }
 
--- what a receiver states of itself: nothing of what waits at the sender, and its properties where
+-- what a receiver states: nothing of what waits at the sender, and its properties where
 -- they are to be included
 abbrev pub stated_flow : LinkFlowStateInner → OutputHandle → Bool → Bool → LinkFlow
 stated_flow own handle echo include_properties = record (flow_of own handle echo) {

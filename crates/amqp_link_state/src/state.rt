@@ -35,7 +35,7 @@ pub const DEFAULT_CREDIT: u32 = 200;
 ///                        closing one sent                 closing one comes
 ///
 ///     Detached: as Unattached.       DetachSent: an attach may be sent as from Unattached.
-///     Any state but Unattached, Detached and Closed, as the other end detaches of itself:
+///     Any state but Unattached, Detached and Closed, as the peer initiates a detach:
 ///     ---> Detached, or Closed where that detach closes.
 /// ```
 ///

@@ -1,4 +1,4 @@
--- Deliveries that came whole, as those who take them see them, and such as have ended (OASIS AMQP 1.0
+-- Complete deliveries, as those who take them see them, and such as have ended (OASIS AMQP 1.0
 -- core, 2.6.12).
 use Rattle.std.specs.Prelude.{ℕ, List, Option, Result}
 use Rattle.amqp_link_types.specs.declared.types.delivery_state.DeliveryState.{DeliveryState}
@@ -14,7 +14,7 @@ pub record Info : Type 0 where
   pub delivery_tag : List ℕ
   pub rcv_settle_mode : Option ReceiverSettleMode
 
--- a delivery that came whole on the link with this handle; its body is of type T
+-- a complete delivery on the link with this handle; its body is of type T
 pub record Delivered (T : Type 0) : Type 0 where
   pub handle : OutputHandle
   pub info : Info

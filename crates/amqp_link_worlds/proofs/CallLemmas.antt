@@ -184,7 +184,7 @@ state_of_named tag t is = ap (λ t. t.state) is
 format_of_named : (tag : Tag) (t : Transfer) → IsNamed tag t → t.message_format ≡ Some 0
 format_of_named tag t is = ap (λ t. t.message_format) is
 
--- what is held is merged of itself
+-- what is held is merged of its own transfers
 pub merged_itself : (tag : Tag) (t : Transfer) → IsNamed tag t → Merged (opening t ∷ []) t
 merged_itself tag t is = record {
   id = refl;

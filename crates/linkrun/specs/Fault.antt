@@ -4,7 +4,7 @@ use Rattle.std.specs.Fmt.{decimal}
 use Rattle.linkrun.specs.declared.fault.Fault.{Fault}
 use Rattle.linkrun.specs.declared.fault.Fault.TheVariants.{InputFailed, NotAnEvent}
 
--- what is said of it, without the line end
+-- its text, without the line end
 abbrev pub fault_text : Fault → List ℕ
 fault_text (NotAnEvent number) = codes "line " ++ decimal number ++ codes ": not an event"
 fault_text InputFailed = codes "input failed"

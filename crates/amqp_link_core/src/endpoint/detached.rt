@@ -28,7 +28,7 @@ pub fn result_of_reply(detach: Detach) -> Result<(), DetachError>
     }
 }
 
-/// What a detach says that the other end sent of itself.
+/// What a detach states that the peer initiated.
 pub fn outcome_of(detach: Detach) -> Result<(), ApplyRemoteDetachError>
     ensures { result ≡ recorded remote_error detach.closed detach.error }
 {

@@ -69,7 +69,7 @@ pub fn after_detach_reply(state: LinkState, closed: bool) -> Option<LinkState>
     }
 }
 
-/// The state after the other end has detached the link of itself.
+/// The state after a detach that the peer initiated.
 pub fn after_remote_detach(state: LinkState, closed: bool) -> Option<LinkState>
     ensures { result ≡ next_state Call.RemoteDetach closed state }
 {

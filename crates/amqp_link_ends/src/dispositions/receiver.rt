@@ -62,7 +62,7 @@ pub(super) fn frames_of<E: Drop>(answer: Result<Vec<LinkFrame>, E>) -> Option<(u
     Some(told)
 }
 
-// What is said of these deliveries, accepted; which tags are kept then, up to three, in order; and what
+// The dispositions of these deliveries, accepted; which tags are kept then, up to three, in order; and what
 // is known of the first three.
 type Answer = (Option<(usize, [Said; 4])>, [Option<u8>; 3], [Told; 3]);
 
@@ -229,7 +229,7 @@ fn settled_delivery_does_not_come_back(rt: HostRuntime) {
     assert_eq!(rt; tags, [None, None, None]);
 }
 
-// What is said of one delivery, released, and what is known of it then.
+// The disposition of one delivery, released, and what is known of it then.
 fn released(
     rt: &(impl Abort + AllocGlobal),
     settled: Option<bool>,

@@ -112,7 +112,7 @@ impl<T: LinkTarget> ReceiverLink<T> {
     /// Whether an attach that says all deliveries and states this count fits such a frame (a header of
     /// four bytes, and the body). Without an output handle it is measured with handle 0.
     ///
-    /// Refused where memory is wanting.
+    /// Refused if it is out of memory.
     pub fn complete_attach_fits(
         &self,
         max_frame_size: u32,
@@ -302,7 +302,7 @@ impl<T: LinkTarget> ReceiverLink<T> {
         self.snd_settle_mode = mode;
     }
 
-    // An attach is refused for its source: it has moved the link if that was not for want of memory.
+    // An attach is refused for its source: it has moved the link unless the verification was out of memory.
     fn without_source(
         &mut self,
         handle: Handle,

@@ -222,7 +222,7 @@ fn key_of<'a>(transfer: &Transfer, tag: &'a DeliveryTag) -> Option<&'a DeliveryT
     }
 }
 
-// What is said of the delivery.
+// The fields of the delivery.
 fn info_of(
     transfer: &Transfer,
     delivery_id: DeliveryNumber,

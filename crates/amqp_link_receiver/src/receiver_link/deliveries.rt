@@ -94,7 +94,7 @@ impl<T: LinkTarget> ReceiverLink<T> {
 
     /// A front of a delivery has come, up to this place (3.4.1): that is kept of it.
     ///
-    /// Refused where memory is wanting, with nothing changed. Only a delivery of which nothing was
+    /// Refused if it is out of memory, with nothing changed. Only a delivery of which nothing was
     /// kept takes memory.
     pub fn on_incomplete_transfer(
         &mut self,

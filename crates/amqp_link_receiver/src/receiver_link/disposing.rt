@@ -27,7 +27,7 @@ impl<T: LinkTarget> ReceiverLink<T> {
     /// delivery is forgotten; else the state is kept of it. The disposition names its number without a
     /// last one. Of a delivery that is not kept nothing is said.
     ///
-    /// Refused where memory is wanting, with nothing changed; only a delivery that is kept on takes
+    /// Refused if it is out of memory, with nothing changed; only a delivery that is kept on takes
     /// memory.
     pub fn dispose(
         &mut self,
@@ -59,7 +59,7 @@ impl<T: LinkTarget> ReceiverLink<T> {
     /// numbers follow each other and which are settled in one mode; its last number always stands. A
     /// delivery that was settled is not entered again, though it is listed twice.
     ///
-    /// Refused where memory is wanting, with nothing changed.
+    /// Refused if it is out of memory, with nothing changed.
     pub fn dispose_all(
         &mut self,
         delivery_infos: &[DeliveryInfo],
@@ -105,7 +105,7 @@ impl<T: LinkTarget> ReceiverLink<T> {
         false
     }
 
-    /// Takes a detach off the session, and answers one that the other end sent of itself: at the own
+    /// Takes a detach off the session, and answers one that the peer initiated: at the own
     /// handle, as closed and with the same error. One that answers an own detach is not answered. The
     /// link is as it was: `apply_remote_detach_outcome`, or `on_detach_reply`, moves its state.
     ///

@@ -1,4 +1,4 @@
-//! What a receiver's end shows of itself.
+//! What a receiver shows.
 ghost use Rattle.std.specs.Prelude.{◌≡◌};
 
 use crate::receiver_link::ReceiverLink;

@@ -121,7 +121,7 @@ impl<T: LinkTarget> SenderLink<T> {
     /// Whether an attach that says all deliveries and states this count fits such a frame (a header of
     /// four bytes, and the body). Without an output handle it is measured with handle 0.
     ///
-    /// Refused where memory is wanting.
+    /// Refused if it is out of memory.
     pub fn complete_attach_fits(
         &self,
         max_frame_size: u32,

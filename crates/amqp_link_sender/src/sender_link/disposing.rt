@@ -26,7 +26,7 @@ impl<T: LinkTarget> SenderLink<T> {
     /// kept of it, where it is kept at all. The disposition names its number without a last one. In
     /// mode `Settled` nothing is said and nothing ends.
     ///
-    /// Refused where memory is wanting, with nothing changed; in mode `Settled` none is taken.
+    /// Refused if it is out of memory, with nothing changed; in mode `Settled` it does not allocate.
     pub fn dispose(
         &mut self,
         delivery_id: DeliveryNumber,
@@ -64,7 +64,7 @@ impl<T: LinkTarget> SenderLink<T> {
     /// their outcomes come in that order. The dispositions name all numbers, each as often as it is
     /// listed, in the longest runs; a run of one number names no last one.
     ///
-    /// Refused where memory is wanting, with nothing changed; in mode `Settled` none is taken.
+    /// Refused if it is out of memory, with nothing changed; in mode `Settled` it does not allocate.
     pub fn batch_dispose(
         &mut self,
         ids_and_tags: &[(DeliveryNumber, DeliveryTag)],
@@ -145,7 +145,7 @@ impl<T: LinkTarget> SenderLink<T> {
         all_closed(self.alloc, &mut self.unsettled, &detach.error)
     }
 
-    /// Takes a detach off the session. One that the other end sent of itself is answered at the own
+    /// Takes a detach off the session. One that the peer initiated is answered at the own
     /// handle, as closed and with the same error; where it closes the link, each delivery ends as by
     /// `fail_pending_unsettled`. One that answers an own detach is not answered, and ends nothing.
     ///

@@ -1,4 +1,4 @@
-//! Flows that come to a sender's end (2.6.7), and transfers, which have no business there.
+//! Flows that arrive at a sender (2.6.7), and transfers, which are not valid there.
 ghost use Rattle.std.specs.Prelude.{◌≡◌, ◌+◌, ◌%◌, ◌^◌, Ok, Err, OnOk, OnErr, MatchOption};
 ghost use Rattle.amqp_link_state.specs.Counts.{count_limit, credit_after, sender_after, sender_reply};
 

@@ -1,4 +1,4 @@
-//! What a sender's end shows of itself.
+//! What a sender shows.
 ghost use Rattle.std.specs.Prelude.{◌≡◌};
 
 use crate::sender_link::SenderLink;

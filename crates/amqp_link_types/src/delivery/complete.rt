@@ -1,4 +1,4 @@
-//! Deliveries that came whole (2.6.12).
+//! Complete deliveries (2.6.12).
 ghost use Rattle.std.specs.Prelude.{◌≡◌, IfOk};
 
 use crate::delivery::info::DeliveryInfo;
@@ -7,7 +7,7 @@ use std::alloc::AllocError;
 use std::fmt;
 use std::marker::Model;
 
-/// A delivery that came whole, with its message.
+/// A complete delivery, with its message.
 ///
 /// It may be taken apart at once: what is to be settled later is its `DeliveryInfo`. A contract
 /// sees the handle, the info, the format and the message.

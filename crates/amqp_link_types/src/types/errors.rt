@@ -107,7 +107,7 @@ pub enum DetachError {
     RemoteClosedWithError(RemoteError),
 }
 
-/// Why a detach that the other end sent of itself was not recorded, or what one that was says.
+/// Why a detach that the peer initiated was not recorded, or what one that was recorded states.
 #[derive(Debug, PartialEq, Eq, Drop, Error)]
 pub enum ApplyRemoteDetachError {
     /// The link is not attached in any way, so nothing was recorded.
@@ -245,7 +245,7 @@ impl From<AllocError> for ReceiverAttachError {
     }
 }
 
-/// A delivery came whole, and its bytes were not read as a message. It is to be settled by its
+/// A delivery is complete, and its bytes were not read as a message. It is to be settled by its
 /// user, as any other.
 #[derive(Debug, PartialEq, Eq, Drop, Error)]
 #[error("the message of a delivery was not read")]

@@ -139,7 +139,7 @@ impl<V> UnsettledMap<V> {
 
     /// Puts a delivery: in the place of the one that is there, which is answered, or last.
     ///
-    /// Where memory is wanting nothing has changed and both come back; a tag that is there takes
+    /// If it is out of memory nothing has changed and both come back; a tag that is there takes
     /// none.
     pub fn put(
         &mut self,
@@ -254,7 +254,7 @@ impl<V: KeepsState> UnsettledMap<V> {
 impl UnsettledMap<UnsettledMessage> {
     /// Of each delivery its tag and the state that is known of it, as an attach says it (2.7.3).
     ///
-    /// Refused where memory is wanting.
+    /// Refused if it is out of memory.
     pub fn states(&self) -> Result<UnsettledMap<Option<DeliveryState>>, AllocError>
         ensures { IfOk result (λ states. states ≡ states_of self.now) }
     {

@@ -1,4 +1,4 @@
-//! What no clause says of deliveries that came whole: their text, and that each call answers while
+//! What no clause says of complete deliveries: their text, and that each call answers while
 //! there is memory.
 use amqp_link_types::delivery::{Delivery, DeliveryInfo};
 use amqp_link_types::types::{DeliveryTag, Message, OutputHandle, ReceiverSettleMode};
