@@ -1,6 +1,6 @@
 -- The attach that a receiver's end sends, and the one that comes to it (OASIS AMQP 1.0 core, 2.6.3 and
 -- 2.7.3).
-use Rattle.std.specs.Prelude.{◌≡◌, ℕ, ◌&&◌, ◌||◌, Bool, true, false, [], ◌∷◌, Option, Some, is_some, is_none, option_map, unwrap_or, if◌then◌else◌, refl}
+use Rattle.std.specs.Prelude.{◌≡◌, ℕ, ◌&&◌, ◌||◌, Bool, true, false, [], ◌∷◌, Option, Some, None, is_some, is_none, option_map, unwrap_or, if◌then◌else◌, refl}
 use Rattle.amqp_link_state.specs.declared.state.LinkState.{LinkState}
 use Rattle.amqp_link_state.specs.declared.state.LinkState.TheVariants.{IncompleteAttachSent, IncompleteAttachReceived, IncompleteAttachExchanged}
 use Rattle.amqp_link_types.specs.declared.types.attach.Attach.{Attach}
@@ -43,6 +43,10 @@ is_out_of_memory _ = false
 abbrev pub is_listing : ReceiverAttachError → Bool
 is_listing (error.DesiredFilterNotSupported names) = true
 is_listing _ = false
+
+abbrev pub is_refused_by_list : Option ReceiverAttachError → Bool
+is_refused_by_list None = false
+is_refused_by_list (Some error) = is_listing error
 
 module _ {T : Type 0} where
   -- what a receiver shows, if its target is sent so
@@ -131,7 +135,7 @@ module _ {T : Type 0} where
   -- Whether taking it allocates: properties of both endpoints are put together, or a refusal names filters.
   abbrev pub does_taking_allocate : (TargetArchetype → Option T) → (T → T → Option ReceiverAttachError) → Receiver T → Attach → Bool
   does_taking_allocate admitted refused r attach =
-      is_some (receiver_refusal admitted refused r attach) || (is_some r.flow_state.properties && is_some attach.properties)
+      is_refused_by_list (receiver_refusal admitted refused r attach) || (is_some r.flow_state.properties && is_some attach.properties)
 
   -- ---- what a receiver shows then
 
