@@ -1,3 +1,5 @@
+pub mod Named
+pub mod Events
 pub use Rattle.amqp_link_core.specs.AttachFields
 pub use Rattle.amqp_link_core.specs.AttachSent
 pub use Rattle.amqp_link_core.specs.AttachTests
@@ -56,7 +58,9 @@ pub use Rattle.amqp_link_values.specs.SameLaws
 pub use Rattle.amqp_link_values.specs.View
 pub use Rattle.amqp_link_verification.specs.Filters
 pub use Rattle.amqp_link_verification.specs.Termini
+pub use Rattle.amqp_link_worlds.specs.Attachable
 pub use Rattle.amqp_link_worlds.specs.Before
+pub use Rattle.amqp_link_worlds.specs.Invariants
 pub use Rattle.amqp_link_worlds.specs.PairRuns
 pub use Rattle.amqp_link_worlds.specs.Resumptions
 pub use Rattle.amqp_link_worlds.specs.Steps

@@ -1,126 +1,45 @@
 //! Links and deliveries of AMQP 1.0 (OASIS AMQP 1.0 core, 2.6, 2.7 and 3.4), without IO.
 //!
-//! Payloads and incoming frames go in; outgoing frames, deliveries and resolved outcomes come out;
-//! no call waits. Names follow fe2o3-amqp 0.18.4. What allocates returns a `Result`, and a call that is out of
-//! memory has changed nothing; `Pair::attach` alone has steps, and says so.
+//! Payloads and incoming frames go in; outgoing frames, deliveries and resolved outcomes come out; no call
+//! waits. Names follow fe2o3-amqp 0.18.4. A call that allocates returns a `Result`; if it is out of memory,
+//! it has changed nothing. `Pair::attach` alone has steps, which its doc describes.
 //!
-//! The crates below hold the modules; this one passes their names on.
+//! Where to look:
+//!
+//! - `sender_link` and `receiver_link`, the two link endpoints; `ledger`, a sender that records what became of
+//!   each delivery; `endpoint`, the traits of all three.
+//! - `pair`, two endpoints and the wire between them.
+//! - `delivery`, what is sent and received, and its outcome; `incomplete_transfer`, a delivery whose last
+//!   transfer has not arrived; `resumption`, deliveries that are resumed once a link is attached again.
+//! - `frame` and `types`, the performatives and all that they carry; `state`, link states and credit; `errors`.
+//! - `position`, how far into a message a number of bytes reaches; `verification` of sources and targets; `laws`,
+//!   what holds over the definitions that contracts cite.
+//!
+//! The names that most callers need are re-exported here as well.
 #![tactic(auto)]
 
-pub use amqp_link_core::endpoint::Link;
-pub use amqp_link_core::endpoint::LinkAttach;
-pub use amqp_link_core::endpoint::LinkDetach;
-pub use amqp_link_core::endpoint::LinkExt;
-pub use amqp_link_core::endpoint::failing::Action;
-pub use amqp_link_core::endpoint::target::LinkTarget;
-pub use amqp_link_core::incomplete_transfer::IncompleteTransfer;
-pub use amqp_link_core::link_parts::LinkParts;
-pub use amqp_link_core::resumption::Resolution;
-pub use amqp_link_core::resumption::ResumingDelivery;
-pub use amqp_link_core::resumption::resume_delivery;
-pub use amqp_link_delivery::Builder;
-pub use amqp_link_delivery::FromDeliveryFailure;
-pub use amqp_link_delivery::FromDeliveryState;
-pub use amqp_link_delivery::FromPreSettled;
-pub use amqp_link_delivery::RecvError;
-pub use amqp_link_delivery::SendError;
-pub use amqp_link_delivery::SendResult;
-pub use amqp_link_delivery::Sendable;
-pub use amqp_link_delivery::Uninitialized;
-pub use amqp_link_delivery::outcome_of;
-pub use amqp_link_exchange::ResumingDeliveries;
-pub use amqp_link_ledger::fate::Fate;
-pub use amqp_link_ledger::ledger::OutcomeLedger;
-pub use amqp_link_pair::Answer;
-pub use amqp_link_pair::AnswerOf;
-pub use amqp_link_pair::Arrived;
-pub use amqp_link_pair::Event;
-pub use amqp_link_pair::Pair;
-pub use amqp_link_pair::PairError;
-pub use amqp_link_pair::Progress;
-pub use amqp_link_pair::Resumed;
-pub use amqp_link_pair::Sent;
-pub use amqp_link_payloads::position::place_of;
-pub use amqp_link_payloads::position::position_of;
-pub use amqp_link_receiver::receiver_link::ReceiverAttachExchange;
-pub use amqp_link_receiver::receiver_link::ReceiverLink;
-pub use amqp_link_receiver::receiver_link::get_max_message_size;
-pub use amqp_link_sender::sender_link::SenderAttachExchange;
-pub use amqp_link_sender::sender_link::SenderLink;
-pub use amqp_link_sender::sender_link::Sending;
-pub use amqp_link_sender::sender_link::Waiting;
-pub use amqp_link_state::role::IntoRole;
-pub use amqp_link_state::role::ReceiverMarker;
-pub use amqp_link_state::role::SenderMarker;
-pub use amqp_link_state::state::DEFAULT_CREDIT;
-pub use amqp_link_state::state::InsufficientCredit;
-pub use amqp_link_state::state::LinkFlowState;
-pub use amqp_link_state::state::LinkFlowStateInner;
-pub use amqp_link_state::state::LinkState;
-pub use amqp_link_types::delivery::Delivery;
-pub use amqp_link_types::delivery::DeliveryInfo;
-pub use amqp_link_types::delivery::DeliveryOutcome;
-pub use amqp_link_types::delivery::Outcomes;
-pub use amqp_link_types::delivery::Settlement;
-pub use amqp_link_types::delivery::UnsettledMessage;
-pub use amqp_link_types::delivery::copy_of_outcome;
-pub use amqp_link_types::frame::LinkFrame;
-pub use amqp_link_types::frame::LinkTransfer;
-pub use amqp_link_types::frame::clear_continuation_fields;
-pub use amqp_link_types::frame::continuation_of;
-pub use amqp_link_types::types::ApplyRemoteDetachError;
-pub use amqp_link_types::types::Attach;
-pub use amqp_link_types::types::ConnectionStopReason;
-pub use amqp_link_types::types::DataBody;
-pub use amqp_link_types::types::DecodeError;
-pub use amqp_link_types::types::DeliveryNumber;
-pub use amqp_link_types::types::DeliveryState;
-pub use amqp_link_types::types::DeliveryTag;
-pub use amqp_link_types::types::Descriptor;
-pub use amqp_link_types::types::Detach;
-pub use amqp_link_types::types::DetachError;
-pub use amqp_link_types::types::Disposition;
-pub use amqp_link_types::types::DispositionError;
-pub use amqp_link_types::types::DistributionMode;
-pub use amqp_link_types::types::Error;
-pub use amqp_link_types::types::Fields;
-pub use amqp_link_types::types::FilterSet;
-pub use amqp_link_types::types::FlowError;
-pub use amqp_link_types::types::FromBody;
-pub use amqp_link_types::types::Handle;
-pub use amqp_link_types::types::InputHandle;
-pub use amqp_link_types::types::LinkFlow;
-pub use amqp_link_types::types::LinkRelayError;
-pub use amqp_link_types::types::LinkStateError;
-pub use amqp_link_types::types::Message;
-pub use amqp_link_types::types::MessageDecodeError;
-pub use amqp_link_types::types::MessageFormat;
-pub use amqp_link_types::types::Outcome;
-pub use amqp_link_types::types::OutputHandle;
-pub use amqp_link_types::types::Payload;
-pub use amqp_link_types::types::ReceiverAttachError;
-pub use amqp_link_types::types::ReceiverSettleMode;
-pub use amqp_link_types::types::ReceiverTransferError;
-pub use amqp_link_types::types::Role;
-pub use amqp_link_types::types::SenderAttachError;
-pub use amqp_link_types::types::SenderSettleMode;
-pub use amqp_link_types::types::SequenceNo;
-pub use amqp_link_types::types::SessionStopReason;
-pub use amqp_link_types::types::Source;
-pub use amqp_link_types::types::Symbol;
-pub use amqp_link_types::types::Symbols;
-pub use amqp_link_types::types::Target;
-pub use amqp_link_types::types::TargetArchetype;
-pub use amqp_link_types::types::TerminusDurability;
-pub use amqp_link_types::types::TerminusExpiryPolicy;
-pub use amqp_link_types::types::Text;
-pub use amqp_link_types::types::Transfer;
-pub use amqp_link_types::types::UnsettledMap;
-pub use amqp_link_types::types::Value;
-pub use amqp_link_types::types::Whole;
-pub use amqp_link_values::length::EncodedLen;
-pub use amqp_link_verification::FilterError;
-pub use amqp_link_verification::VariantOfTargetArchetype;
-pub use amqp_link_verification::VerifySource;
-pub use amqp_link_verification::VerifyTargetArchetype;
-pub use amqp_link_verification::verify_filter;
+pub mod delivery;
+pub mod endpoint;
+pub mod errors;
+pub mod frame;
+pub mod incomplete_transfer;
+pub mod laws;
+pub mod ledger;
+pub mod pair;
+pub mod position;
+pub mod receiver_link;
+pub mod resumption;
+pub mod sender_link;
+pub mod state;
+pub mod types;
+pub mod verification;
+
+pub use delivery::{Delivery, DeliveryInfo, Sendable};
+pub use endpoint::{Link, LinkAttach, LinkDetach, LinkExt, LinkParts};
+pub use frame::{LinkFrame, LinkTransfer};
+pub use incomplete_transfer::IncompleteTransfer;
+pub use ledger::{Fate, OutcomeLedger};
+pub use pair::{Answer, Arrived, Event, Pair, PairError, Progress, Resumed, Sent};
+pub use receiver_link::ReceiverLink;
+pub use sender_link::{SenderLink, Sending, Waiting};
+pub use types::{DeliveryState, DeliveryTag, Payload, Whole};

@@ -11,8 +11,8 @@ use Rattle.amqp_link_core.specs.Attaching.{IsDivided, NeverFitsFrame}
 use Rattle.amqp_link_core.specs.LinkStates.{Call, next_state}
 use Rattle.amqp_link_core.specs.Shown.{Shown, attach_stated}
 
--- An endpoint sends the attach that it states, with as many of the entries as fit, by the transition of
--- a complete or an incomplete one.
+-- An endpoint sends the attach that it states, with as many of the entries as fit; the state moves as after a
+-- complete or an incomplete attach.
 pub record SendsAttach {D : Type 0} (s : Shown D) (entries : Entries (Option DeliveryState)) (sent : LinkFrame) (next : LinkState) : Type 0 where
   pub number : OutputHandle
   pub handle_is : s.output_handle ≡ Some number
@@ -21,7 +21,7 @@ pub record SendsAttach {D : Type 0} (s : Shown D) (entries : Entries (Option Del
   pub divided : IsDivided (attach_stated s number) entries s.max_frame_size attach
   pub step : next_state Call.SendAttach attach.incomplete_unsettled s.local_state ≡ Some next
 
--- it has a handle and a transition, and no attach fits, with however few of the entries
+-- there are a handle and a transition, and the attach does not fit, with however few of the entries
 pub record IsTooLarge {D : Type 0} (s : Shown D) (entries : Entries (Option DeliveryState)) : Type 0 where
   pub number : OutputHandle
   pub handle_is : s.output_handle ≡ Some number

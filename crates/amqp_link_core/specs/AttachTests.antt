@@ -5,7 +5,7 @@ use Rattle.std.specs.Prelude.{◌≡◌, Bool, true, false, List, [], ◌∷◌,
 abbrev pub refused_if : {E : Type 0} → Bool → E → Option E
 refused_if holds error = if holds then Some error else None
 
--- the peer's terminus is verified beside the own one if this is asked for, and both are there
+-- why the peer's terminus is refused beside the own one, if the link verifies it and both are there
 abbrev pub verified : {A E : Type 0} → Bool → (A → A → Option E) → Option A → Option A → Option E
 verified true refused (Some own) (Some theirs) = refused own theirs
 verified _ refused _ _ = None
@@ -16,7 +16,7 @@ first_of [] = None
 first_of (None ∷ tests) = first_of tests
 first_of (Some error ∷ tests) = Some error
 
--- each test with what a refusal by it leaves of the endpoint
+-- tests in order, each with the endpoint that its refusal leaves
 abbrev pub Tests : Type 0 → Type 0 → Type 0
 Tests E S = List (Option E × S)
 
@@ -32,11 +32,11 @@ module _ {E S : Type 0} where
   left_by_first s ((None, left) ∷ tests) = left_by_first s tests
   left_by_first s ((Some error, left) ∷ tests) = left
 
-  -- what is left after a refusal: the endpoint as it was if it is out of memory
+  -- what a refusal leaves: the endpoint as it was if it is out of memory
   abbrev pub left_after : Bool → S → Tests E S → S
   left_after out_of_memory s tests = if out_of_memory then s else left_by_first s tests
 
-  -- what holds of each is so of the one that is left
+  -- P holds of each endpoint that a refusal leaves
   abbrev pub Each : (S → Type 0) → Tests E S → Type 0
   Each P [] = Unit {0}
   Each P (test ∷ tests) = P test.1 × Each P tests
@@ -50,7 +50,7 @@ module _ {E S : Type 0} where
   left_after_is P true s tests own each = own
   left_after_is P false s tests own each = left_by_first_is P s tests own each
 
-  -- after a refusal it is one of those that the tests leave
+  -- after a refusal P holds of the endpoint that is left
   pub refused_leaves : (P : S → Type 0) (s : S) (tests : Tests E S) (error : E) → first_refusal tests ≡ Some error → Each P tests → P (left_by_first s tests)
   refused_leaves P s [] error stop each = absurd (cc)
   refused_leaves P s ((None, left) ∷ tests) error stop each = refused_leaves P s tests error stop each.1

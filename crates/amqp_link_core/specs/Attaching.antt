@@ -6,17 +6,17 @@ use Rattle.amqp_link_types.specs.Size.{attach_len}
 use Rattle.amqp_link_types.specs.declared.types.attach.Attach.{Attach}
 use Rattle.amqp_link_types.specs.declared.types.delivery_state.DeliveryState.{DeliveryState}
 
--- what an attach says of unsettled deliveries: each tag, with its state or with none
+-- the unsettled deliveries that an attach states: each tag, with its state or without one
 abbrev pub States : Type 0
 States = Entries (Option DeliveryState)
 
--- some halving has taken place
+-- whether the entries were halved
 abbrev pub is_halved : ℕ → Bool
 is_halved zero = false
 is_halved (suc j) = true
 
--- The attach with the first of its entries, their number halved j times and rounded down, and
--- marked incomplete where it is halved at all. Where there are none to begin with its map is null.
+-- The attach with the first of its entries, their number halved j times and rounded down, and marked
+-- incomplete if it was halved at all. If there were no entries to begin with, its map is null.
 abbrev pub with_entries : Attach → States → ℕ → Attach
 with_entries attach entries j =
     record attach {
@@ -33,7 +33,7 @@ pub record Divided (attach : Attach) (entries : States) (j frame : ℕ) : Type 0
   pub fits : FitsFrame (with_entries attach entries j) frame
   pub least : (i : ℕ) → i < j → ¬ FitsFrame (with_entries attach entries i) frame
 
--- no number of halvings lets the attach fit
+-- the attach does not fit with any number of halvings
 pub record NeverFitsFrame (attach : Attach) (entries : States) (frame : ℕ) : Type 0 where
   pub none : (j : ℕ) → ¬ FitsFrame (with_entries attach entries j) frame
 

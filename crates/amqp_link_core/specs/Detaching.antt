@@ -1,4 +1,4 @@
--- What the calls of a detach answer (OASIS AMQP 1.0 core, 2.6.5 and 2.7.7).
+-- The results of the calls that take a detach (OASIS AMQP 1.0 core, 2.6.5 and 2.7.7).
 use Rattle.std.specs.Prelude.{Bool, true, false, Option, Some, None, Result, Ok, Err}
 use Rattle.amqp_link_types.specs.declared.frame.LinkFrame.{LinkFrame}
 use Rattle.amqp_link_types.specs.declared.frame.LinkFrame.TheVariants as frame
@@ -14,17 +14,17 @@ abbrev pub detach_frame : OutputHandle → Bool → Option Error → LinkFrame
 detach_frame handle closed error =
     frame.Detach (record { handle = record { 0 = handle.0 }; closed = closed; error = error })
 
--- a detach that was recorded is answered by its error, named by whether it closes
+-- the result of a detach that was recorded: its error, if it carries one
 abbrev pub recorded : {E : Type 0} → (Bool → Error → E) → Bool → Option Error → Result (Unit {0}) E
 recorded name closed None = Ok tt
 recorded name closed (Some error) = Err (name closed error)
 
--- the name of the other end's error in a reply
+-- the error that a reply carries, by whether it closes the link
 abbrev pub reply_error : Bool → Error → DetachError
 reply_error true error = detach.RemoteClosedWithError error
 reply_error false error = detach.RemoteDetachedWithError error
 
--- and in a detach that the peer initiated
+-- the error that a detach carries which the peer initiated
 abbrev pub remote_error : Bool → Error → ApplyRemoteDetachError
 remote_error true error = apply.RemoteClosedWithError error
 remote_error false error = apply.RemoteDetachedWithError error

@@ -1,4 +1,4 @@
--- What follows once an attach has failed (OASIS AMQP 1.0 core, 2.6.3, 2.5.8 and 2.8.15).
+-- What to do after an attach has failed (OASIS AMQP 1.0 core, 2.6.3, 2.5.8 and 2.8.15).
 use Rattle.std.specs.Prelude.{ℕ, Bool, true, ◌&&◌, List, Option, Some, None, is_some, if◌then◌else◌, codes}
 use Rattle.amqp_link_state.specs.declared.state.LinkState.{LinkState}
 use Rattle.amqp_link_types.specs.declared.types.definitions.Error.{Error}
@@ -21,7 +21,7 @@ abbrev pub condition_text : Condition → List ℕ
 condition_text NotImplemented = codes "amqp:not-implemented"
 condition_text InvalidField = codes "amqp:invalid-field"
 
--- the error with which a session ends in which a link's name is in use
+-- the error with which a session ends because the name of a link is in use
 abbrev pub handle_in_use : Error
 handle_in_use = record {
   condition = codes "amqp:session:handle-in-use";
@@ -29,7 +29,7 @@ handle_in_use = record {
   info = None;
 }
 
--- what an error of a sender's attach asks for
+-- what follows from an error of a sender's attach
 abbrev pub sender_remedy : SenderAttachError → Remedy
 sender_remedy sender.DuplicatedLinkName = remedy.EndSession
 sender_remedy sender.SndSettleModeNotSupported = remedy.Close None
@@ -40,7 +40,7 @@ sender_remedy sender.TargetAddressIsNoneWhenDynamicIsTrue = remedy.Close (Some I
 sender_remedy sender.DynamicNodePropertiesIsSomeWhenDynamicIsFalse = remedy.Close (Some InvalidField)
 sender_remedy _ = remedy.Nothing
 
--- and one of a receiver's
+-- what follows from an error of a receiver's attach
 abbrev pub receiver_remedy : ReceiverAttachError → Remedy
 receiver_remedy receiver.DuplicatedLinkName = remedy.EndSession
 receiver_remedy receiver.IncomingSourceIsNone = remedy.Close None
@@ -59,25 +59,25 @@ can_close state handle = is_some (next_state Call.SendDetach true state) && is_s
 abbrev pub error_of : Condition → Error
 error_of condition = record { condition = condition_text condition; description = None; info = None }
 
--- the error that is sent for a remedy: none if the link is to be closed and cannot be
+-- the error to send for a remedy: none if the link is to be closed and cannot be
 abbrev pub error_sent : Remedy → LinkState → Option OutputHandle → Option Error
 error_sent (remedy.Close (Some condition)) state handle = if can_close state handle then Some (error_of condition) else None
 error_sent remedy.EndSession state handle = Some handle_in_use
 error_sent _ state handle = None
 
--- the state once a closing detach was tried, if that moves it
+-- the state after the attempt to close the link, if there is a transition
 abbrev pub state_after : Remedy → LinkState → Option LinkState
 state_after (remedy.Close condition) state = next_state Call.SendDetach true state
 state_after _ state = None
 
 module _ {E : Type 0} where
-  -- what is returned of a closing detach with this error that was tried, with the transition and the output handle
+  -- what an attempt to close the link with this error returns, by the transition and the output handle
   abbrev pub closed_with : E → E → Option Error → Option LinkState → Option OutputHandle → E × Action
   closed_with error illegal sent (Some next) (Some handle) = (error, action.Detach (detach_frame handle true sent))
   closed_with error illegal sent _ _ = (illegal, action.Nothing)
 
-  -- What is returned once an attach has failed with an error that asks for this remedy; the second error is that
-  -- of a link that cannot be closed.
+  -- What is returned after an attach has failed with an error that has this remedy; the second error is the
+  -- one for a link that cannot be closed.
   abbrev pub handled : E → E → Remedy → LinkState → Option OutputHandle → E × Action
   handled error illegal remedy.Nothing state handle = (error, action.Nothing)
   handled error illegal remedy.EndSession state handle = (error, action.EndSession handle_in_use)

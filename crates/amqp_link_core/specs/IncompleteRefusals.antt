@@ -20,37 +20,37 @@ is_too_long bytes = nat_le (2 ^ 64) (length bytes) || nat_le (2 ^ 32) (position 
 abbrev pub Test : Type 0
 Test = Bool × ReceiverTransferError
 
--- of the bytes of a delivery
+-- the test of the bytes of a delivery
 abbrev pub long_test : List ℕ → List Test
 long_test bytes = (is_too_long bytes, PayloadTooLong) ∷ []
 
--- of a delivery's first transfer
+-- the tests of a delivery's first transfer
 abbrev pub start_tests : Transfer → List ℕ → List Test
 start_tests t payload =
     (is_none t.delivery_id, DeliveryIdIsNone)
     ∷ (is_none t.delivery_tag, DeliveryTagIsNone)
     ∷ long_test payload
 
--- whether a transfer names another tag or format than the delivery's
+-- whether a transfer carries another tag or format than the delivery's
 abbrev pub is_of_another : Transfer → Transfer → Bool
 is_of_another old t =
     differs bytes_eq old.delivery_tag t.delivery_tag
     || differs nat_eq old.message_format t.message_format
 
--- whether a transfer names another tag, id or format than the delivery's
+-- whether a transfer carries another tag, id or format than the delivery's
 abbrev pub is_inconsistent : Transfer → Transfer → Bool
 is_inconsistent old t =
     differs bytes_eq old.delivery_tag t.delivery_tag
     || differs nat_eq old.delivery_id t.delivery_id
     || differs nat_eq old.message_format t.message_format
 
--- of a continuation
+-- the tests of a continuation
 abbrev pub append_tests : Held → Transfer → List ℕ → List Test
 append_tests held t payload =
     (is_inconsistent held.performative t, InconsistentFieldInMultiFrameDelivery)
     ∷ long_test (held_bytes held ++ payload)
 
--- of the first transfer of a delivery that is taken up again, whose id replaces the old one
+-- the tests of the first transfer of a resumption, whose id replaces the delivery's
 abbrev pub resume_tests : Held → Transfer → List ℕ → List Test
 resume_tests held t payload =
     (is_none t.delivery_id, DeliveryIdIsNone)

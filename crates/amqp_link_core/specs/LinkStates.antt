@@ -3,8 +3,8 @@ use Rattle.std.specs.Prelude.{Bool, true, false, Option, Some, None}
 use Rattle.amqp_link_state.specs.declared.state.LinkState.{LinkState}
 use Rattle.amqp_link_state.specs.declared.state.LinkState.TheVariants.{Unattached, AttachSent, IncompleteAttachSent, AttachReceived, IncompleteAttachReceived, Attached, IncompleteAttachExchanged, DetachSent, Detached, CloseSent, Closed}
 
--- what moves a link: an attach or a detach is sent, an attach comes, a detach comes in answer to an
--- own one, or the peer initiates a detach
+-- the calls that move a link: an attach or a detach is sent, an attach arrives, the peer replies to a detach
+-- of this endpoint, or the peer initiates a detach
 pub data Call : Type 0 where
   SendAttach : Call
   IncomingAttach : Call
@@ -12,8 +12,8 @@ pub data Call : Type 0 where
   DetachReply : Call
   RemoteDetach : Call
 
--- The state after a call, row by row; a call in a state without a row moves nothing. The flag says
--- of an attach that it is incomplete, and of a detach that it closes.
+-- The state after a call: none if there is no transition. The flag states whether an attach is incomplete, or
+-- whether a detach closes the link.
 abbrev pub next_state : Call → Bool → LinkState → Option LinkState
 next_state SendAttach false Unattached = Some AttachSent
 next_state SendAttach false Detached = Some AttachSent

@@ -1,4 +1,4 @@
--- What all transfers of one delivery say together (OASIS AMQP 1.0 core, 2.7.5).
+-- The merged fields of all transfers of one delivery (OASIS AMQP 1.0 core, 2.7.5).
 use Rattle.std.specs.Prelude.{◌≡◌, Bool, true, false, List, [], ◌∷◌, map, filter, find, filter_map, slice_get, Option, Some, None, option_and_then, IsSomeAnd}
 use Rattle.std.specs.List.{list_any, last_or}
 use Rattle.std.specs.Option.{option_or}
@@ -6,7 +6,7 @@ use Rattle.amqp_link_types.specs.DeliveryStates.{is_terminal}
 use Rattle.amqp_link_types.specs.declared.types.delivery_state.DeliveryState.{DeliveryState}
 use Rattle.amqp_link_types.specs.declared.types.transfer.Transfer.{Transfer}
 
--- a transfer, and whether it began the delivery or took it up again
+-- a transfer, and whether it began the delivery or resumed it
 pub record Came : Type 0 where
   pub opens : Bool
   pub transfer : Transfer
@@ -40,9 +40,9 @@ settled_by (flag ∷ flags) = Some (list_any (λ is. is) (flag ∷ flags))
 abbrev pub state_by : List DeliveryState → Option DeliveryState
 state_by states = option_or (find is_terminal states) (last states)
 
--- The merged fields of all transfers of a delivery, in the order in which they came. Each is said of
--- the whole list: the id is that of the last which began or took up the delivery, the format the
--- first that is there; all else, the tag too, is the first transfer's.
+-- The merged fields of all transfers of a delivery, in the order in which they arrived. Each is a statement
+-- about the whole list: the id is that of the last transfer which began or resumed the delivery, the format
+-- the first that is there; all other fields, the tag too, are the first transfer's.
 pub record Merged (came : List Came) (merged : Transfer) : Type 0 where
   pub id : merged.delivery_id ≡ option_and_then (λ c. c.transfer.delivery_id) (last (filter (λ c. c.opens) came))
   pub format : merged.message_format ≡ first (present (map (λ c. c.transfer.message_format) came))
@@ -56,12 +56,12 @@ pub record Merged (came : List Came) (merged : Transfer) : Type 0 where
         state = merged.state;
       })
 
--- a transfer that tells nothing of the fields which a continuation can add to
+-- a transfer without format, settled flag and state, which are the fields that a continuation can add
 pub record IsSilent (t : Transfer) : Type 0 where
   pub format : t.message_format ≡ None
   pub settled : t.settled ≡ None
   pub state : t.state ≡ None
 
--- what a silent transfer gives a delivery that it takes up again: its id
+-- a delivery after it is resumed by a silent transfer: it has the transfer's id
 abbrev pub resumed : Transfer → Transfer → Transfer
 resumed old t = record old { delivery_id = t.delivery_id }

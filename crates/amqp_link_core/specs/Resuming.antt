@@ -1,4 +1,4 @@
--- What becomes of an unsettled delivery as its link is attached again (OASIS AMQP 1.0 core, 2.6.13).
+-- How an unsettled delivery is resolved when its link is attached again (OASIS AMQP 1.0 core, 2.6.13).
 use Rattle.std.specs.Prelude.{◌≡◌, ℕ, Bool, true, false, List, drop, ◌&&◌, ◌||◌, ◌==◌, nat_lt, option_map, unwrap_or, Option, Some, None, IsSome, Result, Ok, if◌then◌else◌}
 use Rattle.amqp_link_types.specs.DeliveryStates.{carries_more}
 use Rattle.amqp_link_types.specs.Entries.{Tag}
@@ -36,8 +36,8 @@ receiver_report None = nothing
 receiver_report (Some None) = front 0 0
 receiver_report (Some (Some state)) = report_of state
 
--- what is still to be sent: all from the place on where the receiver's front ends, or the whole
--- payload where that names no place in it
+-- the bytes still to be sent: those from the end of the receiver's front on, or the whole payload if the
+-- receiver's position has no place in it
 abbrev pub rest_from : List ℕ → ℕ → ℕ → List ℕ
 rest_from payload section offset =
     unwrap_or (option_map (λ i. drop i payload) (place payload section offset)) payload
@@ -47,7 +47,7 @@ abbrev pub is_beyond : ℕ → ℕ → ℕ → ℕ → Bool
 is_beyond section offset section' offset' =
     nat_lt section' section || (section' == section && nat_lt offset' offset)
 
--- what the sender reports is past a front: a front beyond it, or an outcome
+-- the sender's report is past a front: a front beyond it, or an outcome
 abbrev pub is_past : Report → ℕ → ℕ → Bool
 is_past nothing section' offset' = false
 is_past (front section offset) section' offset' = is_beyond section offset section' offset'
@@ -81,8 +81,8 @@ row tag entry (ended local) (ended remote) =
     then Outcome (Ok (Some local))
     else Resuming (RestateOutcome tag entry.payload local entry.message_format)
 
--- what becomes of the delivery with this tag: an entry at its sender, and what the receiver's unsettled
--- map has at the tag
+-- how the delivery with this tag is resolved: by its entry at the sender, and by what the receiver's
+-- unsettled map has at the tag
 abbrev pub resolution : Tag → UnsettledMessage → Option (Option DeliveryState) → Resolution
 resolution tag entry remote = row tag entry (sender_report entry.state) (receiver_report remote)
 
@@ -93,7 +93,7 @@ is_resumed _ = false
 
 -- ---- a resolution that is decided before the entry is moved
 
--- what is made of a delivery by a plan
+-- the resolution of a delivery by a plan
 abbrev pub resolution_by : PlannedResolution → Tag → UnsettledMessage → Resolution
 resolution_by plan.Resend tag entry = Resuming (Resend entry)
 resolution_by (plan.Resume rest) tag entry = Resuming (Resume entry rest)
@@ -109,7 +109,7 @@ does_carry_tag plan.Abort = true
 does_carry_tag plan.RestateOutcome = true
 does_carry_tag _ = false
 
--- the sender's outcome is stated once more
+-- the sender's outcome is stated again
 abbrev pub is_restated : PlannedResolution → Bool
 is_restated plan.RestateOutcome = true
 is_restated _ = false
@@ -120,7 +120,7 @@ outcome_by plan.LocalOutcome entry = Some (Ok entry.state)
 outcome_by (plan.RemoteOutcome state) entry = Some (Ok (Some state))
 outcome_by _ entry = None
 
--- the state or the outcome carries an error or annotations, which a copy allocates
+-- whether the state or outcome carries an error or annotations, which a copy allocates
 abbrev pub does_carry : Option DeliveryState → Bool
 does_carry None = false
 does_carry (Some state) = carries_more state
@@ -135,7 +135,7 @@ is_ended_by (plan.RemoteOutcome state) = true
 is_ended_by _ = false
 
 -- A plan for a delivery with this entry at the sender and this report of the receiver is the row of the
--- table; an outcome that is stated once more is known.
+-- table; if the sender's outcome is stated again, its entry has one.
 pub record IsPlannedOf (plan : PlannedResolution) (entry : UnsettledMessage) (report : Report) : Type 0 where
   pub answers : (tag : Tag) → resolution_by plan tag entry ≡ row tag entry (sender_report entry.state) report
   pub known : is_restated plan ≡ true → IsSome entry.state

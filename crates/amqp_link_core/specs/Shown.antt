@@ -1,5 +1,4 @@
--- What a link endpoint shows, and how an attach follows from it (OASIS AMQP 1.0 core, 2.6.3,
--- 2.6.4 and 2.7.3).
+-- What a link endpoint shows, and the attach that it states (OASIS AMQP 1.0 core, 2.6.3, 2.6.4 and 2.7.3).
 use Rattle.std.specs.Prelude.{ℕ, false, List, [], Option, None, Some, unwrap_or}
 use Rattle.amqp_link_state.specs.declared.state.LinkFlowStateInner.{LinkFlowStateInner}
 use Rattle.amqp_link_state.specs.declared.state.LinkState.{LinkState}
@@ -26,39 +25,39 @@ pub record Shown (D : Type 0) : Type 0 where
   pub snd_settle_mode : SenderSettleMode
   pub rcv_settle_mode : ReceiverSettleMode
   pub source : Option Source
-  -- as it is sent
+  -- the target, as it is sent
   pub target : Option TargetArchetype
-  -- the bytes that a message may have, 0 for no limit, and those of a frame: its header and its body
+  -- the largest message in bytes, 0 for no limit, and the largest frame, which is its header and its body
   pub max_message_size : ℕ
   pub max_frame_size : ℕ
   pub offered_capabilities : Option (List (List ℕ))
   pub desired_capabilities : Option (List (List ℕ))
-  -- the counts, the credit, and the properties
+  -- the delivery-counts, the link-credit, and the properties
   pub flow_state : LinkFlowStateInner
-  -- its unsettled deliveries, what an attach states of them, and how each ends if the link is attached
-  -- anew without them
+  -- its unsettled deliveries, what an attach states of them, and their outcomes if the link is reattached
   pub unsettled : D
   pub entries : Entries (Option DeliveryState)
   pub ended : List Ended
 
--- The delivery-count that an attach states: a receiver's the initial one; a sender's first attach the
--- initial one, each later one the present one.
+-- The delivery-count that an attach states: a receiver's initial one; a sender's initial one in its first
+-- attach, and its present one in each later attach.
 abbrev pub stated_count : Role → LinkState → LinkFlowStateInner → ℕ
 stated_count role.Sender Unattached flow = flow.initial_delivery_count
 stated_count role.Sender _ flow = flow.delivery_count
 stated_count role.Receiver _ flow = flow.initial_delivery_count
 
--- of two values of a field that the sender decides: the own one at a sender, the peer's at a receiver
+-- of two values of a field that the sender decides, the own one at a sender, and the peer's at a receiver
 abbrev pub decided_by_sender : {A : Type 0} → Role → A → A → A
 decided_by_sender role.Sender own theirs = own
 decided_by_sender role.Receiver own theirs = theirs
 
--- of one that the receiver decides
+-- the same of a field that the receiver decides
 abbrev pub decided_by_receiver : {A : Type 0} → Role → A → A → A
 decided_by_receiver role.Sender own theirs = theirs
 decided_by_receiver role.Receiver own theirs = own
 
--- of the unsettled deliveries: the exchange resolves those of a sender, and a receiver's stay
+-- what an exchange leaves of the unsettled deliveries: nothing at a sender, whose deliveries it resolves; a
+-- receiver's stay
 abbrev pub after_exchange : {A : Type 0} → Role → A → A → A
 after_exchange role.Sender own nothing = nothing
 after_exchange role.Receiver own nothing = own
@@ -67,7 +66,7 @@ module _ {D : Type 0} where
   abbrev pub count_stated : Shown D → ℕ
   count_stated s = stated_count s.role s.local_state s.flow_state
 
-  -- the attach with this count at an output handle, without deliveries
+  -- the attach with this delivery-count at an output handle, without unsettled deliveries
   abbrev pub counted_attach : Shown D → ℕ → OutputHandle → Attach
   counted_attach s count handle = record {
     name = s.name;
@@ -86,20 +85,21 @@ module _ {D : Type 0} where
     properties = s.flow_state.properties;
   }
 
-  -- the attach that the endpoint sends, without its deliveries
+  -- the attach that the endpoint states, without its unsettled deliveries
   abbrev pub attach_stated : Shown D → OutputHandle → Attach
   attach_stated s handle = counted_attach s (count_stated s) handle
 
-  -- it was sent, and led to this state: the count that it stated is the initial one
+  -- the endpoint after its attach was sent, which led to this state: the stated delivery-count is the initial
+  -- one
   abbrev pub shown_attached : Shown D → LinkState → Shown D
   shown_attached s state = record s {
     local_state = state;
     flow_state = record s.flow_state { initial_delivery_count = count_stated s };
   }
 
-  -- An attach arrived and was taken, with this target: the sender decides its settle mode, the source and
-  -- the counts, the receiver its settle mode and the target. The exchange resolves a sender's deliveries;
-  -- what an endpoint without any keeps of them is nothing.
+  -- The endpoint after it has taken an attach, with this target: the sender decides its settle mode, the
+  -- source and the delivery-counts, the receiver its settle mode and the target. The exchange resolves a
+  -- sender's deliveries; the first parameter is what an endpoint keeps that has none.
   abbrev pub shown_taken : D → Shown D → Option TargetArchetype → Attach → Shown D
   shown_taken nothing s target attach = record s {
     local_state = unwrap_or (next_of s.local_state attach) s.local_state;
@@ -118,8 +118,8 @@ module _ {D : Type 0} where
     ended = after_exchange s.role s.ended [];
   }
 
-  -- the first with the state, the settle modes and the termini of the second: what an attach that is
-  -- refused may change
+  -- the first record with the state, the settle modes and the termini of the second: what a refused attach
+  -- may change
   abbrev pub with_terms_of : Shown D → Shown D → Shown D
   with_terms_of s t = record s {
     local_state = t.local_state;

@@ -1,8 +1,8 @@
-//! What both endpoints of a link share, whatever their role and target: how an attach and a detach move
-//! them, and what they show (2.6.3 to 2.6.6).
+//! What both endpoints of a link share, whatever their role and target: how an attach and a detach move their
+//! state, and what they show (2.6.3 to 2.6.6).
 //!
-//! Contracts speak of an endpoint by the record of all that it shows. Each change that a call can make
-//! has one law: the record afterwards is the record before with these fields replaced.
+//! Contracts speak of an endpoint by the record of all that it shows. Each change that a call can make has
+//! one law: the record afterwards is the record before with these fields replaced.
 ghost use Rattle.std.specs.Prelude.{◌≡◌, ◌⊎◌, Bool, true, false, List, []};
 ghost use Rattle.std.specs.Prelude.{ℕ, if◌then◌else◌, unwrap_or};
 ghost use Rattle.std.specs.Prelude.{Option, None, Some, Ok, Err, MatchOption, MatchResult, IfOk, IfErr, IfNone, IfSome, IsErrAnd, IsErrOf, OnErr, is_none};
@@ -40,7 +40,7 @@ use amqp_link_types::types::{
 
 /// A link endpoint that can be detached (2.6.5, 2.6.6). Nothing here allocates.
 pub trait LinkDetach {
-    /// Why a detach is refused, or the error of one that arrived.
+    /// Why a detach is refused, or the error that the peer's detach carries.
     type DetachError: Drop;
 
     /// What the endpoint keeps of its unsettled deliveries.
@@ -55,13 +55,13 @@ pub trait LinkDetach {
     // The error of a call for which there is no transition.
     ghost illegal_state: { Self.DetachError };
 
-    // The error for that of a reply, which closes or does not.
+    // The error that a reply carries, by whether the reply closes the link.
     ghost replied: { Bool → TheError → Self.DetachError };
 
-    /// Takes the peer's detach that answers an own one. The output handle is released; an error that
-    /// the detach carries is returned after that.
+    /// Takes the peer's reply to a detach of this endpoint. The output handle is released; then the error
+    /// that the reply carries, if any, is returned.
     ///
-    /// `IllegalState`, with nothing changed, if there is no transition from this state.
+    /// Refused with `IllegalState`, and nothing changed, if there is no transition from this state.
     fn on_detach_reply(&mut self, detach: Detach) -> Result<(), Self::DetachError>
         ensures answer { MatchOption (next_state Call.DetachReply detach.closed (shown self.old).local_state)
             (result ≡ Err illegal_state)
@@ -70,11 +70,11 @@ pub trait LinkDetach {
             (self.new ≡ self.old)
             (λ next. self.new ≡ moved self.old next None) };
 
-    /// The detach to send: one that closes the link, or one after which it may be attached again. The
+    /// The detach to send: one that closes the link, or one after which the link may be attached again. The
     /// output handle is released.
     ///
-    /// `IllegalState`, with nothing changed, if there is no transition from this state; `IllegalState`,
-    /// with the state moved, if there is no output handle.
+    /// Refused with `IllegalState`: with nothing changed if there is no transition from this state, and with
+    /// the state moved if there is no output handle.
     fn send_detach(
         &mut self,
         closed: bool,
@@ -89,10 +89,10 @@ pub trait LinkDetach {
             (self.new ≡ self.old)
             (λ next. self.new ≡ moved self.old next None) };
 
-    /// Records a detach that the peer initiated, and to which the session has replied. The output handle
-    /// is released; an error that the detach carries is returned after that.
+    /// Records a detach that the peer initiated, and to which the session has replied. The output handle is
+    /// released; then the error that the detach carries, if any, is returned.
     ///
-    /// `IllegalState`, with nothing changed, if there is no transition from this state.
+    /// Refused with `IllegalState`, and nothing changed, if there is no transition from this state.
     fn apply_remote_detach_outcome(&mut self, detach: Detach) -> Result<(), ApplyRemoteDetachError>
         ensures answer { MatchOption (next_state Call.RemoteDetach detach.closed (shown self.old).local_state)
             (result ≡ Err ApplyRemoteDetachError.IllegalState)
@@ -101,14 +101,14 @@ pub trait LinkDetach {
             (self.new ≡ self.old)
             (λ next. self.new ≡ moved self.old next None) };
 
-    // A moved endpoint is in that state and has that handle.
+    // A moved endpoint shows that state and that handle.
     ghost shown_moved: { (l : Self) (s : TheState) (h : Option TheHandle)
         → shown (moved l s h) ≡ record (shown l) { local_state = s; output_handle = h } };
 }
 
 /// A link endpoint that can be attached (2.6.3, 2.6.4).
 pub trait LinkAttach: LinkDetach {
-    /// What follows once both attaches were exchanged.
+    /// What follows after both attaches were exchanged.
     type AttachExchange: Drop;
 
     /// Why an attach is refused.
@@ -116,10 +116,10 @@ pub trait LinkAttach: LinkDetach {
 
     // ---- the attach that is sent
 
-    // The endpoint once it has sent its attach: in this state, and at the count that it has stated.
+    // The endpoint after it has sent its attach: in this state, and at the delivery-count that it has stated.
     ghost attached: { Self → TheState → Self };
 
-    // The endpoint without its deliveries, and what it keeps of none.
+    // The endpoint without its unsettled deliveries, and what it keeps if there are none.
     ghost emptied: { Self → Self };
 
     ghost nothing_unsettled: { Self.Unsettled };
@@ -133,14 +133,14 @@ pub trait LinkAttach: LinkDetach {
 
     ghost out_of_memory: { Self.AttachError };
 
-    /// The attach to send, in full or with the first half of the unsettled deliveries, or the first
-    /// quarter, and so on, until it fits a frame; it is marked incomplete if it is not full. An endpoint
-    /// that attaches anew states none of its deliveries and gives them up: how each ends is returned,
-    /// in their order.
+    /// The attach to send, with all unsettled deliveries, or with the first half of them, the first quarter,
+    /// and so on, until it fits a frame; it is marked incomplete if it does not have all. An endpoint that is
+    /// reattached states none of its deliveries and keeps none: the outcome of each is returned, in their
+    /// order.
     ///
-    /// Refused in this order, with nothing changed: illegal state without output handle, then if there
-    /// is no transition from this state; too large if even an empty unsettled map does not fit. Out of
-    /// memory may come before the last, since the attach is made before it is measured.
+    /// Refused in this order, with nothing changed: illegal state without output handle, then if there is no
+    /// transition from this state; too large if even an empty unsettled map does not fit. Out of memory may
+    /// come before the last, since the attach is made before it is measured.
     fn send_attach(
         &mut self,
         is_reattaching: bool,
@@ -164,32 +164,34 @@ pub trait LinkAttach: LinkDetach {
 
     // ---- the attach that arrives
 
-    // The first reason for which it is refused, out of memory aside.
+    // The first refusal of the attach, out of memory aside.
     ghost refusal_of: { Self → TheAttach → Option Self.AttachError };
 
-    // The endpoint once it has taken the attach, and the target that it has then, as it is sent.
+    // The endpoint after it has taken the attach, and its target then, as it is sent.
     ghost taken: { Self → TheAttach → Self };
 
     ghost target_taken: { Self → TheAttach → Option Archetype };
 
-    // What is returned of the exchange of its own unsettled deliveries and those that the attach states, in
-    // the state after the attach.
+    // What the exchange of the endpoint's own unsettled deliveries and those that the attach states returns,
+    // in the state after the attach.
     ghost exchanged: { Self.Unsettled → States → TheState → Self.AttachExchange → Type 0 };
 
     // The errors that carry a list: there may be no memory for it.
     ghost is_listing: { Self.AttachError → Bool };
 
-    // Whether there is anything for which taking it allocates.
+    // Whether taking the attach allocates.
     ghost allocates: { Self → TheAttach → Bool };
 
-    // What stays of it in the endpoint after each refusal.
+    // The endpoint that each refusal of the attach leaves.
     ghost left: { Self.AttachError → Self → TheAttach → Self };
 
-    /// Takes the peer's attach, and exchanges the unsettled deliveries of both endpoints (2.6.13): a
-    /// sender's are resolved, a receiver's stay. Illegal state, with nothing changed, if there is no
-    /// transition from this state; else the state moves, also if the attach is refused: what more of it
-    /// stays then is stated at each endpoint. Out of memory comes after all refusals, or in place of one
-    /// whose error carries a list, with nothing changed.
+    /// Takes the peer's attach, and exchanges the unsettled deliveries of both endpoints (2.6.13): a sender's
+    /// are resolved, a receiver's stay.
+    ///
+    /// Refused with illegal state, and nothing changed, if there is no transition from this state. Otherwise
+    /// the state moves, also if the attach is refused; what else a refusal changes is stated at each
+    /// endpoint. Out of memory, with nothing changed, comes after all refusals, or in place of one whose
+    /// error carries a list.
     fn on_incoming_attach(
         &mut self,
         attach: Attach,
@@ -218,7 +220,7 @@ pub trait LinkAttach: LinkDetach {
     ghost errors_differ: { (illegal_attach ≡ too_large → ⊥) × (illegal_attach ≡ out_of_memory → ⊥)
         × (too_large ≡ out_of_memory → ⊥) };
 
-    // What each change replaces of all that is shown. Out of memory leaves an endpoint as it is.
+    // Which fields of the record each change replaces. Out of memory leaves an endpoint as it is.
     ghost shown_after_attach: { (l : Self) (s : TheState)
         → Self.shown (attached l s) ≡ shown_attached (Self.shown l) s };
 
@@ -246,7 +248,7 @@ pub trait LinkExt: Link {
     // The endpoint with other properties, and all else as it is.
     ghost with_properties: { Self → Option (List (List ℕ × Data)) → Self };
 
-    /// The state between attach and detach.
+    /// The state of the link.
     fn local_state(&self) -> &LinkState
         ensures { result.now ≡ (Self.shown self.now).local_state };
 
@@ -254,13 +256,13 @@ pub trait LinkExt: Link {
     fn name(&self) -> &str
         ensures { result.now ≡ (Self.shown self.now).name };
 
-    /// The output handle, to be written: a session gives it and takes it back.
+    /// The output handle, which the session sets and removes.
     fn output_handle_mut(&mut self) -> &mut Option<OutputHandle>
         ensures value { result.now ≡ (Self.shown self.old).output_handle }
         ensures* lends { sem 𝓛 (Lends Self.row (option_row handle_row) self.entry result
             (λ handle. Self.moved self.old (Self.shown self.old).local_state handle)) };
 
-    /// The counts, the credit and the flags.
+    /// The delivery-counts, the link-credit and the flags.
     fn flow_state(&self) -> &LinkFlowState<Self::Marker>
         ensures { result.now ≡ (Self.shown self.now).flow_state };
 
@@ -268,11 +270,11 @@ pub trait LinkExt: Link {
     fn unsettled(&self) -> &Self::Unsettled
         ensures { result.now ≡ (Self.shown self.now).unsettled };
 
-    /// When the receiver settles.
+    /// When the receiver settles: by itself, or only after the sender.
     fn rcv_settle_mode(&self) -> &ReceiverSettleMode
         ensures { result.now ≡ (Self.shown self.now).rcv_settle_mode };
 
-    /// The bytes that a message may have, none if there is no limit.
+    /// The largest message in bytes; none if there is no limit.
     fn max_message_size(&self) -> Option<u64>
         ensures { result ≡ message_limit (Self.shown self.now).max_message_size };
 

@@ -1,8 +1,8 @@
-//! A delivery that comes in several transfers (2.7.5).
+//! A delivery that arrives in several transfers (2.7.5).
 //!
-//! The fields of all its transfers are merged as they come; its bytes are kept in the pieces in
-//! which they came. The first transfer names the delivery; a continuation may leave its tag, id and
-//! format out, and is refused where it names another.
+//! The fields of all its transfers are merged as they arrive; its bytes are kept in the pieces in which they
+//! arrived. The first transfer carries the id, tag and format of the delivery; a continuation may leave them
+//! out, and is refused if it carries others.
 ghost use Rattle.std.specs.Prelude.{◌≡◌, ◌++◌, [], ◌∷◌};
 ghost use Rattle.std.specs.Prelude.{List, Some, not, nat_eq, length, IfOk, OnOk, OnErr};
 ghost use Rattle.std.specs.Str.{bytes_eq};
@@ -25,10 +25,10 @@ use amqp_link_types::types::{DeliveryTag, Payload, ReceiverTransferError, Transf
 use std::alloc::{AllocError, Global};
 use std::marker::Model;
 
-/// A delivery of which not all has come, or been taken.
+/// A delivery whose last transfer has not arrived, or that was not handed out yet.
 ///
-/// A contract sees the merged transfer and the pieces. The delivery always has a tag, and as many
-/// bytes and sections as can be counted.
+/// A contract sees the merged transfer and the pieces. The delivery always has a tag, and as many bytes and
+/// sections as can be counted.
 #[derive(Debug, Drop)]
 pub struct IncompleteTransfer {
     performative: Transfer,
@@ -95,20 +95,20 @@ impl IncompleteTransfer {
     /// Adds a continuation. The transfer may leave out its tag, id and format.
     ///
     /// Refused in this order, with nothing changed: `InconsistentFieldInMultiFrameDelivery`,
-    /// `PayloadTooLong`, and only then `OutOfMemory`. While the delivery has less than 2^32 bytes
-    /// none are read; from there on each call reads them all, to count the sections.
+    /// `PayloadTooLong`, and only then `OutOfMemory`. Reads no bytes while the delivery has less than 2^32;
+    /// from there on each call reads them all, to count the sections.
     pub fn try_append(
         &mut self,
         transfer: Transfer,
         payload: Payload,
     ) -> Result<(), ReceiverTransferError>
-        // Whatever came before, the fields are those of all of it and this transfer.
+        // Whatever transfers arrived before, the fields are those of all of them and this one.
         ensures merged { OnOk result ((came : List Came) → Merged came self.old.performative
             → Merged (came ++ following transfer ∷ []) self.new.performative) }
         ensures pieces { OnOk result (self.new.pieces ≡ self.old.pieces ++ payload ∷ []) }
         ensures bytes { OnOk result (held_bytes self.new ≡ held_bytes self.old ++ payload) }
 
-        // What of it a caller needs most.
+        // The part of it that a caller needs most.
         ensures tag { OnOk result
             (self.new.performative.delivery_tag ≡ self.old.performative.delivery_tag) }
         ensures id { OnOk result
@@ -129,8 +129,8 @@ impl IncompleteTransfer {
         self.add(transfer, payload, false)
     }
 
-    // Adds a transfer whose fields are not refused; one that opens the delivery again gives it its
-    // id. Where its payload is refused nothing changes.
+    // Adds a transfer whose fields are not refused; one that resumes the delivery gives it its id. If its
+    // payload is refused nothing changes.
     pub(crate) fn add(
         &mut self,
         transfer: Transfer,
@@ -158,7 +158,7 @@ impl IncompleteTransfer {
         }
     }
 
-    // Whether a transfer names another tag, id or format than the delivery's.
+    // Whether a transfer carries another tag, id or format than the delivery's.
     fn is_inconsistent_with(&self, transfer: &Transfer) -> bool
         ensures { result ≡ is_inconsistent self.now.performative transfer.now }
     {
@@ -167,7 +167,7 @@ impl IncompleteTransfer {
             || differs(self.performative.message_format, transfer.message_format)
     }
 
-    /// Whether a transfer can be of this delivery: it has the delivery's tag, or none.
+    /// Whether a transfer can belong to this delivery: it has the delivery's tag, or none.
     pub fn is_same_delivery_as(&self, transfer: &Transfer) -> bool
         ensures { result ≡ not (fields_differ bytes_eq
             self.now.performative.delivery_tag transfer.now.delivery_tag) }
@@ -188,8 +188,8 @@ impl IncompleteTransfer {
         }
     }
 
-    /// The number of the section in which the bytes end, counted from 0. Reads all bytes; a caller of
-    /// both this and `section_offset` has them by one `position`.
+    /// The number of the section in which the bytes end, counted from 0. Reads all bytes; a caller that needs
+    /// `section_offset` as well calls `position` once.
     pub fn section_number(&self) -> u32
         ensures { result ≡ (position (held_bytes self.now)).0 }
     {
@@ -214,29 +214,29 @@ impl IncompleteTransfer {
         }
     }
 
-    /// The number of bytes that came.
+    /// The number of bytes that have arrived.
     pub fn accumulated_payload_size(&self) -> u64
         ensures { result ≡ length (held_bytes self.now) }
     {
         self.size
     }
 
-    /// The fields of all transfers that came, merged.
+    /// The fields of all transfers that have arrived, merged.
     pub fn performative(&self) -> &Transfer
         ensures { result.now ≡ self.now.performative }
     {
         &self.performative
     }
 
-    /// The payloads as they came, in order; the empty ones too.
+    /// The payloads of the transfers, in the order in which they arrived, empty ones included.
     pub fn pieces(&self) -> &[Payload]
         ensures { result.now ≡ self.now.pieces }
     {
         self.pieces.as_slice()
     }
 
-    /// The merged transfer, the pieces, and the number and offset of the section in which they end.
-    /// Takes no memory.
+    /// The merged transfer, the pieces, and the number and offset of the section in which they end. Does not
+    /// allocate.
     pub fn into_parts(self) -> (Transfer, Vec<Payload>, u32, u64)
         ensures performative { result.0 ≡ self.performative }
         ensures pieces { result.1.items ≡ self.pieces }

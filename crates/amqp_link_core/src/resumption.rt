@@ -1,4 +1,4 @@
-//! What becomes of an unsettled delivery as its link is attached again (2.6.13).
+//! How an unsettled delivery is resolved when its link is attached again (2.6.13).
 //!
 //! Both endpoints state in their attaches what they know of it. The sender resumes a delivery of which the
 //! receiver has a front, sends one again that the receiver does not know, and settles or aborts the others.
@@ -15,7 +15,7 @@ use amqp_link_types::delivery::{DeliveryOutcome, UnsettledMessage};
 use amqp_link_types::types::{DeliveryState, DeliveryTag, MessageFormat, Payload, has_ended};
 use std::alloc::AllocError;
 
-/// What a sender sends of a delivery as its link is attached again (2.6.13).
+/// What a sender sends of a delivery when its link is attached again (2.6.13).
 #[derive(Debug, PartialEq, Eq, Drop)]
 pub enum ResumingDelivery {
     /// An aborted transfer: the delivery is given up at both endpoints.
@@ -34,7 +34,7 @@ pub enum ResumingDelivery {
         /// The bytes that are still to be sent.
         rest: Payload,
     },
-    /// The sender's outcome once more: the receiver has another one.
+    /// The sender's outcome again, since the receiver has another one.
     RestateOutcome {
         /// The delivery's tag.
         tag: DeliveryTag,
@@ -47,10 +47,10 @@ pub enum ResumingDelivery {
     },
 }
 
-/// What becomes of a delivery as its link is attached again.
+/// How a delivery is resolved when its link is attached again.
 #[derive(Debug, PartialEq, Eq, Drop)]
 pub enum Resolution {
-    /// It is resumed, sent again or aborted.
+    /// It is resumed, sent again or aborted, or its outcome is stated again.
     Resuming(ResumingDelivery),
     /// It has ended with this outcome.
     Outcome(DeliveryOutcome),
@@ -70,7 +70,7 @@ pub enum PlannedResolution {
     LocalOutcome,
     /// The delivery ended as the receiver states.
     RemoteOutcome(DeliveryState),
-    /// The sender states its outcome once more.
+    /// The sender states its outcome again.
     RestateOutcome,
 }
 
@@ -95,8 +95,8 @@ impl PlannedResolution {
         )
     }
 
-    /// A copy of the outcome with which a delivery ends that has this entry, none if it has not ended.
-    /// Only a state that carries an error or annotations allocates.
+    /// A copy of the outcome of a delivery with this entry: none if the delivery has not ended. Allocates
+    /// only for a state that carries an error or annotations.
     pub fn copy_of_outcome(
         &self,
         local: &UnsettledMessage,
@@ -111,8 +111,8 @@ impl PlannedResolution {
         }
     }
 
-    /// Resolves the delivery of this entry as planned. The tag is there if what is sent carries it.
-    /// Does not allocate.
+    /// Resolves the delivery of this entry as planned. `tag` has to be there if what is sent carries it. Does
+    /// not allocate.
     pub fn resolve(self, tag: Option<DeliveryTag>, local: UnsettledMessage) -> Resolution
         requires tag { does_carry_tag self ≡ true → IsSome tag }
         requires state { is_restated self ≡ true → IsSome local.state }
@@ -149,7 +149,7 @@ impl PlannedResolution {
     }
 }
 
-// A copy of a state that may be absent: only an error or annotations allocate.
+// A copy of a state that may be absent: allocates only for an error or annotations.
 fn copy_of_state(state: &Option<DeliveryState>) -> Result<Option<DeliveryState>, AllocError>
     ensures copy { IfOk result (λ copy. copy ≡ state.now) }
     ensures memory { OnErr result (does_carry state.now ≡ true) }
@@ -160,12 +160,12 @@ fn copy_of_state(state: &Option<DeliveryState>) -> Result<Option<DeliveryState>,
     }
 }
 
-/// Decides what becomes of the delivery with this entry at the sender, where the receiver's unsettled
-/// map has `remote` at its tag: no entry, a null state, or a state (2.6.13). A null state counts as
-/// received up to section 0, offset 0.
+/// Decides how the delivery with this entry at the sender is resolved, if `remote` is what the receiver's
+/// unsettled map has at its tag: no entry, a null state, or a state (2.6.13). A null state counts as received
+/// up to section 0, offset 0.
 ///
-/// Only a delivery that is resumed allocates, for the bytes that are still to be sent: those after the
-/// receiver's position, or the whole payload if that names no place in it.
+/// Allocates only for a delivery that is resumed: the bytes that are still to be sent, which are those after
+/// the receiver's position, or the whole payload if that position has no place in it.
 pub fn plan_resumption(
     local: &UnsettledMessage,
     remote: Option<Option<DeliveryState>>,
@@ -188,11 +188,11 @@ pub fn plan_resumption(
     }
 }
 
-/// Resolves the delivery of this tag, whose entry at the sender is `local`, where the receiver's
-/// unsettled map has `remote` at the tag, by `plan_resumption` (2.6.13). An entry that is sent again or
+/// Resolves the delivery with this tag, whose entry at the sender is `local`, if `remote` is what the
+/// receiver's unsettled map has at the tag, by `plan_resumption` (2.6.13). An entry that is sent again or
 /// resumed keeps its whole payload.
 ///
-/// Only a delivery that is resumed allocates; out of memory returns the entry.
+/// Allocates only for a delivery that is resumed; out of memory returns the entry.
 pub fn resume_delivery(
     tag: DeliveryTag,
     local: UnsettledMessage,
@@ -211,7 +211,7 @@ pub fn resume_delivery(
     }
 }
 
-// The receiver does not know the delivery.
+// The plan if the receiver does not know the delivery.
 #[tactic(auto, using(crate::proofs::ResumingLemmas::unreported_rows))]
 fn plan_unreported(local: &UnsettledMessage) -> PlannedResolution
     ensures { IsPlannedFor result local.now None }
@@ -223,7 +223,7 @@ fn plan_unreported(local: &UnsettledMessage) -> PlannedResolution
     }
 }
 
-// The receiver has a front that ends at this offset in this section.
+// The plan if the receiver has a front that ends at this offset in this section.
 #[tactic(auto, using(crate::proofs::ResumingLemmas::front_rows))]
 fn plan_front(
     local: &UnsettledMessage,
@@ -242,7 +242,7 @@ fn plan_front(
     Ok(PlannedResolution::Resume(rest))
 }
 
-// The receiver states how the delivery ended.
+// The plan if the receiver states how the delivery ended.
 #[tactic(auto, using(crate::proofs::ResumingLemmas::end_rows))]
 fn plan_end(local: &UnsettledMessage, remote: DeliveryState) -> PlannedResolution
     ensures { IsPlannedOf result local.now (ended remote) }
@@ -259,7 +259,7 @@ fn plan_end(local: &UnsettledMessage, remote: DeliveryState) -> PlannedResolutio
     }
 }
 
-// The sender's outcome is stated once more.
+// The resolution that states the sender's outcome again.
 fn restated(tag: Option<DeliveryTag>, local: UnsettledMessage) -> Resolution
     requires tag { IsSome tag }
     requires state { IsSome local.state }

@@ -9,7 +9,7 @@ use std::test::Fail;
 
 mod resuming;
 
-// What a transfer tells of the delivery's state.
+// The state that a transfer carries.
 #[derive(Clone, Copy, Debug, PartialEq, Eq)]
 enum Told {
     Nothing,
@@ -18,7 +18,7 @@ enum Told {
     Released,
 }
 
-// What a transfer has in it, its tag as one byte.
+// The fields of a transfer, its tag as one byte.
 #[derive(Clone, Copy, Debug, PartialEq, Eq)]
 struct Row {
     id: Option<u32>,
@@ -190,7 +190,7 @@ fn delivery_is_known_by_tag(rt: HostRuntime) -> Result<(), Fail> {
     Ok(())
 }
 
-// What a delivery of two such transfers tells.
+// The state of a delivery of two such transfers.
 fn merged(
     alloc: Global,
     first: (Option<bool>, Told),

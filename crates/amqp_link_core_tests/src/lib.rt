@@ -1,4 +1,4 @@
-//! Tests of the core, by what it makes public: what no clause says of it.
+//! Tests of the core through its public interface: what no clause states.
 #![tactic(auto)]
 
 #[cfg(test)]

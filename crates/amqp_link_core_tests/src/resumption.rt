@@ -7,7 +7,7 @@ use std::alloc::{AllocError, Global};
 use std::process::Abort;
 use std::test::Fail;
 
-// What an end says of a delivery.
+// What an endpoint reports of a delivery.
 #[derive(Clone, Copy, Debug, PartialEq, Eq)]
 enum Told {
     Absent,
@@ -19,7 +19,7 @@ enum Told {
     Failed(bool),
 }
 
-// What becomes of the delivery, with the number of the payload's bytes that are sent.
+// How the delivery is resolved, with the number of the payload's bytes that are sent.
 #[derive(Clone, Copy, Debug, PartialEq, Eq)]
 enum Answer {
     Resent(Told, usize),
@@ -123,7 +123,7 @@ fn answered(resolution: Result<Resolution, (AllocError, UnsettledMessage)>) -> A
     answer
 }
 
-// What becomes of the delivery with the tag 01 and these bytes, of this format.
+// How the delivery with the tag 01 and these bytes, of this format, is resolved.
 fn resolved_in(rt: &(impl Abort + AllocGlobal), format: u32, local: Told, remote: Told) -> Answer {
     let tag = DeliveryTag::from(vec![in rt.alloc(); 1].expect(rt, "memory"));
     let payload = Bytes::from_static(EIGHT);
@@ -216,7 +216,7 @@ fn ended_deliveries_of_format_0_are_aborted(rt: HostRuntime) {
     }
 }
 
-// Whether a delivery goes on with these bytes.
+// Whether a delivery is resumed with these bytes.
 fn is_rest_of(resolution: &Resolution, want: &[u8]) -> bool {
     match resolution {
         Resolution::Resuming(ResumingDelivery::Resume { rest, .. }) => rest.as_slice() == want,
@@ -224,7 +224,7 @@ fn is_rest_of(resolution: &Resolution, want: &[u8]) -> bool {
     }
 }
 
-// Whether these bytes are sent of a delivery that has come up to this place.
+// Whether these bytes are sent of a delivery that has arrived up to this position.
 fn is_rest(rt: &(impl Abort + AllocGlobal), at: (u32, u64), want: &[u8]) -> bool {
     let tag = DeliveryTag::from(vec![in rt.alloc(); 1].expect(rt, "memory"));
     let entry = UnsettledMessage::new(Bytes::from_static(EIGHT), None, 5);
@@ -268,7 +268,7 @@ fn rest_is_from_the_named_place(rt: HostRuntime) {
     }
 }
 
-// What becomes of a delivery without bytes.
+// How a delivery without bytes is resolved.
 fn resolved_empty(alloc: Global, local: Told, remote: Told) -> Answer {
     let tag = DeliveryTag::from(Vec::new(alloc));
     let entry = UnsettledMessage::new(Bytes::new(), state_of(local), 0);

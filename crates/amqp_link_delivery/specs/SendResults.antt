@@ -1,4 +1,4 @@
--- What a sender makes of the state with which a delivery ended (3.4).
+-- The `SendResult` for the state with which a delivery ended (3.4).
 use Rattle.std.specs.Prelude.{Result, Ok, Err}
 use Rattle.amqp_link_delivery.specs.declared.outcome.SendError.{SendError}
 use Rattle.amqp_link_delivery.specs.declared.outcome.SendError.TheVariants.{NonTerminalDeliveryState}
@@ -7,7 +7,7 @@ use Rattle.amqp_link_types.specs.declared.types.delivery_state.DeliveryState.The
 use Rattle.amqp_link_types.specs.declared.types.delivery_state.Outcome.{Outcome}
 use Rattle.amqp_link_types.specs.declared.types.delivery_state.Outcome.TheVariants as outcome
 
--- a terminal state is an outcome; a front that was received is none
+-- a terminal state is an outcome; received is none
 abbrev pub result_of_state : DeliveryState → Result Outcome SendError
 result_of_state Accepted = Ok outcome.Accepted
 result_of_state (Rejected error) = Ok (outcome.Rejected error)

@@ -1,4 +1,5 @@
-//! What an application sends, and what it is told of a delivery that ended (OASIS AMQP 1.0 core, 2.6.12 and 3.4).
+//! What an application sends, and the type that it gets for the outcome of a delivery (OASIS AMQP 1.0 core,
+//! 2.6.12 and 3.4).
 #![tactic(auto)]
 
 pub mod outcome;

@@ -1,7 +1,7 @@
-//! What became of a delivery, as a type of the application's own (2.6.12, 3.4).
+//! The outcome of a delivery, as a type of the application's own (2.6.12, 3.4).
 //!
-//! A delivery ended with a state of the peer's, with none, or with the reason why there will be none. An
-//! application says what it makes of each; `SendResult` is one such type.
+//! A delivery ended with a state of the peer's, without one, or for a reason why there will be none. An
+//! application's type has a value for each; `SendResult` is one such type.
 ghost use Rattle.std.specs.Prelude.{◌≡◌, Ok, Err, None, Some};
 ghost use Rattle.amqp_link_types.specs.declared.types.delivery_state.DeliveryState.{DeliveryState as State};
 ghost use Rattle.amqp_link_types.specs.declared.types.errors.LinkStateError.{LinkStateError as Failure};
@@ -14,10 +14,10 @@ use thiserror::Error;
 /// Why a delivery has no outcome.
 #[derive(Debug, PartialEq, Eq, Drop, Error)]
 pub enum SendError {
-    /// The link has failed, or is not in a state for this call.
+    /// The link has failed, or its state does not allow the call.
     #[error("the link has failed")]
     LinkStateError(LinkStateError),
-    /// The delivery was settled without a state. The peer's fault, or its choice: nothing is known.
+    /// The delivery was settled without a state, by the peer's fault or choice: nothing more is known.
     #[error("the delivery was settled without a state")]
     IllegalDeliveryState,
     /// The delivery was settled with a state that is not terminal. The peer's fault (3.4).
@@ -38,57 +38,57 @@ impl From<LinkStateError> for SendError {
 /// The outcome of a delivery, or why it has none.
 pub type SendResult = Result<Outcome, SendError>;
 
-/// Whoever was to tell what became of a delivery is gone.
+/// The outcome of a delivery will never be returned: whoever was to return it is gone.
 #[derive(Clone, Copy, Debug, PartialEq, Eq)]
 pub struct RecvError;
 
-/// What is made of a delivery that was sent settled (2.6.12).
+/// A type with a value for a delivery that was sent settled (2.6.12).
 pub trait FromPreSettled {
-    // What is made of it.
+    // The value for it.
     ghost settled: { Self };
 
-    /// Of a delivery that was sent settled.
+    /// The value for a delivery that was sent settled.
     fn from_settled() -> Self
         ensures { result ≡ settled };
 }
 
-/// What is made of the state with which a delivery ended (3.4).
+/// A type with a value for each state with which a delivery can end (3.4).
 pub trait FromDeliveryState {
-    // What is made of no state.
+    // The value for no state.
     ghost stateless: { Self };
 
-    // What is made of a state.
+    // The value for a state.
     ghost ended_as: { State → Self };
 
-    /// Of a delivery that ended without a state.
+    /// The value for a delivery that ended without a state.
     fn from_none() -> Self
         ensures { result ≡ stateless };
 
-    /// Of a delivery that ended with this state.
+    /// The value for a delivery that ended with this state.
     fn from_delivery_state(state: DeliveryState) -> Self
         ensures { result ≡ ended_as state };
 }
 
-/// What is made of the reason why no state of a delivery will be known.
+/// A type with a value for each reason why no state of a delivery will be known.
 pub trait FromDeliveryFailure {
-    // What is made of it if nobody is left to tell.
+    // The value if nobody is left to return the outcome.
     ghost untold: { Self };
 
-    // What is made of it if the session has stopped.
+    // The value if the session has stopped.
     ghost stopped: { Stop → Self };
 
-    // What is made of it if the link has failed.
+    // The value if the link has failed.
     ghost failed: { Failure → Self };
 
-    /// Of a delivery of which nobody is left to tell what became of it.
+    /// The value for a delivery whose outcome nobody is left to return.
     fn from_oneshot_recv_error(error: RecvError) -> Self
         ensures { result ≡ untold };
 
-    /// Of a delivery whose session has stopped.
+    /// The value for a delivery whose session has stopped.
     fn from_session_stop_reason(reason: SessionStopReason) -> Self
         ensures { result ≡ stopped reason };
 
-    /// Of a delivery whose link has failed.
+    /// The value for a delivery whose link has failed.
     fn from_link_state_error(error: LinkStateError) -> Self
         ensures { result ≡ failed error };
 }
@@ -160,7 +160,7 @@ impl FromDeliveryFailure for SendResult {
     }
 }
 
-/// What the application makes of a delivery that a sender's call or a ledger tells to have ended.
+/// The application's value for an outcome that a call of a sender or of a ledger has returned.
 pub fn outcome_of<O: FromDeliveryState + FromDeliveryFailure>(outcome: DeliveryOutcome) -> O
     ensures state { (state : State) → outcome ≡ Ok (Some state) → result ≡ O.ended_as state }
     ensures none { outcome ≡ Ok None → result ≡ O.stateless }

@@ -1,4 +1,4 @@
-//! A message with what its transfers state of it (2.7.5, 3.2).
+//! A message with the fields that its transfers carry (2.7.5, 3.2).
 ghost use Rattle.std.specs.Prelude.{◌≡◌, [], None};
 
 use amqp_link_types::types::{Message, MessageFormat, Payload};
@@ -11,7 +11,7 @@ pub struct Sendable<T> {
     pub message: Message<T>,
     /// The format of the message (2.8.11).
     pub message_format: MessageFormat,
-    /// Whether it is sent settled. Only a link of sender settle mode `Mixed` asks.
+    /// Whether it is sent settled. Only a link of sender settle mode `Mixed` reads this.
     pub settled: Option<bool>,
 }
 
@@ -31,7 +31,7 @@ pub struct Builder<State> {
 }
 
 impl Sendable<Uninitialized> {
-    /// A builder without a message, of format 0, that does not state whether the message is settled.
+    /// A builder without a message, of format 0, without a settled flag.
     pub fn builder() -> Builder<Uninitialized>
         ensures { result ≡ record { message = record {}; message_format = 0; settled = None } }
     {
@@ -40,7 +40,7 @@ impl Sendable<Uninitialized> {
 }
 
 impl<T> Sendable<T> {
-    /// This message, of format 0, without a statement whether it is settled.
+    /// This message, of format 0, without a settled flag.
     pub fn from_message(message: Message<T>) -> Sendable<T>
         ensures { result ≡ record { message = message; message_format = 0; settled = None } }
     {
@@ -51,7 +51,7 @@ impl<T> Sendable<T> {
         }
     }
 
-    /// A message of this body alone, of format 0, without a statement whether it is settled.
+    /// A message with this body alone, of format 0, without a settled flag.
     pub fn from_body(body: T) -> Sendable<T>
         ensures { result ≡ record {
           message = record { preamble = []; body = body; footer = [] };
@@ -88,7 +88,7 @@ impl<T: Clone + Drop> Clone for Sendable<T> {
 }
 
 impl Builder<Uninitialized> {
-    /// No message, format 0, and no statement whether it is settled.
+    /// No message, format 0, and no settled flag.
     pub fn new() -> Builder<Uninitialized>
         ensures { result ≡ record { message = record {}; message_format = 0; settled = None } }
     {
@@ -107,7 +107,7 @@ impl Default for Builder<Uninitialized> {
 }
 
 impl<State: Drop> Builder<State> {
-    /// The same with this message. One that was there is dropped.
+    /// The same with this message, which replaces one that was there.
     pub fn message<T>(self, message: Message<T>) -> Builder<Message<T>>
         ensures { result ≡ record {
           message = message;
@@ -135,7 +135,7 @@ impl<State> Builder<State> {
         }
     }
 
-    /// The same with this statement whether the message is settled.
+    /// The same with this settled flag.
     pub fn settled(self, settled: Option<bool>) -> Builder<State>
         ensures { result ≡ record self { settled = settled } }
     {
@@ -148,7 +148,7 @@ impl<State> Builder<State> {
 }
 
 impl<T> Builder<Message<T>> {
-    /// What was built.
+    /// The `Sendable` that was built.
     pub fn build(self) -> Sendable<T>
         ensures { result ≡ record {
           message = self.message;
@@ -171,7 +171,7 @@ impl<B> From<Builder<Message<B>>> for Sendable<B> {
       settled = builder.settled;
     } };
 
-    // What `build` gives.
+    // The same as `build`.
     fn from(built: Builder<Message<B>>) -> Sendable<B> {
         let Builder {
             message,

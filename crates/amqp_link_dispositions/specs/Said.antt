@@ -1,4 +1,4 @@
--- The dispositions that an end sends (OASIS AMQP 1.0 core, 2.7.6).
+-- The dispositions that an endpoint sends (OASIS AMQP 1.0 core, 2.7.6).
 use Rattle.std.specs.Prelude.{◌≡◌, ℕ, ◌+◌, ◌-◌, ◌==◌, Bool, true, false, List, [], map, Option, Some, None, unwrap_or, if◌then◌else◌}
 use Rattle.std.specs.List.{range_with_len}
 use Rattle.amqp_link_runs.specs.declared.Run.{Run}
@@ -14,7 +14,7 @@ use Rattle.amqp_link_types.specs.Deliveries.{Info}
 use Rattle.amqp_link_dispositions.specs.declared.groups.Group.{Group}
 use Rattle.amqp_link_dispositions.specs.Groups.{AreGroups, numbered}
 
--- the disposition of one delivery, or of those from the first to the last
+-- the disposition of one delivery, or of those from the first id to the last
 abbrev pub said_of : Role → ℕ → Option ℕ → Bool → DeliveryState → Bool → LinkFrame
 said_of role first last settled state batchable = frame.Disposition (record {
   role = role;
@@ -25,20 +25,19 @@ said_of role first last settled state batchable = frame.Disposition (record {
   batchable = batchable;
 })
 
--- the numbers that a disposition names: from the first to the last, where that is left out the first
--- alone
+-- the ids that a disposition covers: from the first to the last, or the first alone if there is no last
 abbrev pub numbers_named_by : LinkFrame → List ℕ
 numbers_named_by (frame.Disposition d) = range_with_len d.first (unwrap_or d.last d.first + 1 - d.first)
 numbers_named_by _ = []
 
 -- ---- a sender
 
--- of a run; the last number is left out where it is the first
+-- the disposition of a run; the last id is left out if it is the first
 abbrev pub said_of_run : Bool → DeliveryState → Bool → Run → LinkFrame
 said_of_run settled state batchable run =
     said_of role.Sender run.first (if run.first == run.last then None else Some run.last) settled state batchable
 
--- the frames say the runs of these ids, which are sorted first
+-- the frames are the dispositions of the runs of these ids, which are sorted first
 pub record AreSaid (settled : Bool) (state : DeliveryState) (batchable : Bool) (ids : List ℕ) (frames : List LinkFrame) : Type 0 where
   pub runs : List Run
   pub are_runs : Runs ids runs
@@ -46,21 +45,21 @@ pub record AreSaid (settled : Bool) (state : DeliveryState) (batchable : Bool) (
 
 -- ---- a receiver
 
--- a receiver in this mode settles as deliveries come, by itself
+-- a receiver in this mode settles deliveries as they arrive, by itself
 abbrev pub settles_at_once : ReceiverSettleMode → Bool
 settles_at_once First = true
 settles_at_once Second = false
 
--- whether a delivery is settled: as its user says, else by its own mode, else by the link's
+-- whether a delivery is settled: as its user passes, otherwise by its own mode, otherwise by the link's
 abbrev pub is_settled_by : Option Bool → ReceiverSettleMode → Option ReceiverSettleMode → Bool
 is_settled_by given own mode = unwrap_or given (settles_at_once (unwrap_or mode own))
 
--- of a group; the last number always stands
+-- the disposition of a group; it always has the last id
 abbrev pub said_of_group : Option Bool → ReceiverSettleMode → DeliveryState → Bool → Group → LinkFrame
 said_of_group given own state batchable group =
     said_of role.Receiver group.run.first (Some group.run.last) (is_settled_by given own group.mode) state batchable
 
--- the frames say the groups of these deliveries, in this order
+-- the frames are the dispositions of the groups of these deliveries, in this order
 pub record AreSaidAlike (given : Option Bool) (own : ReceiverSettleMode) (state : DeliveryState) (batchable : Bool) (infos : List Info) (frames : List LinkFrame) : Type 0 where
   pub groups : List Group
   pub are_groups : AreGroups (map numbered infos) groups

@@ -1,5 +1,5 @@
-//! Changes of several deliveries that an end keeps, one after the other. None takes memory: what is
-//! needed is made before.
+//! Changes of several entries of an unsettled map, one after the other. None allocates: what they need is
+//! made before.
 ghost use Rattle.std.specs.Prelude.{◌≡◌, ◌+◌, ◌≤◌, ◌++◌, IfOk, length, map, min, vec_len, vec_capacity};
 ghost use Rattle.amqp_link_types.specs.Entries.{without_entries, IsMap};
 ghost use Rattle.amqp_link_dispositions.specs.Changes.{StateChange, with_states};
@@ -26,7 +26,7 @@ pub(crate) fn changes_to<'a>(
     Ok(changes)
 }
 
-/// Each delivery that is kept gets its state.
+/// Sets the state of each delivery that has an entry.
 pub(crate) fn set_each<V: KeepsState>(
     unsettled: &mut UnsettledMap<V>,
     changes: Vec<(&DeliveryTag, DeliveryState)>,
@@ -39,7 +39,7 @@ pub(crate) fn set_each<V: KeepsState>(
     }
 }
 
-/// The deliveries with these tags are forgotten.
+/// Removes the deliveries with these tags.
 pub(crate) fn remove_all<V: Drop>(unsettled: &mut UnsettledMap<V>, tags: &[&DeliveryTag])
     ensures { unsettled.new ≡ without_entries unsettled.old (map (λ tag. tag.now) tags.now) }
 {
@@ -48,8 +48,8 @@ pub(crate) fn remove_all<V: Drop>(unsettled: &mut UnsettledMap<V>, tags: &[&Deli
     }
 }
 
-/// The deliveries with these tags end with the states that are known of them, in a list that has
-/// the room.
+/// Removes the deliveries with these tags, and resolves each with the state stored in its entry, in a list
+/// that has room for all.
 pub(crate) fn settle_all(
     unsettled: &mut UnsettledMap<UnsettledMessage>,
     tags: &[&DeliveryTag],

@@ -1,5 +1,5 @@
-//! What a detach that comes makes of the deliveries that a sender keeps, and what is answered
-//! (2.6.5, 2.6.6 and 2.7.7).
+//! The outcomes of a sender's deliveries when a detach closes the link, and the reply to a detach (2.6.5,
+//! 2.6.6 and 2.7.7).
 ghost use Rattle.std.specs.Prelude.{◌≡◌, ◌+◌, ◌≤◌, ◌++◌, [], true, is_some, vec_len, vec_capacity, All, IfOk, OnOk, OnErr};
 ghost use Rattle.amqp_link_dispositions.specs.Ending.{closed_for as why_closed, all_closed as all_closed_for, reply_of};
 
@@ -9,8 +9,8 @@ use amqp_link_types::types::{DeliveryTag, Detach, Error, LinkStateError, OutputH
 use amqp_link_values::copy::copy_of;
 use std::alloc::{AllocError, Global};
 
-/// The detach that answers one at an own handle: as closed, and with the same error. Only an error
-/// takes memory.
+/// The reply to a detach, at this endpoint's output handle: the same `closed` and `error`. Allocates only an
+/// error.
 pub fn reply_to(detach: &Detach, handle: OutputHandle) -> Result<Detach, AllocError>
     ensures reply { IfOk result (λ reply. reply ≡ reply_of handle detach.now) }
     ensures memory { OnErr result (is_some detach.now.error ≡ true) }
@@ -22,7 +22,7 @@ pub fn reply_to(detach: &Detach, handle: OutputHandle) -> Result<Detach, AllocEr
     })
 }
 
-// Why a delivery ends whose link is closed.
+// The outcome of a delivery whose link is closed by a detach with this error, if any.
 fn closed_for(error: &Option<Error>) -> Result<LinkStateError, AllocError>
     ensures { IfOk result (λ reason. reason ≡ why_closed error.now) }
 {
@@ -32,7 +32,7 @@ fn closed_for(error: &Option<Error>) -> Result<LinkStateError, AllocError>
     }
 }
 
-// The reason for each of so many deliveries.
+// As many copies of that as there are deliveries.
 fn reasons_for(
     alloc: Global,
     error: &Option<Error>,
@@ -48,7 +48,7 @@ fn reasons_for(
     Ok(reasons)
 }
 
-// Each delivery ends for the reason that is taken for it, in a list that has the room.
+// Resolves each delivery with its copy, in a list that has room for all.
 fn end_each(
     pairs: Vec<(DeliveryTag, UnsettledMessage)>,
     reasons: Vec<LinkStateError>,
@@ -71,9 +71,9 @@ fn end_each(
     }
 }
 
-/// Ends each delivery, in order, as its link is closed, and takes all of them out of the map.
+/// Resolves each delivery, in order, since its link is closed, and removes all of them from the map.
 ///
-/// Refused where it is out of memory, with nothing changed: all memory is taken first.
+/// Refused only if it is out of memory, with nothing changed: all allocations are made first.
 pub fn all_closed(
     alloc: Global,
     unsettled: &mut UnsettledMap<UnsettledMessage>,

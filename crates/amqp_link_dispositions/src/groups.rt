@@ -7,11 +7,11 @@ use amqp_link_types::delivery::DeliveryInfo;
 use amqp_link_types::types::{DeliveryNumber, ReceiverSettleMode};
 use std::alloc::{AllocError, Global};
 
-/// Deliveries whose numbers make one run, and which are settled in the same mode; none where only
-/// the link says in which.
+/// Deliveries whose ids make one run, and which are settled in the same mode; none if the link's mode
+/// decides.
 #[derive(Clone, Copy, Debug, PartialEq, Eq)]
 pub struct Group {
-    /// The numbers.
+    /// The delivery ids.
     pub run: Run,
     /// The mode of each of them.
     pub mode: Option<ReceiverSettleMode>,
@@ -28,7 +28,7 @@ fn is_same(mode: Option<ReceiverSettleMode>, other: Option<ReceiverSettleMode>) 
     }
 }
 
-// The group after one more delivery: the current one, longer, or one that begins with it.
+// The group after one more delivery: the current one, extended, or a new one that begins with the delivery.
 fn next_group(
     groups: &mut Vec<Group>,
     current: Group,
@@ -52,8 +52,8 @@ fn next_group(
     Ok(Group { run, mode })
 }
 
-/// The longest groups of these deliveries, in the order in which they are listed: a group goes on
-/// only from one number to the next, and in the same mode.
+/// The longest groups of these deliveries, in the order in which they are listed: a group is extended only by
+/// the next id, and in the same mode.
 pub(crate) fn groups_of(alloc: Global, infos: &[&DeliveryInfo]) -> Result<Vec<Group>, AllocError>
     ensures { IfOk result (λ groups. AreGroups (map numbered (map (λ info. info.now) infos.now)) groups.items) }
 {

@@ -16,14 +16,13 @@ ghost use Rattle.amqp_link_dispositions.specs.Ending.{settled_of};
 ghost use Rattle.amqp_link_dispositions.specs.Listed.{kept_in_order};
 ghost use Rattle.amqp_link_dispositions.specs.Said.{AreSaid, AreSaidAlike, numbers_named_by};
 
-/// The numbers that a sender's dispositions name are the listed ones, sorted, each as often as it is
-/// listed.
+/// The ids that a sender's dispositions cover are the listed ones, sorted, each as often as it is listed.
 pub fn frames_name_what_is_listed()
     ensures { (settled : Bool) (state : DeliveryState) (batchable : Bool) (ids : List ℕ) (frames : List LinkFrame)
         → AreSaid settled state batchable ids frames → flat_map numbers_named_by frames ≡ sorted_by (λ id. id) ids }
 {}
 
-/// The numbers that a receiver's dispositions name are those of the listed deliveries that it keeps,
+/// The ids that a receiver's dispositions cover are those of the listed deliveries that have an entry,
 /// sorted, each as often as it is listed.
 pub fn frames_name_what_is_kept<V>()
     ensures { (given : Option Bool) (own : ReceiverSettleMode) (state : DeliveryState) (batchable : Bool)
@@ -33,8 +32,8 @@ pub fn frames_name_what_is_kept<V>()
         (map (λ info. info.delivery_id) (filter (λ info. is_some (entry_at es info.delivery_tag)) infos)) }
 {}
 
-/// Of the deliveries that a sender settles each ends once, however often its tag is listed, and only
-/// such as it keeps.
+/// Of the deliveries that a sender settles, each that has an entry is resolved once, however often its tag is
+/// listed, and no other is.
 pub fn each_ends_once()
     ensures once { (es : Entries UnsettledMessage) (tags : List Tag) → IsDistinct bytes_eq (keys_of (settled_of es tags)) }
     ensures kept { (es : Entries UnsettledMessage) (tags : List Tag)

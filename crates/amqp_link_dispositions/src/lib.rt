@@ -1,7 +1,7 @@
-//! What an end of a link says of deliveries to settle them, and what that makes of those that it
-//! keeps (OASIS AMQP 1.0 core, 2.6.12 and 2.7.6).
+//! The dispositions that a link endpoint sends and takes, the outcomes that they resolve, and the unsettled
+//! map afterwards (OASIS AMQP 1.0 core, 2.6.12 and 2.7.6).
 //!
-//! Both ends stand on this crate: it knows their maps of unsettled deliveries, and no link.
+//! Both endpoints stand on this crate. It knows their unsettled maps, and no link.
 #![tactic(auto)]
 
 mod changes;

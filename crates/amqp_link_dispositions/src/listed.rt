@@ -1,10 +1,10 @@
-//! Lists of what is sorted beside its number.
+//! Lists of elements that are sorted by their delivery ids.
 ghost use Rattle.std.specs.Prelude.{◌≡◌, map, IfOk};
 
 use amqp_link_types::types::DeliveryNumber;
 use std::alloc::{AllocError, Global};
 
-/// The elements without their numbers, in their order.
+/// The elements without their ids, in their order.
 pub(crate) fn elements_of<'a, T>(
     alloc: Global,
     pairs: &[(DeliveryNumber, &'a T)],

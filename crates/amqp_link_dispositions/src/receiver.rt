@@ -1,4 +1,4 @@
-//! What a receiver says of deliveries, and what it keeps of them then.
+//! The dispositions that a receiver sends and takes, and its unsettled map afterwards.
 ghost use Rattle.std.specs.Prelude.{◌≡◌, ◌∷◌, [], false, not, filter, map, is_some, IsSome, None, Some, IfOk, OnOk, OnErr, if◌then◌else◌};
 ghost use Rattle.amqp_link_types.specs.Entries.{entry_at};
 ghost use Rattle.amqp_link_dispositions.specs.Changes.{StateChange};
@@ -20,20 +20,20 @@ use amqp_link_types::types::{
 };
 use std::alloc::{AllocError, Global};
 
-/// How a receiver disposes of deliveries: what its user says, and the link's own mode.
+/// How a receiver disposes of deliveries: the flags that its user passes, and the link's own mode.
 #[derive(Clone, Copy, Debug, PartialEq, Eq)]
 pub struct Settling {
-    /// Whether they are settled, where the user says so.
+    /// Whether they are settled, if the user passes it.
     pub given: Option<bool>,
     /// The mode of the link.
     pub own: ReceiverSettleMode,
-    /// Whether the sender may let its own disposition wait.
+    /// Whether the sender may delay its own disposition.
     pub batchable: bool,
 }
 
 impl Settling {
-    // Whether a delivery of this mode is settled: as the user says, else by its own mode, else by the
-    // link's.
+    // Whether a delivery of this mode is settled: as the user passes, otherwise by its own mode, otherwise by
+    // the link's.
     fn settles(self, mode: Option<ReceiverSettleMode>) -> bool
         ensures { result ≡ is_settled_by self.given self.own mode }
     {
@@ -81,7 +81,7 @@ impl Settling {
     }
 }
 
-// Of these deliveries those that are kept, by rising numbers.
+// Those of these deliveries that have an entry, sorted by delivery id.
 fn kept_in_order<'a>(
     alloc: Global,
     unsettled: &UnsettledMap<Option<DeliveryState>>,
@@ -122,11 +122,11 @@ fn parted<'a>(
     Ok((settled, open))
 }
 
-/// Says of a delivery that it has this state, and is settled or not. A settled one is forgotten; else
-/// the state is kept of it. Of a delivery that is not kept nothing is said.
+/// The disposition of one delivery, with this state, settled or not. A settled delivery leaves the unsettled
+/// map; otherwise its entry gets this state. A delivery without an entry gets no disposition.
 ///
-/// Refused if it is out of memory, with nothing changed; only a delivery that is kept on takes
-/// memory.
+/// Refused if it is out of memory, with nothing changed, and only for a delivery that has an entry and is not
+/// settled.
 #[tactic(auto, using(crate::proofs::ListLemmas::unmoved))]
 pub fn dispose(
     unsettled: &mut UnsettledMap<Option<DeliveryState>>,
@@ -160,11 +160,11 @@ pub fn dispose(
     Ok(Some(how.frame(info.delivery_id(), None, mode, state)))
 }
 
-/// The same of several deliveries, by rising numbers, those of one number as they are listed. A
-/// frame says as many as it can: those whose numbers follow each other, in one mode. Its last number
-/// always stands. A delivery that is settled is not entered again, though it is listed twice.
+/// The same of several deliveries, sorted by delivery id; those of one id stay in the order in which they are
+/// listed. A disposition covers as many as it can: consecutive ids, in one mode. It always has `last`. A
+/// settled delivery does not get an entry again, even if it is listed twice.
 ///
-/// Refused if it is out of memory, with nothing changed.
+/// Refused only if it is out of memory, with nothing changed.
 pub fn dispose_all(
     alloc: Global,
     unsettled: &mut UnsettledMap<Option<DeliveryState>>,
@@ -185,13 +185,13 @@ pub fn dispose_all(
         settled,
         changes,
     } = plan?;
-    // All memory is taken: from here on nothing can fail.
+    // All allocations are done: from here on nothing can fail.
     set_each(unsettled, changes);
     remove_all(unsettled, settled.as_slice());
     Ok(frames)
 }
 
-// What dispositions say and do, made apart.
+// The frames and the changes of dispositions, made before anything is changed.
 #[derive(Drop)]
 struct Plan<'a> {
     frames: Vec<LinkFrame>,
@@ -226,8 +226,8 @@ fn planned<'a>(
     })
 }
 
-/// Takes what the sender tells of a delivery: a settled one is forgotten; else the state is kept of
-/// it, or that none is known, where it is kept at all. Takes no memory.
+/// Takes the sender's disposition of one delivery: a settled one leaves the unsettled map; otherwise its
+/// entry, if there is one, gets this state, or none. Does not allocate.
 pub fn on_incoming_disposition(
     unsettled: &mut UnsettledMap<Option<DeliveryState>>,
     settled: bool,

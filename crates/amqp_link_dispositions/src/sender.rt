@@ -1,4 +1,4 @@
-//! What a sender says of deliveries, and what becomes of those that it keeps.
+//! The dispositions that a sender sends and takes, and the outcomes of its deliveries.
 ghost use Rattle.std.specs.Prelude.{◌≡◌, ◌∷◌, [], List, ℕ, false, map, IfOk, OnOk, OnErr};
 ghost use Rattle.amqp_link_runs.specs.Order.{sorted_by};
 ghost use Rattle.amqp_link_dispositions.specs.Listed.{tags_in_order};
@@ -51,7 +51,7 @@ fn frames_of_runs(
     Ok(frames)
 }
 
-// The dispositions of sorted numbers.
+// The dispositions of sorted ids.
 fn frames_of(
     alloc: Global,
     ids: &[DeliveryNumber],
@@ -66,7 +66,7 @@ fn frames_of(
     frames_of_runs(alloc, runs.as_slice(), settled, state, batchable)
 }
 
-// The numbers and the tags of deliveries, sorted by the numbers.
+// The ids and the tags of deliveries, sorted by the ids.
 fn in_order<'a>(
     alloc: Global,
     listed: &'a [(DeliveryNumber, DeliveryTag)],
@@ -86,7 +86,7 @@ fn in_order<'a>(
     Ok((ids, tags))
 }
 
-// The same for deliveries by sorted numbers, whose tags stand in the same order.
+// The same for deliveries with sorted ids, whose tags have the same order.
 fn dispose_sorted(
     alloc: Global,
     unsettled: &mut UnsettledMap<UnsettledMessage>,
@@ -148,7 +148,7 @@ fn frame_of_one(
     Ok(frames)
 }
 
-// Says of one delivery that it has this state and is not settled.
+// Sets the state of one delivery that is not settled, and returns its disposition.
 fn state_of_one(
     alloc: Global,
     unsettled: &mut UnsettledMap<UnsettledMessage>,
@@ -183,11 +183,11 @@ fn state_of_one(
     }
 }
 
-/// Says of one delivery that it has this state, and is settled or not. A settled one that is kept
-/// is forgotten, and ends with the state that was known of it before; else the state is kept of it,
-/// where it is kept at all.
+/// The disposition of one delivery, with this state, settled or not. If it settles a delivery that has an
+/// entry, that leaves the unsettled map and is resolved with the state stored in the entry; otherwise the
+/// entry, if there is one, gets this state.
 ///
-/// Refused where it is out of memory, with nothing changed.
+/// Refused only if it is out of memory, with nothing changed.
 pub fn dispose(
     alloc: Global,
     unsettled: &mut UnsettledMap<UnsettledMessage>,
@@ -230,10 +230,10 @@ pub fn dispose(
     Ok((frames, outcomes))
 }
 
-/// The same of several deliveries, by rising numbers, those of one number as they are listed. The
-/// frames name each number as often as it is listed.
+/// The same of several deliveries, sorted by delivery id; those of one id stay in the order in which they are
+/// listed. The dispositions cover each id as often as it is listed.
 ///
-/// Refused if it is out of memory, with nothing changed.
+/// Refused only if it is out of memory, with nothing changed.
 pub fn batch_dispose(
     alloc: Global,
     unsettled: &mut UnsettledMap<UnsettledMessage>,
@@ -268,9 +268,9 @@ pub fn batch_dispose(
     )
 }
 
-/// Takes what the receiver tells of a delivery. It ends with this state, or with none, where it is
-/// settled or the state is terminal; else the state is kept of it, or that none is known. Takes no
-/// memory.
+/// Takes the receiver's disposition of one delivery. If it settles the delivery or its state is terminal, the
+/// delivery leaves the unsettled map and is resolved with this state, or with none; otherwise its entry, if
+/// there is one, gets this state, or none. Does not allocate.
 pub fn on_incoming_disposition(
     unsettled: &mut UnsettledMap<UnsettledMessage>,
     settled: bool,

@@ -17,7 +17,7 @@ pub record Planned : Type 0 where
   pub steps : List Step
   pub aborts : Entries ResumingDelivery
 
--- as many of the one as of the other, and in each place the two are related
+-- the two lists have the same length, and R holds of each two elements at the same place
 abbrev pub Pairwise : {X Y : Type 0} → (X → Y → Type 0) → List X → List Y → Type 0
 Pairwise R [] [] = Unit {0}
 Pairwise R (x ∷ xs) (y ∷ ys) = R x y × Pairwise R xs ys

@@ -12,16 +12,16 @@ ghost use Rattle.amqp_link_core.specs.Attaching.{States};
 ghost use Rattle.amqp_link_core.specs.Resuming.{rest_from};
 ghost use Rattle.amqp_link_exchange.specs.Exchanges.{deliveries_to_resume, outcomes_returned};
 
-/// In an exchange each tag of either map is answered once, by the list or by an outcome, and no other tag
-/// (2.6.13).
+/// In an exchange each tag of either unsettled map is answered once, by the list or by an outcome, and no
+/// other tag is (2.6.13).
 pub fn each_tag_is_answered_once()
     ensures { (own : Entries UnsettledMessage) (remote : States) → IsMap own → IsMap remote → (tag : Tag)
         → count_by (bytes_eq tag) (keys_of (deliveries_to_resume own remote) ++ keys_of (outcomes_returned own remote))
         ≡ (if is_some (entry_at own tag) || is_some (entry_at remote tag) then 1 else 0) }
 {}
 
-/// A front of a payload that the receiver reports by its position, and the rest that the sender makes of
-/// that position, are the payload (2.6.13, 3.4.1).
+/// The front of a payload that the receiver reports by its position, and the rest that the sender computes
+/// from that position, joined are the payload (2.6.13, 3.4.1).
 pub fn front_and_rest_are_the_payload()
     ensures { (front rest : List ℕ)
         → rest_from (front ++ rest) (position front).0 (position front).1 ≡ rest }

@@ -21,14 +21,14 @@ use std::mem;
 /// How one delivery of the sender's map is resolved.
 #[derive(Debug, Drop)]
 pub struct Step {
-    /// What is made of its entry.
+    /// How its entry is resolved.
     pub plan: PlannedResolution,
     /// Its tag, if what is sent of it carries the tag.
     pub tag: Option<DeliveryTag>,
 }
 
-/// The first half of an exchange: how each delivery of the sender's map is resolved, the aborts of those
-/// that only the receiver knows, and room for all that the second half returns.
+/// The first half of an exchange: how each delivery of the sender's map is resolved, the aborts of those that
+/// only the receiver knows, and room for all that the second half returns.
 ///
 /// A contract sees the steps, in the order of the map, and the aborts.
 #[derive(Debug, Drop)]
@@ -56,7 +56,7 @@ impl Model for ExchangePlan {
         × (ended_count plan.steps.items ≤ vec_capacity plan.outcomes) };
 }
 
-// The steps of a sender whose receiver knows none of its deliveries.
+// The steps of a sender's deliveries if the receiver knows none of them.
 fn unreported_steps(
     alloc: Global,
     own: &UnsettledMap<UnsettledMessage>,
@@ -87,8 +87,8 @@ fn set_step(steps: &mut Vec<Step>, index: usize, step: Step)
     drop(mem::replace(&mut steps[index], step));
 }
 
-// Reads one entry of the receiver's map: the step of its delivery is decided by the state, or the delivery
-// is aborted, since only the receiver knows it.
+// Reads one entry of the receiver's map: the entry's state decides the step of its delivery; a delivery that
+// only the receiver knows is aborted.
 fn read_report(
     own: &UnsettledMap<UnsettledMessage>,
     steps: &mut Vec<Step>,
@@ -119,11 +119,11 @@ fn read_report(
     Ok(())
 }
 
-/// Decides how each delivery of the sender's map is resolved, by the receiver's map as its attach stated it
-/// (2.6.13). The sender's map stays as it is.
+/// Decides how each delivery of the sender's map is resolved, by the receiver's map as its attach has stated
+/// it (2.6.13). The sender's map stays as it is.
 ///
-/// Allocates all that the exchange needs: the bytes that are still to be sent of a resumed delivery, and
-/// room for the lists that `exchange` returns. Each entry of the receiver's map is looked up once in the
+/// Allocates all that the exchange needs: the bytes that are still to be sent of a resumed delivery, and room
+/// for the lists that `exchange` returns. Each entry of the receiver's map is looked up once in the sender's.
 /// sender's.
 pub fn plan_exchange(
     alloc: Global,
@@ -145,7 +145,7 @@ pub fn plan_exchange(
     plan_each(alloc, own, remote)
 }
 
-// The same of maps of which one has a delivery.
+// The same of two maps of which at least one is not empty.
 fn plan_each(
     alloc: Global,
     own: &UnsettledMap<UnsettledMessage>,
@@ -190,8 +190,8 @@ fn resumed_among(steps: &[Step]) -> usize
 
 impl ExchangePlan {
     /// Copies of the outcomes that `exchange` returns, in their order, for a caller that keeps a record of
-    /// each. Only the list allocates, and outcomes that carry an error or annotations: nothing does if no
-    /// delivery has ended.
+    /// each. Allocates the list, and outcomes that carry an error or annotations; nothing if no delivery has
+    /// ended.
     pub fn copies_of_outcomes(
         &self,
         alloc: Global,
@@ -208,7 +208,7 @@ impl ExchangePlan {
     }
 }
 
-// Copies of the outcomes of deliveries by their steps.
+// Copies of the outcomes of deliveries, by their steps.
 fn copies_by(
     alloc: Global,
     pairs: &[(DeliveryTag, UnsettledMessage)],
@@ -228,9 +228,10 @@ fn copies_by(
     Ok(copies)
 }
 
-/// The second half of an exchange: moves the entries of the sender's map as planned. Returns what is to be
-/// resumed, sent again, aborted or stated once more, in the order of the sender's map and then of the
-/// receiver's, and the outcomes of the deliveries that have ended. Does not allocate.
+/// The second half of an exchange: moves the entries out of the sender's map as planned. Returns the
+/// deliveries to be resumed, sent again or aborted, or whose outcome is to be stated again, in the order of
+/// the sender's map and then of the receiver's, and the outcomes of the deliveries that have ended. Does not
+/// allocate.
 pub fn exchange(
     own: UnsettledMap<UnsettledMessage>,
     plan: ExchangePlan,
@@ -252,7 +253,7 @@ pub fn exchange(
     (ResumingDeliveries::from(list), outcomes)
 }
 
-// Appends deliveries to a list that has the room.
+// Appends deliveries to a list that has room for them.
 fn append(
     deliveries: Vec<(DeliveryTag, ResumingDelivery)>,
     list: &mut Vec<(DeliveryTag, ResumingDelivery)>,
@@ -265,7 +266,7 @@ fn append(
     }
 }
 
-// Resolves deliveries by their steps, in lists that have the room.
+// Resolves deliveries by their steps, into lists that have room for them.
 fn resolve_each(
     pairs: Vec<(DeliveryTag, UnsettledMessage)>,
     steps: Vec<Step>,
@@ -289,7 +290,7 @@ fn resolve_each(
     drop(steps);
 }
 
-// Resolves one delivery by its step, in lists that have the room.
+// Resolves one delivery by its step, into lists that have room for it.
 fn resolve_one(
     tag: DeliveryTag,
     entry: UnsettledMessage,

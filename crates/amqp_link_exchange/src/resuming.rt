@@ -1,12 +1,12 @@
-//! The deliveries that an exchange gives to the user of the link.
+//! The deliveries that an exchange returns to the user of the link.
 ghost use Rattle.std.specs.Prelude.{◌≡◌, ◌==◌, length};
 
 use amqp_link_core::resumption::ResumingDelivery;
 use amqp_link_types::types::DeliveryTag;
 use std::marker::Model;
 
-/// The deliveries that an exchange gives to the user of the link, in order, each with its tag: to be
-/// resumed, sent again, aborted, or their outcomes stated once more.
+/// The deliveries that an exchange returns to the user of the link, in order, each with its tag: to be
+/// resumed, sent again or aborted, or their outcomes to be stated again.
 ///
 /// A contract sees the list of the pairs.
 #[derive(Debug, Drop)]
@@ -49,7 +49,7 @@ impl ResumingDeliveries {
         self.deliveries.as_slice()
     }
 
-    /// The list, given back. Does not allocate.
+    /// The list as a `Vec`. Does not allocate.
     pub fn into_vec(self) -> Vec<(DeliveryTag, ResumingDelivery)>
         ensures { result.items ≡ self }
     {

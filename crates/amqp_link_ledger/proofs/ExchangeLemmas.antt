@@ -24,7 +24,7 @@ use Rattle.amqp_link_exchange.specs.Exchanges.{resolutions, to_resume, to_return
 use Rattle.amqp_link_sender.specs.declared.sender_link.incoming.AttachPlan.{AttachPlan}
 use Rattle.amqp_link_sender.specs.declared.sender_link.incoming.SenderAttachExchange.{SenderAttachExchange}
 use Rattle.amqp_link_sender.specs.declared.sender_link.incoming.SenderAttachExchange.TheVariants as exchange
-use Rattle.amqp_link_sender.specs.SenderAttaches.{all_illegal, is_nothing, resumption_in, exchange_in, disagree, sender_attached, sender_came, sender_targeted, sender_termini_refusal, sender_tests, sender_refusal, sender_left, is_out_of_memory, IsAttachPlan}
+use Rattle.amqp_link_sender.specs.SenderAttaches.{all_illegal, is_nothing, resumption_in, exchange_in, disagree, sender_attached, sender_came, sender_targeted, sender_termini_refusal, sender_tests, sender_refusal, sender_left, is_sender_out_of_memory, IsAttachPlan}
 use Rattle.amqp_link_sender.specs.Senders.{Sender}
 use Rattle.amqp_link_ledger.specs.Exchanging.{deliveries_in, given_up, ledger_taken}
 use Rattle.amqp_link_ledger.specs.Fates.{Records, HandsOut, Resolves, after, IsRecorded}
@@ -140,7 +140,7 @@ module _ {T : Type 0} where
 -- ---- an attach that is refused
 
 -- the flag names the error of a call that is out of memory
-is_memory : (e : SenderAttachError) → is_out_of_memory e ≡ true → e ≡ error.OutOfMemory
+is_memory : (e : SenderAttachError) → is_sender_out_of_memory e ≡ true → e ≡ error.OutOfMemory
 is_memory (error.SessionStopped why) h = absurd (cc)
 is_memory error.SessionNotMapped h = absurd (cc)
 is_memory error.IllegalState h = absurd (cc)
@@ -185,7 +185,7 @@ module _ {T : Type 0} (admitted : TargetArchetype → Option T) (refused : T →
   pub refused_with : (e : SenderAttachError) → (e ≡ error.OutOfMemory) ⊎ (sender_refusal admitted refused s attach ≡ Some e) → (next : LinkState)
       → next_of s.local_state attach ≡ Some next → (e ≡ error.OutOfMemory) ⊎ ((sender_left admitted refused e s attach).local_state ≡ next)
   refused_with e (inl is) next some = inl is
-  refused_with e (inr stop) next some = by (is_out_of_memory e) refl
+  refused_with e (inr stop) next some = by (is_sender_out_of_memory e) refl
     where
       moved : unwrap_or (next_of s.local_state attach) s.local_state ≡ next
       moved = ap (λ o. unwrap_or o s.local_state) some
@@ -193,7 +193,7 @@ module _ {T : Type 0} (admitted : TargetArchetype → Option T) (refused : T →
       left : (left_by_first s further).local_state ≡ next
       left = refused_leaves (λ (l : Sender T). l.local_state ≡ next) s further e (sym (ap (λ o. first_refusal (tests_at o)) some) ∙ stop) (moved, (moved, tt))
 
-      by : (b : Bool) → is_out_of_memory e ≡ b → (e ≡ error.OutOfMemory) ⊎ ((left_after b s (sender_tests admitted refused s attach)).local_state ≡ next)
+      by : (b : Bool) → is_sender_out_of_memory e ≡ b → (e ≡ error.OutOfMemory) ⊎ ((left_after b s (sender_tests admitted refused s attach)).local_state ≡ next)
       by true h = inl (is_memory e h)
       by false h = inr (ap (λ (l : Sender T). l.local_state) (ap (λ o. left_by_first s (tests_at o)) some) ∙ left)
 
@@ -214,7 +214,7 @@ module _ {T : Type 0} (admitted : TargetArchetype → Option T) (refused : T →
 
   -- no refusal touches the unsettled deliveries
   pub unsettled-left : (e : SenderAttachError) → (sender_left admitted refused e s attach).unsettled ≡ s.unsettled
-  unsettled-left e = left_after_is (λ (l : Sender T). l.unsettled ≡ s.unsettled) (is_out_of_memory e) s (sender_tests admitted refused s attach) refl (refl, (refl, (refl, tt)))
+  unsettled-left e = left_after_is (λ (l : Sender T). l.unsettled ≡ s.unsettled) (is_sender_out_of_memory e) s (sender_tests admitted refused s attach) refl (refl, (refl, (refl, tt)))
 
 -- ---- an attach that is taken as it was planned
 

@@ -9,5 +9,6 @@ pub mod ListSteps
 pub mod LoopLemmas
 pub mod MoveLemmas
 pub mod NumberLemmas
+pub mod OutcomeLemmas
 pub mod RecordLemmas
 pub mod SendLemmas

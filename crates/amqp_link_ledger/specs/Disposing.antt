@@ -6,15 +6,15 @@ use Rattle.amqp_link_types.specs.declared.types.errors.LinkStateError.{LinkState
 use Rattle.amqp_link_types.specs.Entries.{Tag, Entries, entry_at}
 use Rattle.amqp_link_sender.specs.Senders.{Sender, settles}
 
--- what a call returns for a delivery
+-- the outcome that a call returns for a delivery
 abbrev pub OutcomeSeen : Type 0
 OutcomeSeen = Result (Option DeliveryState) LinkStateError
 
--- a delivery that its sender settles ends with the state that is known of it
+-- the outcome of a delivery that its sender settles: the state stored in its entry
 abbrev pub settled_outcome : Entries UnsettledMessage → Tag → Option OutcomeSeen
 settled_outcome own tag = option_map (λ message. Ok message.state) (entry_at own tag)
 
--- of each listed delivery, if they are settled
+-- those of the listed deliveries, if they are settled
 abbrev pub copies_at : {T : Type 0} → Sender T → Bool → List (ℕ × Tag) → List (Option OutcomeSeen)
 copies_at s settled listed =
     if settles s.snd_settle_mode || not settled then [] else map (λ pair. settled_outcome s.unsettled pair.1) listed

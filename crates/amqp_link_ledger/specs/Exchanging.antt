@@ -1,4 +1,4 @@
--- A ledger whose link is attached again (OASIS AMQP 1.0 core, 2.6.13): what becomes of its registrations.
+-- A ledger whose link is attached again (OASIS AMQP 1.0 core, 2.6.13): the fates of its registrations.
 use Rattle.std.specs.Prelude.{[], Option}
 use Rattle.amqp_link_types.specs.Entries.{Entries}
 use Rattle.amqp_link_types.specs.declared.types.attach.Attach.{Attach}
@@ -12,14 +12,14 @@ use Rattle.amqp_link_sender.specs.SenderAttaches.{all_illegal, sender_taken}
 use Rattle.amqp_link_ledger.specs.Fates.{HandsOut, Resolves, after}
 use Rattle.amqp_link_ledger.specs.Ledgers.{Ledger}
 
--- the deliveries that an exchange gives to the user
+-- the deliveries that an exchange returns to the user
 abbrev pub deliveries_in : SenderAttachExchange → Entries ResumingDelivery
 deliveries_in exchange.Complete = []
 deliveries_in (exchange.IncompleteUnsettled list) = list
 deliveries_in (exchange.Resume list) = list
 
 module _ {T : Type 0} where
-  -- the link attaches anew: each delivery ends
+  -- the link is reattached: each pending registration is resolved
   abbrev pub given_up : Ledger T → Ledger T
   given_up l = record {
     link = record l.link { unsettled = [] };

@@ -1,6 +1,7 @@
 -- What became of each registration of a sender's deliveries (OASIS AMQP 1.0 core, 2.6.12 and 2.6.13).
-use Rattle.std.specs.Prelude.{◌≡◌, ◌≢◌, ℕ, Bool, true, false, List, [], ◌∷◌, ◌++◌, map, filter, fold, Option, Some, None, slice_get, if◌then◌else◌, is_some, nat_lt, ◌&&◌}
-use Rattle.std.specs.List.{last_or, count_by}
+use Rattle.std.specs.Prelude.{◌≡◌, ◌≢◌, ℕ, Bool, true, false, List, [], ◌∷◌, ◌++◌, map, filter, fold, Option, Some, None, slice_get, if◌then◌else◌, is_some, nat_lt, ◌&&◌, All}
+use Rattle.std.specs.List.{last_or, count_by, IsDistinct}
+use Rattle.std.specs.Map.{keys_of}
 use Rattle.std.specs.Str.{bytes_eq}
 use Rattle.amqp_link_types.specs.Entries.{Tag, Entries, entry_at, IsMap}
 use Rattle.amqp_link_types.specs.Deliveries.{Ended}
@@ -30,14 +31,20 @@ latest fates = last_or None fates
 abbrev pub pending_count : Tag → Records → ℕ
 pending_count tag records = count_by is_pending_fate (fates_of tag records)
 
--- The map has each tag once, and a tag is pending as often as it stands there.
+-- The tags of the map are distinct, and a tag has one pending registration if it is in the map, otherwise
+-- none.
 pub record IsRecorded {V : Type 0} (unsettled : Entries V) (records : Records) : Type 0 where
   pub distinct : IsMap unsettled
   pub pending : (tag : Tag) → pending_count tag records ≡ (if is_some (entry_at unsettled tag) then 1 else 0)
 
+-- No tag has two of these outcomes, and the tag of each has one pending registration.
+pub record AreOfPending (outcomes : List Ended) (records : Records) : Type 0 where
+  pub each_once : IsDistinct bytes_eq (keys_of outcomes)
+  pub pending : All (λ o. pending_count o.0 records ≡ 1) outcomes
+
 -- ---- what a call does to the records
 
--- only a pending registration moves
+-- the fate of a registration that is given one: only a pending registration takes it
 abbrev pub fate_given : Option Fate → Fate → Fate
 fate_given (Some fate) Pending = fate
 fate_given _ fate = fate
@@ -46,7 +53,7 @@ fate_given _ fate = fate
 abbrev pub with_fates : Entries Fate → Records → Records
 with_fates given records = map (λ r. (r.0, fate_given (entry_at given r.0) r.1)) records
 
--- an entry gets the next number
+-- an entry of this tag is registered, with the next number
 abbrev pub registered : Tag → Records → Records
 registered tag records = records ++ (tag, Pending) ∷ []
 
@@ -56,8 +63,8 @@ handed_out list records = with_fates (map (λ d. (d.0, HandedOut)) list) records
 abbrev pub resolved : List Ended → Records → Records
 resolved outcomes records = with_fates (map (λ o. (o.0, Resolved o.1)) outcomes) records
 
--- what a call may do: an entry enters, one is withdrawn, an exchange hands out its list, outcomes are
--- returned
+-- the changes that a call may make: an entry is registered, one is withdrawn, an exchange hands out its list,
+-- outcomes are returned
 pub data Change : Type 0 where
   Enters : Tag → Change
   Withdraws : Tag → Change
@@ -81,17 +88,17 @@ MovesOnce old new = (n : ℕ) (r : Tag × Fate) → slice_get old n ≡ Some r
 
 -- ---- the registrations as a caller sees them
 
--- the records, and whether the next registration allocates nothing
+-- the records, and whether there is room for the next registration, so that it does not allocate
 pub record RecordsAndRoom : Type 0 where
   pub records : Records
   pub has_room : Bool
 
--- The index of the code: a tag has a number there exactly if the record of this number is the tag's,
--- and pending.
+-- The index that the code keeps beside the records: a tag has a number there exactly if the record of this
+-- number has the tag, and is pending.
 pub record IsNumbered (records : Records) (numbers : Entries ℕ) : Type 0 where
   pub stands : (tag : Tag) (n : ℕ) → entry_at numbers tag ≡ Some n → slice_get records n ≡ Some (tag, Pending)
   pub found : (tag : Tag) (n : ℕ) → slice_get records n ≡ Some (tag, Pending) → entry_at numbers tag ≡ Some n
 
--- whether a vector of this length and capacity, and a map with this spare room, take one more each
+-- whether a vector of this length and capacity, and a map with this spare room, have room for one more each
 abbrev pub takes_one : ℕ → ℕ → ℕ → Bool
 takes_one len capacity spare = nat_lt len capacity && nat_lt 0 spare

@@ -26,7 +26,7 @@ abbrev pub records_after_sending : Sending → Records → Records
 records_after_sending (sending.Sent told frames) records = after_settlement told records
 records_after_sending sending.CreditMissing records = records
 
--- ---- what a send needs room for
+-- ---- whether a send needs room for a registration
 
 module _ {T : Type 0} where
   -- whether a payload that is sent now awaits its outcome, if it is sent at all
@@ -34,44 +34,19 @@ module _ {T : Type 0} where
   does_await s settled =
       is_some s.output_handle && is_some s.input_handle && not (s.flow_state.link_credit == 0) && not (settled_by_mode s.snd_settle_mode settled)
 
-  -- the tag under which it is then registered: none if something waits
+  -- the tag under which it is then registered: none if something is pending before the send
   abbrev pub tag_to_register : Sender T → Waiting → Option Bool → Option Tag
   tag_to_register s waiting.Nothing settled = if does_await s settled then Some (next_tag s) else None
   tag_to_register s _ settled = None
 
-  -- the tag under which the delivery of this transfer is registered, if it is
+  -- the tag under which the delivery of this transfer is registered: none if it is settled or there is no
+  -- input handle
   abbrev pub tag_of_unsettled : Sender T → Transfer → Option Tag
   tag_of_unsettled s t = if is_none s.input_handle || settled_on_send s t then None else t.delivery_tag
 
-  -- ---- refusals
-
-  -- the first tests of a payload: both handles, and credit
-  abbrev pub endpoint_tests : Sender T → List (Bool × SendStop)
-  endpoint_tests s =
-      (is_none s.output_handle, refused error.IllegalState)
-      ∷ (is_none s.input_handle, refused error.IllegalState)
-      ∷ (s.flow_state.link_credit == 0, missing_credit)
-      ∷ []
-
-  -- the first tests of a transfer that is to be registered: its tag, and the peer's handle
-  abbrev pub named_tests : Sender T → Transfer → List (Bool × LinkStateError)
-  named_tests s t = (is_none t.delivery_tag, error.IllegalState) ∷ (is_none s.input_handle, error.IllegalState) ∷ []
-
-  -- the first tests of an entry that is sent again: the peer's handle, and its tag
-  abbrev pub entry_tests : Sender T → Tag → List (Bool × LinkStateError)
-  entry_tests s tag = (is_none s.input_handle, error.IllegalState) ∷ (is_pending s tag, error.TagPending) ∷ []
-
--- A send of a payload by the first test that holds; out of memory comes only if none of these first ones
--- does.
-abbrev pub SendAnswersWithMemoryAfter : List (Bool × SendStop) → Result Sending LinkStateError → List (Bool × SendStop) → Type 0
-SendAnswersWithMemoryAfter first (Ok (sending.Sent told frames)) tests = refusal tests ≡ None
-SendAnswersWithMemoryAfter first (Ok sending.CreditMissing) tests = refusal tests ≡ Some missing_credit
-SendAnswersWithMemoryAfter first (Err e) tests =
-    ((e ≡ error.OutOfMemory) × (refusal first ≡ None)) ⊎ (refusal tests ≡ Some (refused e))
-
 -- ---- a registration: a helper
 
--- there is room to register a delivery that was sent, and its tag is free
+-- there is room to register an unsettled delivery that was sent, and its tag is free
 abbrev pub IsRoomFor : Settlement → Option Tag → RecordsAndRoom → Type 0
 IsRoomFor (settlement.Settled tag) reserved all = Unit {0}
 IsRoomFor (settlement.Unsettled tag) reserved all =

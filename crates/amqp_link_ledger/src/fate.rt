@@ -8,7 +8,8 @@ pub enum Fate {
     Pending,
     /// Taken back by the user, without an outcome.
     Withdrawn,
-    /// Given out by the exchange of unsettled maps, to be resumed or aborted.
+    /// Returned in the list of an exchange of unsettled maps: to be resumed, sent again or aborted, or its
+    /// outcome to be stated again.
     HandedOut,
     /// Settled with this outcome, or failed.
     Resolved(DeliveryOutcome),

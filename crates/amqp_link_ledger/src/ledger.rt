@@ -1,8 +1,9 @@
 //! A sender's link endpoint that keeps what became of each of its registrations (2.6.12, 2.6.13).
 //!
-//! Each pair that enters the unsettled map is a registration, numbered from 0. A call has the endpoint's name
-//! and its answers; one that changes the map changes the registrations with it. What that needs is allocated
-//! before the endpoint is called: a refused call makes no registration and resolves none.
+//! Each pair that enters the unsettled map is a registration, numbered from 0. A call has the name and the
+//! results of the endpoint's call; one that changes the map changes the registrations with it. What the
+//! registrations need is allocated before the endpoint is called: a refused call makes no registration and
+//! resolves none.
 ghost use Rattle.std.specs.Prelude.{◌≡◌, map, slice_get, IfOk, IfErr};
 ghost use Rattle.std.specs.Option.{option_map, option_copied};
 ghost use Rattle.amqp_link_types.specs.Entries.{Entries, IsMap};
@@ -85,10 +86,10 @@ fn registrations_of<V>(
 }
 
 impl<T: LinkTarget> OutcomeLedger<T> {
-    /// A ledger round this endpoint. Each delivery of its unsettled map is registered, in the order of the
-    /// map, and pending.
+    /// A ledger of this endpoint. Each delivery in its unsettled map is registered as pending, in the order
+    /// of the map.
     ///
-    /// Out of memory hands the endpoint back.
+    /// Refused only if it is out of memory, which returns the endpoint.
     pub fn new(alloc: Global, link: SenderLink<T>) -> Result<OutcomeLedger<T>, SenderLink<T>>
         ensures link { IfOk result (λ ledger. ledger.link ≡ link) }
         ensures records { IfOk result (λ ledger.
@@ -122,7 +123,7 @@ impl<T: LinkTarget> OutcomeLedger<T> {
         }
     }
 
-    /// The endpoint, for reading.
+    /// A reference to the endpoint.
     pub fn link(&self) -> &SenderLink<T>
         ensures { result.now ≡ self.now.link }
     {

@@ -18,7 +18,7 @@ pub(crate) fn has_number(numbers: &IndexMap<DeliveryTag, usize>, tag: &DeliveryT
     numbers.get(tag).is_some()
 }
 
-// Takes the number of a tag out.
+// Removes the number of a tag.
 pub(crate) fn take_number(
     numbers: &mut IndexMap<DeliveryTag, usize>,
     tag: &DeliveryTag,
@@ -31,7 +31,7 @@ pub(crate) fn take_number(
     numbers.swap_remove(tag)
 }
 
-// Puts the number of a tag that has none, where there is room.
+// Sets the number of a tag that has none, if there is room.
 pub(crate) fn put_number(
     numbers: &mut IndexMap<DeliveryTag, usize>,
     tag: DeliveryTag,
@@ -56,7 +56,7 @@ pub(crate) fn set_fate_at(records: &mut Vec<(DeliveryTag, Fate)>, number: usize,
     drop(mem::replace(&mut record.1, fate));
 }
 
-// Enters a pending registration, where there is room.
+// Adds a pending registration, if there is room.
 pub(crate) fn push_pending(records: &mut Vec<(DeliveryTag, Fate)>, tag: DeliveryTag)
     requires { vec_len records.old < vec_capacity records.old }
     ensures { records.new.items ≡ registered tag records.old.items }

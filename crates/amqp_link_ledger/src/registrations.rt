@@ -103,8 +103,8 @@ impl Registrations {
         has_number(&self.numbers, tag)
     }
 
-    /// Allocates all that a registration of this tag needs: two copies of the tag, and room. Returns
-    /// an error only where it is out of memory. The registrations are as before in both cases.
+    /// Allocates all that a registration of this tag needs: two copies of the tag, and room. Refused only if
+    /// it is out of memory. Changes no registration in either case.
     pub fn reserve(&mut self, alloc: Global, tag: &[u8]) -> Result<Reserved, AllocError>
         ensures tag { IfOk result (λ reserved. reserved ≡ tag.now) }
         ensures room { OnOk result (IsTrue self.new.has_room) }
@@ -120,8 +120,8 @@ impl Registrations {
 
     /// Registers the tag under the next number, which is `len` before the call. Does not allocate.
     ///
-    /// There is room once `reserve` has returned `Ok`, until the next `register`. `is_pending` tells
-    /// whether the tag is free.
+    /// There is room once `reserve` has returned `Ok`, until the next `register`. The tag is free if
+    /// `is_pending` returns false.
     pub fn register(&mut self, reserved: Reserved)
         requires room { IsTrue self.old.has_room }
         requires free { pending_count reserved self.old.records ≡ 0 }
@@ -141,8 +141,8 @@ impl Registrations {
         self.end(tag, Fate::Withdrawn);
     }
 
-    /// Hands out the pending registrations of these tags. A list also names deliveries that only the
-    /// receiver knows: a tag that is not pending changes nothing. Does not allocate.
+    /// Hands out the pending registrations of these tags. The list may have deliveries that only the receiver
+    /// knows: a tag that is not pending changes nothing. Does not allocate.
     pub fn hand_out(&mut self, list: &[(DeliveryTag, ResumingDelivery)])
         ensures records { self.new.records ≡ after (Change.HandsOut list.now) self.old.records }
         ensures room { IsTrue self.old.has_room → IsTrue self.new.has_room }
@@ -162,8 +162,8 @@ impl Registrations {
         self.end(tag, Fate::Resolved(outcome));
     }
 
-    /// Resolves the pending registrations of these tags with their outcomes, of which `copies` has
-    /// one each, in order. A tag that is not pending changes nothing. Does not allocate.
+    /// Resolves the pending registrations of these tags with their outcomes: `copies` has one for each, in
+    /// order. A tag that is not pending changes nothing. Does not allocate.
     pub fn resolve_all(
         &mut self,
         ended: &[(DeliveryTag, DeliveryOutcome)],

@@ -5,9 +5,9 @@ use amqp_link_core::endpoint::{LinkAttach, LinkExt};
 use amqp_link_core::resumption::ResumingDelivery;
 use amqp_link_ledger::fate::Fate;
 use amqp_link_ledger::ledger::OutcomeLedger;
-use amqp_link_samples::links::went;
 use amqp_link_sender::SenderAttachExchange;
 use amqp_link_state::state::LinkState;
+use amqp_link_tests_support::links::went;
 use amqp_link_types::delivery::{DeliveryOutcome, Outcomes, UnsettledMessage};
 use amqp_link_types::types::{
     Attach, DeliveryState, DeliveryTag, Payload, Role, SenderSettleMode, Target, UnsettledMap,
@@ -91,7 +91,7 @@ fn attach_with_five(rt: &(impl Abort + AllocGlobal)) -> Attach {
 }
 
 // The deliveries that are handed out: one is sent again, one resumed, one aborted, the outcome of one stated
-// once more, and the receiver's own is aborted.
+// again, and the receiver's own is aborted.
 fn wanted_deliveries(rt: &(impl Abort + AllocGlobal)) -> Vec<(DeliveryTag, ResumingDelivery)> {
     let resumed = ResumingDelivery::Resume {
         entry: entry_with(None),

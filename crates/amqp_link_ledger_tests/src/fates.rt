@@ -8,9 +8,9 @@ use amqp_link_core::endpoint::{LinkAttach, LinkExt};
 use amqp_link_core::resumption::ResumingDelivery;
 use amqp_link_ledger::fate::Fate;
 use amqp_link_ledger::ledger::OutcomeLedger;
-use amqp_link_samples::links::went;
-use amqp_link_samples::table::detach;
-use amqp_link_sender::SenderAttachExchange;
+use amqp_link_sender::{DispositionAnswer, SenderAttachExchange};
+use amqp_link_tests_support::links::went;
+use amqp_link_tests_support::table::detach;
 use amqp_link_types::delivery::UnsettledMessage;
 use amqp_link_types::types::{
     Attach, DeliveryState, DeliveryTag, LinkStateError, Role, SenderSettleMode, Target,
@@ -28,12 +28,12 @@ fn end_two(rt: &(impl Abort + AllocGlobal), ledger: &mut OutcomeLedger<Target>) 
     let first = count_tag(rt, 0);
     let state = Some(DeliveryState::Accepted);
     let answer = ledger.on_incoming_disposition(true, state, &first);
-    let (is_echoed, ended) = answer.expect(rt, "memory");
+    let DispositionAnswer { echo, outcome } = answer.expect(rt, "memory");
     let wanted = Some((count_tag(rt, 0), Ok(Some(DeliveryState::Accepted))));
-    assert_eq!(rt; ended, wanted);
-    drop((ended, wanted));
+    assert_eq!(rt; outcome, wanted);
+    drop((outcome, wanted));
     drop((first, second));
-    assert!(rt; !is_echoed, "a settled disposition is not answered");
+    assert!(rt; !echo, "a settled disposition is not answered");
 }
 
 // A ledger with the tags 00000000, 00000001 and 00000002, that are put back.

@@ -1,14 +1,14 @@
-//! A growth that is refused, wherever it is, loses nothing: the refused call leaves the fates and the map as they
-//! were, and answers as if nothing had been once it is made again. Run by hand with
-//! `rt try --test --fail-alloc N`.
+//! An allocation that is refused, whichever it is, loses nothing: the refused call leaves the fates and the
+//! map as they were, and made again it returns what it would have returned. Run by hand with `rt try --test
+//! --fail-alloc N`.
 use crate::ledgers::{Sent, send, sent_as};
 use amqp_link_core::endpoint::{LinkAttach, LinkDetach, LinkExt};
 use amqp_link_ledger::fate::Fate;
 use amqp_link_ledger::ledger::OutcomeLedger;
-use amqp_link_samples::links::{self, count_tag, went};
-use amqp_link_samples::table::detach;
 use amqp_link_sender::{SenderAttachExchange, SenderLink};
 use amqp_link_state::state::LinkState;
+use amqp_link_tests_support::links::{self, count_tag, went};
+use amqp_link_tests_support::table::detach;
 use amqp_link_types::delivery::UnsettledMessage;
 use amqp_link_types::types::{
     Attach, DeliveryState, DeliveryTag, LinkFlow, LinkStateError, OutputHandle, Payload, Role,
@@ -125,7 +125,7 @@ enum Call {
     Withdraw(u8),
     // The receiver accepts a delivery and settles it.
     Accept(u8),
-    // The sender says that it knows a delivery as accepted.
+    // The sender states that a delivery is accepted.
     Dispose(u8),
     // The sender settles the deliveries 0 and 1.
     SettleBoth,
@@ -265,7 +265,7 @@ fn put_back(ledger: &mut Ledger, alloc: Global, count: u8) -> Result<Answer, All
 fn accept(ledger: &mut Ledger, tag: &DeliveryTag) -> Result<Answer, AllocError> {
     let answer = ledger.on_incoming_disposition(true, Some(DeliveryState::Accepted), tag);
     let ended = match &answer {
-        Ok((_, ended)) => Ok(Answer::Done(ended.is_some())),
+        Ok(answer) => Ok(Answer::Done(answer.outcome.is_some())),
         Err(_) => Err(AllocError),
     };
     drop(answer);
@@ -370,7 +370,7 @@ fn link_of_one(alloc: Global) -> Result<SenderLink<Target>, AllocError> {
     }
 }
 
-// A ledger round a link. If it is out of memory, it hands the link back with so many deliveries.
+// A ledger of a link. If it is out of memory, the link is returned with so many deliveries.
 fn ledger_round(
     rt: &(impl Abort + AllocGlobal),
     link: SenderLink<Target>,

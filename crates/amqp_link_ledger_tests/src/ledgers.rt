@@ -1,12 +1,12 @@
-//! Ledgers that are led by public calls, and the fates that they show.
+//! Ledgers that are brought to a state by public calls, and the fates that they show.
 use crate::samples::{attach_of, count_tag, parts, payload_of};
 use amqp_link_core::endpoint::{LinkAttach, LinkDetach, LinkExt};
 use amqp_link_ledger::fate::Fate;
 use amqp_link_ledger::ledger::OutcomeLedger;
-use amqp_link_samples::links::went;
-use amqp_link_samples::table::detach;
 use amqp_link_sender::{SenderLink, Sending, Waiting};
 use amqp_link_state::state::LinkState;
+use amqp_link_tests_support::links::went;
+use amqp_link_tests_support::table::detach;
 use amqp_link_types::delivery::{Settlement, UnsettledMessage};
 use amqp_link_types::types::{
     DeliveryState, LinkFlow, LinkStateError, OutputHandle, Payload, Role, SenderSettleMode, Target,
@@ -62,6 +62,8 @@ pub(crate) enum Sent {
     Settled,
     CreditMissing,
     NoRoom,
+    TagPending,
+    IllegalState,
     OutOfMemory,
     Other,
 }
@@ -78,6 +80,8 @@ fn sent_of(sending: &Result<Sending, LinkStateError>) -> Sent {
         Ok(Sending::Sent { settlement, .. }) => sent_as(settlement),
         Ok(Sending::CreditMissing) => Sent::CreditMissing,
         Err(LinkStateError::NoRoom) => Sent::NoRoom,
+        Err(LinkStateError::TagPending) => Sent::TagPending,
+        Err(LinkStateError::IllegalState) => Sent::IllegalState,
         Err(LinkStateError::OutOfMemory) => Sent::OutOfMemory,
         Err(_) => Sent::Other,
     }

@@ -26,9 +26,9 @@ fn accept(rt: &(impl Abort + AllocGlobal), ledger: &mut OutcomeLedger<Target>, c
     let tag = tag_of(rt, count);
     let state = Some(DeliveryState::Accepted);
     let answer = ledger.on_incoming_disposition(true, state, &tag);
-    let (_, ended) = answer.expect(rt, "memory");
-    let is_ended = ended.is_some();
-    drop((ended, tag));
+    let answer = answer.expect(rt, "memory");
+    let is_ended = answer.outcome.is_some();
+    drop((answer, tag));
     assert!(rt; is_ended, "{count}");
 }
 

@@ -4,10 +4,10 @@ use crate::samples::{attach_of, count_tag};
 use amqp_link_core::endpoint::{LinkAttach, LinkDetach, LinkExt};
 use amqp_link_ledger::fate::Fate;
 use amqp_link_ledger::ledger::OutcomeLedger;
-use amqp_link_samples::refusals::{Asked, Refusal, asked_by, at_sender};
-use amqp_link_samples::table::detach;
 use amqp_link_sender::SenderAttachExchange;
 use amqp_link_state::state::LinkState;
+use amqp_link_tests_support::refusals::{Asked, Refusal, asked_by, at_sender};
+use amqp_link_tests_support::table::detach;
 use amqp_link_types::delivery::{DeliveryOutcome, Outcomes};
 use amqp_link_types::frame::LinkFrame;
 use amqp_link_types::types::{
@@ -79,7 +79,7 @@ fn attaches_are_those_of_the_link(rt: HostRuntime) {
     drop(ledger);
 }
 
-// A link that attaches anew gives its deliveries up.
+// A link that is reattached resolves its deliveries.
 #[test]
 fn new_attach_resolves_all(rt: HostRuntime) {
     let mut ledger = three_sent(&rt, SenderSettleMode::Mixed);
@@ -105,7 +105,7 @@ fn refusal_of<A>(answer: &Result<A, SenderAttachError>) -> Option<Refusal> {
     }
 }
 
-// Where the state has no transition for it, nothing is given up.
+// If there is no transition from the state, nothing is resolved.
 #[test]
 fn refused_new_attach_resolves_nothing(rt: HostRuntime) {
     let mut ledger = three_sent(&rt, SenderSettleMode::Mixed);

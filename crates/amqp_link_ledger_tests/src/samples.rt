@@ -1,6 +1,6 @@
 //! Samples for tests: a test that is out of memory stops.
 use amqp_link_core::link_parts::LinkParts;
-use amqp_link_samples::links;
+use amqp_link_tests_support::links;
 use amqp_link_types::types::{
     Attach, DeliveryTag, Fields, Payload, Role, SenderSettleMode, Target,
 };

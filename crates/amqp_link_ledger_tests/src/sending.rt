@@ -1,11 +1,14 @@
 //! Which sends are registrations.
-use crate::ledgers::{Sent, assert_fates, attached, entry_of, send_flagged, sent_as, three_sent};
+use crate::ledgers::{
+    Sent, assert_fates, attached, entry_of, new_ledger, put, send, send_flagged, sent_as,
+    three_sent,
+};
 use crate::samples::{count_tag, payload_of};
 use amqp_link_core::endpoint::LinkExt;
 use amqp_link_ledger::fate::Fate;
 use amqp_link_ledger::ledger::OutcomeLedger;
-use amqp_link_samples::table::detach;
 use amqp_link_sender::{Sending, Waiting};
+use amqp_link_tests_support::table::detach;
 use amqp_link_types::delivery::Settlement;
 use amqp_link_types::frame::{LinkFrame, LinkTransfer};
 use amqp_link_types::types::{
@@ -152,6 +155,43 @@ fn resumed_transfer_is_a_registration(rt: HostRuntime) {
     drop((refused, rest));
     assert_fates(&rt, &ledger, &[Fate::Pending]);
     drop(ledger);
+}
+
+// A payload is refused as by the endpoint, and makes no registration.
+#[test]
+fn refused_payload_is_no_registration(rt: HostRuntime) {
+    let payload = payload_of(&rt, &[7]);
+    let mut ledger = new_ledger(&rt, SenderSettleMode::Mixed);
+    assert_eq!(rt;
+        send(&mut ledger, &payload),
+        Sent::IllegalState,
+        "no input handle"
+    );
+    assert_fates(&rt, &ledger, &[]);
+    drop(ledger);
+    let mut ledger = attached(&rt, SenderSettleMode::Mixed, 1);
+    assert!(rt; put(&rt, &mut ledger, 0));
+    assert_eq!(rt; send(&mut ledger, &payload), Sent::TagPending);
+    assert_fates(&rt, &ledger, &[Fate::Pending]);
+    drop((payload, ledger));
+}
+
+// At a limit of 24 no transfer has room for a byte.
+#[test]
+fn transfer_without_room_is_no_registration(rt: HostRuntime) {
+    let mut ledger = attached(&rt, SenderSettleMode::Mixed, 0);
+    ledger.set_max_frame_size(24);
+    let payload = payload_of(&rt, &[7]);
+    let refused = send_with(&mut ledger, &payload, transfer_of(&rt, 1, false)).err();
+    assert_eq!(rt; refused, Some(LinkStateError::NoRoom));
+    let transfer = transfer_of(&rt, 4, false);
+    let entry = entry_of(&rt, None);
+    let sent = ledger.send_unsettled_transfer(transfer, &payload, count_tag(&rt, 4), entry);
+    let again = sent.err().map(|(error, _)| error);
+    assert_eq!(rt; again, Some(LinkStateError::NoRoom));
+    assert_fates(&rt, &ledger, &[]);
+    drop((refused, again));
+    drop((payload, ledger));
 }
 
 // Only a receiver takes transfers.

@@ -3,7 +3,7 @@ use crate::ledgers::{assert_fates, attached, new_ledger, three_sent};
 use crate::samples::fields;
 use amqp_link_core::endpoint::LinkExt;
 use amqp_link_ledger::fate::Fate;
-use amqp_link_samples::links::{FlowTold, told_back};
+use amqp_link_tests_support::links::{FlowTold, told_back};
 use amqp_link_types::types::{
     InputHandle, LinkFlow, LinkRelayError, OutputHandle, ReceiverSettleMode, SenderSettleMode,
 };

@@ -13,7 +13,7 @@ use Rattle.amqp_link_receiver.specs.Completing.{spent}
 use Rattle.amqp_link_receiver.specs.Receivers.{Receiver}
 use Rattle.amqp_link_worlds.specs.Callable.{CanComplete}
 use Rattle.amqp_link_worlds.specs.Invariants.{IsWorld}
-use Rattle.amqp_link_worlds.specs.Steps.{HandsOutDelivery, LeftByHandOut, Tests, after_hand_out, hand_out_tests, is_error}
+use Rattle.amqp_link_worlds.specs.Steps.{HandsOutDelivery, LeftByHandOut, PairTests, after_hand_out, hand_out_tests, is_error}
 use Rattle.amqp_link_worlds.specs.Worlds.{World, bytes_in, held_at, is_together}
 use Rattle.amqp_link_worlds.specs.declared.error.PairError.{PairError}
 use Rattle.amqp_link_worlds.specs.declared.error.PairError.TheVariants as error
@@ -21,7 +21,7 @@ use Rattle.amqp_link_worlds.specs.declared.progress.Progress.{Progress}
 use Rattle.amqp_link_worlds.proofs.CallLemmas.{can_complete}
 use Rattle.amqp_link_worlds.proofs.WorldLemmas.{IsWorld-hands_out}
 use Rattle.amqp_link_worlds.specs.Before.{before_decoding}
-use Rattle.amqp_link_pair.specs.HandingOut.{IsGivenAt, LeftByDeliveries, credit_tests, delivery_tests, held_in, taken_from}
+use Rattle.amqp_link_pair.specs.HandingOut.{IsGivenAt, LeftByDeliveries, credit_tests, handing_out_tests, held_in, taken_from}
 use Rattle.amqp_link_pair.specs.Keeping.{progress_of}
 use Rattle.amqp_link_pair.specs.PairViews.{AreMarked}
 use Rattle.amqp_link_pair.specs.declared.deliveries.Kept.{Kept}
@@ -45,11 +45,11 @@ can_take w kept tag is world on =
 -- ---- the tests
 
 -- a first test that does not hold falls away
-past_first : (b : Bool) (e : PairError) (tests : Tests) → b ≡ false → refusal ((b, e) ∷ tests) ≡ refusal tests
+past_first : (b : Bool) (e : PairError) (tests : PairTests) → b ≡ false → refusal ((b, e) ∷ tests) ≡ refusal tests
 past_first b e tests h = rw (h) refl
 
 -- those before the message is decoded, by how far the delivery has come
-abbrev credit_by : Option Progress → Receiver Target → Tests
+abbrev credit_by : Option Progress → Receiver Target → PairTests
 credit_by q r =
     (not (is_some (option_and_then (λ (p : Progress). p.held) q)), error.UnknownTag)
     ∷ (not (option_map_or (λ (p : Progress). p.whole) q false), error.NotWhole)
@@ -70,7 +70,7 @@ credit_tests_are w kept tag is on =
 
 module _ {B : Type 0} (decoded : List ℕ → Result (Message B) DecodeError) where
   -- and all of them
-  abbrev tests_by : Option Progress → Receiver Target → Tests
+  abbrev tests_by : Option Progress → Receiver Target → PairTests
   tests_by q r =
       (not (is_some (option_and_then (λ (p : Progress). p.held) q)), error.UnknownTag)
       ∷ (not (option_map_or (λ (p : Progress). p.whole) q false), error.NotWhole)
@@ -79,19 +79,19 @@ module _ {B : Type 0} (decoded : List ℕ → Result (Message B) DecodeError) wh
       ∷ (is_error (decoded (bytes_in (option_and_then (λ (p : Progress). p.held) q))), error.Decode)
       ∷ []
 
-  tests_of : (r : Receiver Target) (o : Option Kept) → delivery_tests decoded o r ≡ tests_by (progress_in o) r
+  tests_of : (r : Receiver Target) (o : Option Kept) → handing_out_tests decoded o r ≡ tests_by (progress_in o) r
   tests_of r None = refl
   tests_of r (Some k) = refl
 
   pub tests_are : (w : World) (kept : Entries Kept) (tag : Tag) → w.deliveries ≡ progress_of kept → is_together w.phase ≡ true
-      → refusal (hand_out_tests decoded w tag) ≡ refusal (delivery_tests decoded (entry_at kept tag) w.receiver)
+      → refusal (hand_out_tests decoded w tag) ≡ refusal (handing_out_tests decoded (entry_at kept tag) w.receiver)
   tests_are w kept tag is on =
       past_first (not (is_together w.phase)) error.NotAttached (tests_by (entry_at w.deliveries tag) w.receiver) (ap not on)
       ∙ ap (λ q. refusal (tests_by q w.receiver)) (ap (λ m. entry_at m tag) is ∙ progress_at kept tag)
       ∙ ap refusal (sym (tests_of w.receiver (entry_at kept tag)))
 
 -- a result by other tests with the same refusal
-pub answers_same : {A : Type 0} (r : Result A PairError) (tests others : Tests) → refusal others ≡ refusal tests
+pub answers_same : {A : Type 0} (r : Result A PairError) (tests others : PairTests) → refusal others ≡ refusal tests
     → AnswersOrOutOfMemory error.OutOfMemory r tests → AnswersOrOutOfMemory error.OutOfMemory r others
 answers_same (Ok a) tests others same h = same ∙ h
 answers_same (Err e) tests others same h =

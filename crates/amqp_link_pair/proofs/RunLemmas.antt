@@ -8,8 +8,8 @@ use Rattle.amqp_link_payloads.specs.declared.message.whole.Whole.{Whole}
 use Rattle.amqp_link_types.specs.Deliveries.{Delivered}
 use Rattle.amqp_link_types.specs.Entries.{Tag}
 use Rattle.amqp_link_types.specs.Refusals.{refusal, AnswersExactly, AnswersOrOutOfMemory, AnswersThenOutOfMemory}
-use Rattle.amqp_link_worlds.specs.Before.{before_tag, before_decoding}
-use Rattle.amqp_link_worlds.specs.PairRuns.{Step, RunsEvents, is_out_of_memory}
+use Rattle.amqp_link_worlds.specs.Before.{before_decoding}
+use Rattle.amqp_link_worlds.specs.PairRuns.{Step, RunsEvents, is_answer_out_of_memory}
 use Rattle.amqp_link_worlds.specs.Steps.{Attaches, LeftByAttach, Grants, Sends, Arrives, Cuts, Resumes, PutsBack, HandsOutDelivery, LeftByHandOut, Settles, is_halfway_at_other}
 use Rattle.amqp_link_worlds.specs.Steps.{attach_tests, grant_tests, send_tests, arrive_tests, cut_tests, next_tests, hand_out_tests, settle_tests}
 use Rattle.amqp_link_worlds.specs.Worlds.{World, is_together}
@@ -19,7 +19,7 @@ use Rattle.amqp_link_worlds.specs.declared.event.AnswerOf.{AnswerOf}
 use Rattle.amqp_link_worlds.specs.declared.event.AnswerOf.TheVariants as answer
 use Rattle.amqp_link_worlds.specs.declared.event.Event.{Event}
 use Rattle.amqp_link_worlds.specs.declared.event.Event.TheVariants.{Attach, Grant, Send, Arrive, Cut, ResumeNext, PutBackNext, HandOut, Settle}
-use Rattle.amqp_link_worlds.proofs.CalledLemmas.{stepped, exactly_or, then_or, memory_exactly, memory_last, attach_measures, left_by_attach, left_by_grant, left_by_cut, left_by_hand_out, left_same, grant_needs_none, arrive_needs_none, cut_needs_none, next_needs_none, settle_needs_none, no_events, no_room, the_last, an_event_then}
+use Rattle.amqp_link_worlds.proofs.CalledLemmas.{stepped, exactly_or, then_or, memory_exactly, memory_last, attach_measures, left_by_attach, left_by_grant, left_by_cut, left_by_hand_out, left_same, grant_needs_none, send_needs_none, arrive_needs_none, cut_needs_none, next_needs_none, settle_needs_none, no_events, no_room, the_last, an_event_then}
 use Rattle.amqp_link_pair.specs.declared.pair.Arrived.{Arrived}
 use Rattle.amqp_link_pair.specs.declared.pair.Resumed.{Resumed}
 use Rattle.amqp_link_pair.specs.declared.pair.Sent.{Sent}
@@ -55,11 +55,14 @@ module _ {old new : World} where
       let or = exactly_or r (grant_tests old) answers in
       record { step = stepped whole_message old new (Grant n) r answer.Granted done or (memory_exactly r (grant_tests old) (grant_needs_none old) answers) (left_by_grant whole_message old new r n answers left) }
 
-  pub send_steps : {payload : List ℕ} {r : Result Sent PairError} → IfOk r (λ sent. Sends old payload sent.tag sent.frames new) → AnswersOrOutOfMemory OutOfMemory r (send_tests old payload)
-      → (IsErrOf r OutOfMemory → refusal (before_tag old payload) ≡ None) → OnErr r (new ≡ old)
+  pub send_steps : {payload : List ℕ} {r : Result Sent PairError} → IfOk r (λ sent. Sends old payload sent.tag sent.frames new)
+      → AnswersThenOutOfMemory OutOfMemory r (send_tests old payload) → OnErr r (new ≡ old)
       → MakesStep old (Send payload) r (λ sent. answer.Sent sent.tag sent.frames) new
-  send_steps {payload} {r} done answers memory left =
-      record { step = stepped whole_message old new (Send payload) r (λ sent. answer.Sent sent.tag sent.frames) done answers memory (left_same whole_message old new (Send payload) r (λ same. same) (λ _ same. same) left) }
+  send_steps {payload} {r} done answers left =
+      record {
+        step = stepped whole_message old new (Send payload) r (λ sent. answer.Sent sent.tag sent.frames) done (then_or r (send_tests old payload) answers)
+            (memory_last r (send_tests old payload) (send_needs_none old payload) answers) (left_same whole_message old new (Send payload) r (λ same. same) (λ _ same. same) left);
+      }
 
   pub arrive_steps : {id : ℕ} {r : Result Arrived PairError} → IfOk r (λ came. Arrives old id came.tag (came.section_number, came.section_offset) came.whole new)
       → AnswersThenOutOfMemory OutOfMemory r (arrive_tests old) → OnErr r (new ≡ old)
@@ -128,11 +131,11 @@ module _ (events : List Event) (i : ℕ) (now : World) where
 
     module _ (answer : Result (AnswerOf Whole) PairError) (next : World) (step : Step whole_message now event answer next) where
       -- the next is out of memory
-      pub stops_after : is_out_of_memory answer ≡ true → RunsRest (answer ∷ []) false next
+      pub stops_after : is_answer_out_of_memory answer ≡ true → RunsRest (answer ∷ []) false next
       stops_after memory = subst (λ l. RunsEvents whole_message now l (answer ∷ []) false next) left (the_last whole_message now next event (drop (i + 1) events) answer step memory)
 
       -- the next is done, and the others follow
-      pub goes_on : (answers : List (Result (AnswerOf Whole) PairError)) (finished : Bool) (new : World) → is_out_of_memory answer ≡ false
+      pub goes_on : (answers : List (Result (AnswerOf Whole) PairError)) (finished : Bool) (new : World) → is_answer_out_of_memory answer ≡ false
           → RunsEvents whole_message next (drop (i + 1) events) answers finished new → RunsRest (answer ∷ answers) finished new
       goes_on answers finished new more run = subst (λ l. RunsEvents whole_message now l (answer ∷ answers) finished new) left
           (an_event_then whole_message now next new event (drop (i + 1) events) answer answers finished step more run)

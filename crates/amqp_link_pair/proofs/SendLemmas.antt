@@ -8,9 +8,8 @@ use Rattle.amqp_link_types.specs.declared.types.errors.LinkStateError.{LinkState
 use Rattle.amqp_link_types.specs.declared.types.errors.LinkStateError.TheVariants as error
 use Rattle.amqp_link_types.specs.declared.types.terminus.Target.{Target}
 use Rattle.amqp_link_split.specs.Room.{has_room}
-use Rattle.amqp_link_sender.specs.Senders.{Sender, Delivery, SendStop, payload_tests, next_tag, new_transfer, delivery_of, settled_by_mode}
+use Rattle.amqp_link_sender.specs.Senders.{SendAnswersThenOutOfMemory, Sender, Delivery, SendStop, payload_tests, next_tag, new_transfer, delivery_of, settled_by_mode}
 use Rattle.amqp_link_sender.specs.declared.sender_link.Sending.{Sending}
-use Rattle.amqp_link_ledger.specs.Sends.{SendAnswersWithMemoryAfter}
 use Rattle.amqp_link_ledger.proofs.ListSteps.{some_is_none}
 use Rattle.amqp_link_worlds.specs.Callable.{CanSend}
 use Rattle.amqp_link_worlds.specs.Steps.{delivery_transfer, zero_output}
@@ -44,10 +43,10 @@ no_refusal s payload k =
     (ap (λ t. not (has_room t s.max_frame_size payload)) t ∙ ap not (has_room-delivery (next_tag s) false s.max_frame_size payload (length-next_tag s) k.room))
 
 -- so that its error is that of a full memory
-pub only_memory : (r : Result Sending LinkStateError) (e : LinkStateError) (first tests : List (Bool × SendStop)) → r ≡ Err e
-    → SendAnswersWithMemoryAfter first r tests → refusal tests ≡ None → e ≡ error.OutOfMemory
-only_memory r e first tests is a none =
-    let P : Result Sending LinkStateError → Type 0 = λ r. SendAnswersWithMemoryAfter first r tests in
+pub only_memory : (r : Result Sending LinkStateError) (e : LinkStateError) (tests : List (Bool × SendStop)) → r ≡ Err e
+    → SendAnswersThenOutOfMemory r tests → refusal tests ≡ None → e ≡ error.OutOfMemory
+only_memory r e tests is a none =
+    let P : Result Sending LinkStateError → Type 0 = λ r. SendAnswersThenOutOfMemory r tests in
     elim (subst P is a) as (λ _. e ≡ error.OutOfMemory) [
       | inl memory ↦ memory.0
       | inr stop ↦ absurd (some_is_none (sym stop ∙ none))

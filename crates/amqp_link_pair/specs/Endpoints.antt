@@ -1,4 +1,4 @@
--- The endpoints of a pair as an attach goes on, and what is kept of it between its steps (OASIS AMQP 1.0 core, 2.6.3).
+-- The endpoints of a pair during an attach, and what is kept between its steps (OASIS AMQP 1.0 core, 2.6.3).
 use Rattle.std.specs.Prelude.{◌≡◌, ◌⊎◌, ℕ, false, length, Option, None, Some}
 use Rattle.amqp_link_types.specs.Entries.{Entries}
 use Rattle.amqp_link_types.specs.Refusals.{refusal}
@@ -63,8 +63,8 @@ new_ends count = record {
 abbrev pub ledger_at : Option OutputHandle → ℕ → Ledger Target → Ledger Target
 ledger_at handle limit l = record l { link = record l.link { output_handle = handle; max_frame_size = limit } }
 
--- What is kept at each stage of an attach: what the sender has sent and the receiver has not taken, or what the
--- receiver has sent, and the receiver's state.
+-- What is kept at each stage of an attach: the sender's attach until the receiver has taken it, or the
+-- receiver's until the sender has; and the receiver's state.
 abbrev pub IsOnWayAt : Stage → Ends → Type 0
 IsOnWayAt stage.Asked e =
     (e.attach ≡ Some (attach_asked e.ledger.link)) × ((e.receiver.local_state ≡ state.Unattached) ⊎ (e.receiver.local_state ≡ state.Detached))
@@ -78,23 +78,24 @@ pub record IsEnds (e : Ends) : Type 0 where
   pub limit : e.ledger.link.max_frame_size ≡ e.limit
   pub on_way : IsOnWayAt e.stage e
 
--- endpoints that no test refuses to attach at this limit
+-- endpoints for which no test refuses an attach at this limit
 pub record MayAttach (limit : ℕ) (w : World) (e : Ends) : Type 0 where
   pub world : IsWorld (with_ends w e)
   pub ends : IsEnds e
   pub allowed : refusal (attach_tests (with_ends w e) limit) ≡ None
 
--- An attach that is out of memory has stopped: all is as it was, or the endpoints are on the way.
+-- An attach that is out of memory has stopped: all is as it was, or the endpoints have reached one of its
+-- stages.
 pub record HasStopped (limit : ℕ) (w : World) (old new : Ends) : Type 0 where
   pub ends : IsEnds new
   pub stays : (new ≡ old) ⊎ ((stop : AttachStop) × StopsAt stop (with_ends w old) limit (with_ends w new))
 
--- Both endpoints are attached at the limit, and this is to be resumed.
+-- Both endpoints are attached at the limit, and these deliveries are to be resumed.
 pub record IsAttached (limit : ℕ) (w : World) (old : Ends) (list : Entries ResumingDelivery) (new : Ends) : Type 0 where
   pub ends : IsEnds new
   pub attaches : Attaches (with_ends w old) limit (length list) (record (with_ends w new) { resuming = list })
 
--- the endpoints once they were detached, and the sender as its detach is on its way
+-- the receiver once it is detached, and the sender in a state of its detach
 abbrev pub detached : Receiver Target → Receiver Target
 detached r = record r { local_state = state.Detached; output_handle = None }
 

@@ -1,4 +1,4 @@
--- A delivery is handed out (OASIS AMQP 1.0 core, 2.6.7 and 2.6.12): why not, and what that leaves of what is kept.
+-- A delivery is handed out (OASIS AMQP 1.0 core, 2.6.7 and 2.6.12): its refusals, and what they leave.
 use Rattle.std.specs.Prelude.{◌≡◌, ℕ, ◌==◌, ◌∷◌, [], true, false, not, List, Option, Some, is_some, option_and_then, Result}
 use Rattle.std.specs.Option.{option_map_or}
 use Rattle.amqp_link_payloads.specs.declared.error.DecodeError.{DecodeError}
@@ -11,24 +11,24 @@ use Rattle.amqp_link_types.specs.declared.types.terminus.Target.{Target}
 use Rattle.amqp_link_core.specs.Held.{Held, held_bytes}
 use Rattle.amqp_link_receiver.specs.Completing.{IsDelivery, spent}
 use Rattle.amqp_link_receiver.specs.Receivers.{Receiver}
-use Rattle.amqp_link_worlds.specs.Steps.{Tests, is_error}
+use Rattle.amqp_link_worlds.specs.Steps.{PairTests, is_error}
 use Rattle.amqp_link_worlds.specs.Worlds.{bytes_in}
 use Rattle.amqp_link_worlds.specs.declared.error.PairError.{PairError}
 use Rattle.amqp_link_worlds.specs.declared.error.PairError.TheVariants as error
 use Rattle.amqp_link_pair.specs.declared.deliveries.Kept.{Kept}
 
--- the refusal of a receiver that has credit for a delivery that is held: its message is not decoded, or it is out of
--- memory
+-- the error for the refusal of a receiver that has credit for a delivery that is held: its message cannot be
+-- decoded, or it is out of memory
 abbrev pub refusal_by : ReceiverTransferError → PairError
 refusal_by (transfer.MessageDecode e) = error.Decode
 refusal_by _ = error.OutOfMemory
 
--- what is held of what is kept
+-- what is held of a delivery, if it is kept
 abbrev pub held_in : Option Kept → Option Held
 held_in kept = option_and_then (λ (k : Kept). k.progress.held) kept
 
--- why it is not handed out, as far as that is known before its message is decoded
-abbrev pub credit_tests : Option Kept → Receiver Target → Tests
+-- the tests before its message is decoded
+abbrev pub credit_tests : Option Kept → Receiver Target → PairTests
 credit_tests kept r =
     (not (is_some (held_in kept)), error.UnknownTag)
     ∷ (not (option_map_or (λ (k : Kept). k.progress.whole) kept false), error.NotWhole)
@@ -36,14 +36,14 @@ credit_tests kept r =
     ∷ (r.flow_state.link_credit == 0, error.TransferLimitExceeded)
     ∷ []
 
--- once it is handed out
+-- a delivery once it is handed out
 abbrev pub taken_from : Kept → Kept
 taken_from kept = record { progress = record kept.progress { taken = true }; is_under_way = kept.is_under_way }
 
 module _ {B : Type 0} where
-  -- and all reasons
-  abbrev pub delivery_tests : (List ℕ → Result (Message B) DecodeError) → Option Kept → Receiver Target → Tests
-  delivery_tests decoded kept r =
+  -- all tests
+  abbrev pub handing_out_tests : (List ℕ → Result (Message B) DecodeError) → Option Kept → Receiver Target → PairTests
+  handing_out_tests decoded kept r =
       (not (is_some (held_in kept)), error.UnknownTag)
       ∷ (not (option_map_or (λ (k : Kept). k.progress.whole) kept false), error.NotWhole)
       ∷ (option_map_or (λ (k : Kept). k.progress.taken) kept false, error.AlreadyHandedOut)
@@ -51,13 +51,13 @@ module _ {B : Type 0} where
       ∷ (is_error (decoded (bytes_in (held_in kept))), error.Decode)
       ∷ []
 
-  -- a receiver that has credit does not hand out what is held
+  -- what a receiver that has credit leaves if it does not hand out what is held
   abbrev pub IsNotGiven : Result (Message B) DecodeError → PairError → Receiver Target → Receiver Target → Type 0
   IsNotGiven decoded error.Decode r after = (is_error decoded ≡ true) × (after ≡ spent r)
   IsNotGiven decoded error.OutOfMemory r after = after ≡ r
   IsNotGiven decoded _ r after = ⊥
 
-  -- what is kept was handed out, and the receiver has spent a credit
+  -- the delivery was handed out, and the receiver has spent a credit
   pub record IsGiven (decoded : List ℕ → Result (Message B) DecodeError) (old : Kept) (r : Receiver Target) (delivery : Delivered B)
       (new : Kept) (after : Receiver Target) : Type 0 where
     pub held : Held
@@ -77,7 +77,7 @@ module _ {B : Type 0} where
     pub map : new ≡ with_entry old tag (taken_from before)
     pub receiver : after ≡ spent r
 
--- what a refusal leaves: one that cannot be decoded counts as handed out
+-- what a refusal leaves: a delivery that cannot be decoded counts as handed out
 abbrev pub LeftByKept : PairError → Kept → Receiver Target → Kept → Receiver Target → Type 0
 LeftByKept error.Decode old r new after = (new ≡ taken_from old) × (after ≡ spent r)
 LeftByKept _ old r new after = (new ≡ old) × (after ≡ r)

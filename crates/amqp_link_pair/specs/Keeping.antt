@@ -1,4 +1,4 @@
--- What a pair keeps of each delivery beside how far it has come, and how a call changes that.
+-- What a pair keeps of each delivery: how far it has come, and whether transfers of it are under way.
 use Rattle.std.specs.Prelude.{◌≡◌, ℕ, Bool, true, not, ◌++◌, map, Some}
 use Rattle.amqp_link_payloads.specs.Position.{position}
 use Rattle.amqp_link_types.specs.Entries.{Tag, Entries, entry_at, with_entry}
@@ -19,14 +19,14 @@ progress_of kept = map (λ e. (e.0, e.1.progress)) kept
 abbrev pub just_sent : Kept
 just_sent = record { progress = begun; is_under_way = true }
 
--- its entry was put back unsent, or its transfers are on their way
+-- its entry was put back unsent, or its transfers are under way
 abbrev pub marked : Bool → Kept → Kept
 marked put_back kept = record {
   progress = record kept.progress { put_back = put_back };
   is_under_way = not put_back;
 }
 
--- a delivery once a transfer arrived
+-- a delivery once a transfer has arrived
 abbrev pub kept_after : Kept → ℕ → LinkFrame → Kept
 kept_after kept id frame = record {
   progress = received kept.progress id frame;
@@ -37,7 +37,7 @@ kept_after kept id frame = record {
 abbrev pub with_report : Tag → ℕ × ℕ → Receiver Target → Receiver Target
 with_report tag place r = record r { unsettled = with_entry r.unsettled tag (Some (received_at place)) }
 
--- The next transfer of a tag has arrived, and the receiver reports what is held then.
+-- The next transfer of a tag has arrived, and the receiver reports the position of what is held then.
 pub record IsReceived (old : Entries Kept) (r : Receiver Target) (tag : Tag) (id : ℕ) (frame : LinkFrame) (place : ℕ × ℕ) (whole : Bool)
     (new : Entries Kept) (after : Receiver Target) : Type 0 where
   pub before : Kept

@@ -1,4 +1,5 @@
--- The world that the fields of a pair are, and what a pair keeps of it. No public clause cites what it keeps.
+-- The world that the fields of a pair stand for, and what a pair keeps of it. No public clause cites what it
+-- keeps.
 use Rattle.std.specs.Prelude.{◌≡◌, true, not, IfSome, IsSome}
 use Rattle.amqp_link_types.specs.Entries.{Tag, Entries, entry_at}
 use Rattle.amqp_link_worlds.specs.Invariants.{IsWorld}
@@ -20,7 +21,8 @@ world_of pair = record {
   wire = pair.wire.transfers;
 }
 
--- while both endpoints are attached, what is kept of a pending delivery tells whether transfers of it are under way
+-- while both endpoints are attached, the mark of a pending delivery states whether transfers of it are under
+-- way
 abbrev pub AreMarked : World → Entries Kept → Type 0
 AreMarked w kept = is_together w.phase ≡ true → (tag : Tag) → IsSome (entry_at w.ledger.link.unsettled tag)
     → IfSome (entry_at kept tag) (λ k. k.is_under_way ≡ not (is_empty (frames_of tag w.wire)))

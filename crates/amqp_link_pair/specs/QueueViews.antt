@@ -1,4 +1,4 @@
--- What the fields of the two queues of a pair are seen as.
+-- What contracts see of the two queues of a pair.
 use Rattle.std.specs.Prelude.{◌-◌, ◌<◌, List, flat_map, length, All}
 use Rattle.std.specs.VecDeque.{deque_len, deque_capacity}
 use Rattle.amqp_link_pair.specs.Queues.{WireAndRoom, ListAndRoom}

@@ -11,7 +11,7 @@ use Rattle.amqp_link_worlds.specs.Steps.{delivery_transfer}
 use Rattle.amqp_link_worlds.specs.Wires.{OnWire}
 use Rattle.amqp_link_pair.specs.declared.sending.Resumption.{Resumption}
 
--- the first of a list
+-- a reference to the first of a list, if there is one
 abbrev pub first_lent : {A : Type 0} → List A → Option A
 first_lent [] = None
 first_lent (x ∷ xs) = Some x
@@ -21,7 +21,7 @@ pub record WireAndRoom : Type 0 where
   pub transfers : List OnWire
   pub room : ℕ
 
--- a transfer that is lent
+-- a transfer to which there are references
 abbrev pub lent_on_wire : Bor Tag × Bor LinkFrame → OnWire
 lent_on_wire p = record { tag = p.0.now; frame = p.1.now }
 
@@ -30,22 +30,22 @@ pub record ListAndRoom : Type 0 where
   pub list : Entries ResumingDelivery
   pub room : ℕ
 
--- a delivery of it that is lent
+-- a delivery of the list to which there are references
 abbrev pub lent_to_resume : Bor Tag × Bor ResumingDelivery → Tag × ResumingDelivery
 lent_to_resume p = (p.0.now, p.1.now)
 
--- the delivery of an entry: it is sent again, or resumed with a rest
-abbrev pub next_of : UnsettledMessage → Option (List ℕ) → ResumingDelivery
-next_of entry None = Resend entry
-next_of entry (Some rest) = Resume entry rest
+-- the delivery with this entry, which is resumed with a rest, or sent again without one
+abbrev pub resuming_of : UnsettledMessage → Option (List ℕ) → ResumingDelivery
+resuming_of entry None = Resend entry
+resuming_of entry (Some rest) = Resume entry rest
 
--- what a delivery is resumed with
+-- the transfer, the rest and the tag with which a delivery is resumed
 pub record IsMadeOf (made : Resumption) (tag : Tag) (next : ResumingDelivery) : Type 0 where
   pub transfer : made.transfer ≡ delivery_transfer tag (resumes next)
   pub rest : rest_of next ≡ Some made.rest
   pub tag_is : made.tag ≡ tag
 
--- a refused delivery is put together again from the entry that comes back
+-- the result of a call that returns the entry if it is refused, with the delivery made again from that entry
 abbrev pub handed_back_as : {A E : Type 0} → Result A (E × UnsettledMessage) → Option (List ℕ) → Result A ResumingDelivery
 handed_back_as (Ok a) rest = Ok a
-handed_back_as (Err refused) rest = Err (next_of refused.1 rest)
+handed_back_as (Err refused) rest = Err (resuming_of refused.1 rest)

@@ -21,8 +21,8 @@ use std::mem;
 pub(crate) struct Kept {
     /// How far it has come.
     pub progress: Progress,
-    /// Whether transfers of it are on their way. It is not reset by a cut: a delivery is resumed or put back
-    /// before this is asked again.
+    /// Whether transfers of it are under way. A cut does not reset this: each delivery is resumed or put back
+    /// before it is read again.
     pub is_under_way: bool,
 }
 
@@ -97,14 +97,14 @@ impl Deliveries {
         }
     }
 
-    // Takes a delivery out. The last pair moves into the gap.
+    // Removes a delivery. The last pair moves into the gap.
     pub(crate) fn remove(&mut self, tag: &DeliveryTag)
         ensures { self.new ≡ without_entry self.old tag.now }
     {
         drop(self.entries.swap_remove(tag));
     }
 
-    // Takes out what was added last under a tag that was free.
+    // Removes the delivery that was added last, under a tag that was free.
     pub(crate) fn take_back(&mut self, tag: &DeliveryTag)
         ensures { (old : Entries Kept) → entry_at old tag.now ≡ None
             → self.old ≡ with_entry old tag.now just_sent → self.new ≡ old }
@@ -123,7 +123,8 @@ impl Deliveries {
         drop(mem::replace(place, kept));
     }
 
-    // Notes of a delivery that is there whether its entry was put back unsent, or its transfers are on their way.
+    // Sets, for a delivery that is there, whether its entry was put back unsent or its transfers are under
+    // way.
     pub(crate) fn mark(&mut self, tag: &DeliveryTag, is_put_back: bool)
         requires { IsSome (entry_at self.old tag.now) }
         ensures { (kept : Kept) → entry_at self.old tag.now ≡ Some kept

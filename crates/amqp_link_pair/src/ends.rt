@@ -38,11 +38,11 @@ pub(crate) enum Stage {
 pub(crate) struct Ends {
     /// How far they are attached.
     pub stage: Stage,
-    /// The limit of their frames in bytes, of the present attachment or of the one on its way.
+    /// The frame limit in bytes, of the present attachment or of the one under way.
     pub limit: u32,
     /// The attach on its way.
     pub attach: Option<Attach>,
-    /// The sender, with what became of its deliveries.
+    /// The sender, with the fates of its registrations.
     pub ledger: OutcomeLedger<Target>,
     /// The receiver.
     pub receiver: ReceiverLink<Target>,
@@ -91,7 +91,7 @@ fn new_ledger(alloc: Global, count: SequenceNo) -> Result<OutcomeLedger<Target>,
 }
 
 impl Ends {
-    /// Two endpoints that are not attached, with this count at both and no credit.
+    /// Two endpoints that are not attached, both with this delivery-count and no credit.
     pub(crate) fn new(alloc: Global, count: SequenceNo) -> Result<Ends, AllocError>
         ensures { IfOk result (λ ends. ends ≡ new_ends count) }
     {

@@ -1,8 +1,8 @@
 //! Two endpoints of a link through any interruptions (OASIS AMQP 1.0 core, 2.6.12, 2.6.13 and 2.7.5), without
 //! IO.
 //!
-//! A `Pair` joins a sender that keeps what became of its deliveries, a receiver, and the wire from the one to the
-//! other. What holds of it is defined and proved in `amqp_link_worlds`.
+//! A `Pair` joins a sender with a ledger of its registrations, a receiver, and the wire from the sender to
+//! the receiver. What holds of it is defined and proved in `amqp_link_worlds`.
 #![tactic(auto)]
 
 mod deliveries;

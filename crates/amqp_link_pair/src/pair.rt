@@ -1,12 +1,14 @@
 //! Two endpoints of a link, the wire between them, and what both keep through any interruptions.
 //!
-//! Payloads go in at the sender, transfers come off the wire one by one, and the receiver holds of each delivery
-//! exactly the bytes that arrived. A cut loses what is on the wire; as both are attached again, each delivery is
-//! resumed from where the receiver's report of it ends. All deliveries are unsettled and of format 0.
-ghost use Rattle.std.specs.Prelude.{◌≡◌, ◌≢◌, ◌<◌, ◌≤◌, ◌^◌, [], true, false, length, None, Some, IfOk, IsErrOf, IsSome, OnOk, OnErr, option_copied};
+//! Payloads are sent by the sender, transfers arrive from the wire one by one, and the receiver holds of each
+//! delivery exactly the bytes that arrived. A cut loses what is on the wire; when both endpoints are attached
+//! again, each delivery is resumed from the position that the receiver reports. All deliveries are unsettled
+//! and of format 0.
+ghost use Rattle.std.specs.Prelude.{◌≡◌, ◌≢◌, ◌<◌, ◌≤◌, ◌^◌, [], true, false, length, None, Some, IfOk, IsErrOf, IsSome, OnOk, OnErr, is_some, option_copied, if◌then◌else◌};
 ghost use Rattle.amqp_link_types.specs.Entries.{entry_at};
 ghost use Rattle.amqp_link_types.specs.Refusals.{AnswersExactly, AnswersOrOutOfMemory, AnswersThenOutOfMemory, refusal};
 ghost use Rattle.std.specs.Map.{keys_of};
+ghost use Rattle.amqp_link_sender.specs.Senders.{next_tag as tag_of_next};
 ghost use Rattle.amqp_link_ledger.specs.Fates.{HandsOut, IsRecorded, after};
 ghost use Rattle.amqp_link_worlds.specs.Invariants.{IsWorld};
 ghost use Rattle.amqp_link_worlds.specs.Worlds.{Good, held_at, is_together};
@@ -60,14 +62,14 @@ pub struct Resumed {
     pub tag: DeliveryTag,
     /// The number of transfers.
     pub frames: usize,
-    /// Whether the delivery is resumed: the receiver has something of it. Otherwise it is sent again.
+    /// Whether the delivery is resumed, since the receiver holds something of it. Otherwise it is sent again.
     pub resume: bool,
 }
 
 /// Two endpoints of a link and the wire between them.
 ///
-/// A contract sees how far the endpoints are attached, both endpoints, how far each delivery has come, what is to be
-/// resumed, and the transfers under way.
+/// A contract sees its world: how far the endpoints are attached, both endpoints, how far each delivery has
+/// come, the list of the deliveries to resume, and the transfers under way.
 #[derive(Drop)]
 pub struct Pair {
     alloc: Global,
@@ -95,7 +97,8 @@ impl Model for Pair {
 }
 
 impl Pair {
-    /// Two endpoints that are not attached, with this count at both and no credit: the link "l" at handle 0.
+    /// Two endpoints that are not attached, both with this delivery-count and no credit: the link "l" at
+    /// handle 0.
     ///
     /// Refused only if it is out of memory.
     pub fn new(alloc: Global, initial_delivery_count: SequenceNo) -> Result<Pair, PairError>
@@ -113,17 +116,18 @@ impl Pair {
         })
     }
 
-    /// Attaches both endpoints, for the first time or after a cut, at a frame limit in bytes (2.6.3): how many
-    /// deliveries are to be resumed. Each delivery that the sender has pending is handed out for that, in the order
-    /// of its map, and no registration is resolved.
+    /// Attaches both endpoints, for the first time or after a cut, at a frame limit in bytes (2.6.3), and
+    /// returns how many deliveries are to be resumed. Each pending delivery of the sender is handed out for
+    /// that, in the order of its unsettled map, and no registration is resolved.
     ///
-    /// Refused in this order, with nothing changed: `AlreadyAttached`; `LimitChanged`, if an earlier call has begun
-    /// at another limit; `LimitTooSmall`, if the limit is under 29, or the attach of an endpoint with all its
-    /// deliveries does not fit a frame. That attach is made to be measured, so `OutOfMemory` may come before this.
-    /// If it is out of memory past the sender's attach, the endpoints stay where they have come to, and the call is
-    /// made again with the same limit.
+    /// Refused in this order, with nothing changed: `AlreadyAttached`; `LimitChanged`, if an earlier call has
+    /// begun at another limit; `LimitTooSmall`, if the limit is under 29, or if the attach of an endpoint
+    /// with all its deliveries does not fit a frame. Those attaches are made to be measured, so `OutOfMemory`
+    /// may come before this last test. If it is out of memory after the sender's attach was sent, the
+    /// endpoints stay in the states that they have reached; the caller calls `attach` again with the same
+    /// limit.
     ///
-    /// Its cost grows with the deliveries that are pending.
+    /// Its cost grows with the number of pending deliveries.
     pub fn attach(&mut self, limit: u32) -> Result<usize, PairError>
         ensures done { IfOk result (λ count. Attaches self.old limit count self.new) }
         ensures listed { OnOk result (keys_of self.new.resuming ≡ keys_of self.old.ledger.link.unsettled) }
@@ -143,7 +147,7 @@ impl Pair {
         Ok(count)
     }
 
-    // Whether no test refuses an attach at a limit.
+    // The tests of an attach at a limit.
     fn may_attach(&self, limit: u32) -> Result<(), PairError>
         ensures refused { AnswersOrOutOfMemory PairError.OutOfMemory result (attach_tests self.now limit) }
         ensures memory { IsErrOf result PairError.OutOfMemory → (is_together self.now.phase ≡ false)
@@ -161,8 +165,9 @@ impl Pair {
         Ok(())
     }
 
-    /// The receiver grants credit for so many deliveries, by a flow that arrives at once: the sender's credit, from
-    /// which those are taken off that were sent since the receiver's count (2.6.7).
+    /// The receiver grants credit for this many deliveries, by a flow that arrives at once (2.6.7). Returns
+    /// the sender's link-credit: the receiver's delivery-count + the granted credit - the sender's
+    /// delivery-count.
     ///
     /// Refused with `NotAttached`, and nothing changed. Does not allocate.
     pub fn grant(&mut self, credit: u32) -> Result<u32, PairError>
@@ -178,15 +183,49 @@ impl Pair {
         Ok(self.ends.grant(credit))
     }
 
-    /// Sends a payload as an unsettled delivery, for one credit: its tag and the number of its transfers.
+    /// Sends a payload as an unsettled delivery, for one credit, and returns its tag and the number of its
+    /// transfers.
     ///
-    /// Refused in this order, with nothing changed: `NotAttached`; `ResumeFirst`, while deliveries are still to be
-    /// resumed; `PayloadTooLong` (2^32 bytes or more); `CreditMissing`; `TagPending`; `OutOfMemory`, which may come
-    /// before `TagPending`, as the tag is made and the delivery is added.
+    /// Refused in this order, with nothing changed: `NotAttached`; `ResumeFirst`, while deliveries are still
+    /// to be resumed; `PayloadTooLong` (2^32 bytes or more); `CreditMissing`; `TagPending`; `OutOfMemory`.
     ///
-    /// Its cost grows with the number of its transfers, and with the deliveries that the sender has pending, whose
-    /// tags are compared.
+    /// Its cost grows with the number of its transfers, and with the number of the sender's pending
+    /// deliveries, whose tags are compared.
     pub fn send(&mut self, payload: &Payload) -> Result<Sent, PairError>
+        ensures done { IfOk result (λ sent. Sends self.old payload.now sent.tag sent.frames self.new) }
+        ensures refused { AnswersThenOutOfMemory PairError.OutOfMemory
+            result (send_tests self.old payload.now) }
+        ensures left { OnErr result (self.new ≡ self.old) }
+        ensures good { Good self.new }
+        ensures kept { IsWorld self.new }
+    {
+        match self.send_next(payload) {
+            Err(PairError::OutOfMemory) => Err(self.pending_or_out_of_memory()),
+            answer => answer,
+        }
+    }
+
+    // Why a send that ran out of memory is refused: with `TagPending` if its tag is pending, which
+    // `send_next` may not have tested, otherwise with `OutOfMemory`.
+    fn pending_or_out_of_memory(&self) -> PairError
+        ensures { result ≡ (if is_some (entry_at self.now.ledger.link.unsettled (tag_of_next self.now.ledger.link))
+            then PairError.TagPending else PairError.OutOfMemory) }
+    {
+        let count = self.ends.ledger.flow_state().delivery_count();
+        if self
+            .ends
+            .ledger
+            .unsettled()
+            .contains_bytes(&count.to_be_bytes())
+        {
+            PairError::TagPending
+        } else {
+            PairError::OutOfMemory
+        }
+    }
+
+    // The same send, except that it may be out of memory before the test of its tag.
+    fn send_next(&mut self, payload: &Payload) -> Result<Sent, PairError>
         ensures done { IfOk result (λ sent. Sends self.old payload.now sent.tag sent.frames self.new) }
         ensures refused { AnswersOrOutOfMemory PairError.OutOfMemory
             result (send_tests self.old payload.now) }
@@ -198,7 +237,7 @@ impl Pair {
     {
         self.may_send(payload)?;
         let tag = next_tag(self.alloc, &self.ends.ledger)?;
-        // Room for all but the sender's entry, which is the last growth.
+        // Room for all but the sender's entry, which is the last allocation.
         self.wire.reserve()?;
         // There is a delivery of the tag exactly if the sender has one pending.
         if !self.deliveries.add(&tag)? {
@@ -216,7 +255,7 @@ impl Pair {
         })
     }
 
-    // Whether no test refuses a send that can be made before the tag is known.
+    // The tests of a send that do not need its tag.
     fn may_send(&self, payload: &Payload) -> Result<(), PairError>
         ensures { AnswersExactly result (before_tag self.now payload.now) }
     {
@@ -235,14 +274,16 @@ impl Pair {
         Ok(())
     }
 
-    /// The next transfer arrives, with this delivery id if it is the first of its delivery in this attachment. Its
-    /// payload is added to what is held, and the receiver reports how much that is.
+    /// The next transfer arrives, with this delivery id if it is the first of its delivery in this
+    /// attachment. Its payload is added to what the receiver holds of the delivery, and the receiver reports
+    /// the position of that. Returns the delivery's tag, that position, and whether the last transfer has
+    /// arrived.
     ///
-    /// Refused in this order, with nothing changed, so that it stays on the wire: `NotAttached`, `WireEmpty`,
-    /// `OutOfMemory`.
+    /// Refused in this order, with nothing changed, so that the transfer stays on the wire: `NotAttached`,
+    /// `WireEmpty`, `OutOfMemory`.
     ///
-    /// Its cost grows with the bytes that are held of the delivery, which are read for their position, and with the
-    /// deliveries that the receiver reports, whose tags are compared.
+    /// Its cost grows with the bytes that are held of the delivery, which are read for their position, and
+    /// with the number of deliveries that the receiver reports, whose tags are compared.
     pub fn arrive(&mut self, id: DeliveryNumber) -> Result<Arrived, PairError>
         ensures done { IfOk result (λ came. Arrives self.old id came.tag
             (came.section_number, came.section_offset) came.whole self.new) }
@@ -261,7 +302,7 @@ impl Pair {
         let (section_number, section_offset, whole) = self
             .deliveries
             .receive(&mut self.ends.receiver, self.alloc, &tag, frame, id)?;
-        // Nothing is refused from here on.
+        // From here on nothing can fail.
         self.wire.drop_first();
         Ok(Arrived {
             tag,
@@ -271,11 +312,12 @@ impl Pair {
         })
     }
 
-    /// Interrupts the link: the sender's detach, which does not close it, is taken and replied to, and what is on
-    /// the wire is lost. What is held, what is registered and what became of each registration stay.
+    /// Interrupts the link: the sender sends a detach that does not close it, the receiver takes it and
+    /// replies, and what is on the wire is lost. What the receiver holds and reports, the sender's unsettled
+    /// map and each fate stay.
     ///
-    /// Refused in this order, with nothing changed: `NotAttached`; `StillHandedOut`, while deliveries are still to be
-    /// resumed. Does not allocate. Its cost grows with what is on the wire.
+    /// Refused in this order, with nothing changed: `NotAttached`; `StillHandedOut`, while deliveries are
+    /// still to be resumed. Does not allocate. Its cost grows with what is on the wire.
     pub fn cut(&mut self) -> Result<(), PairError>
         ensures done { OnOk result (Cuts self.old self.new) }
         ensures refused { AnswersExactly result (cut_tests self.old) }
@@ -294,8 +336,8 @@ impl Pair {
         Ok(())
     }
 
-    /// Sends what the receiver does not hold of the next delivery to resume, and registers its entry, with the whole
-    /// payload, again. Spends no credit.
+    /// Sends those bytes of the next delivery to resume that the receiver does not hold, and registers its
+    /// entry again, with the whole payload. Spends no credit.
     ///
     /// Refused in this order, with nothing changed: `NotAttached`, `NothingToResume`, `OutOfMemory`.
     ///
@@ -337,12 +379,12 @@ impl Pair {
         })
     }
 
-    /// Registers the entry of the next delivery to resume again, and sends nothing: its tag. The next attach hands it
-    /// out once more.
+    /// Registers the entry of the next delivery to resume again without sending it, and returns its tag. The
+    /// next attach hands it out again.
     ///
     /// Refused in this order, with nothing changed: `NotAttached`, `NothingToResume`, `OutOfMemory`.
     ///
-    /// Its cost grows with the deliveries that the sender has pending, whose tags are compared.
+    /// Its cost grows with the number of the sender's pending deliveries, whose tags are compared.
     pub fn put_back_next(&mut self) -> Result<DeliveryTag, PairError>
         ensures done { IfOk result (λ tag. PutsBack self.old tag self.new) }
         ensures refused { AnswersThenOutOfMemory PairError.OutOfMemory result (next_tests self.old) }
@@ -366,15 +408,16 @@ impl Pair {
         Ok(tag)
     }
 
-    /// The receiver hands out a delivery that is whole, with its message, for one credit. What is held of it stays
-    /// until it is settled.
+    /// The receiver hands out a complete delivery, with its message, for one credit. What it holds of the
+    /// delivery stays until the delivery is settled.
     ///
-    /// Refused in this order. With nothing changed: `NotAttached`; `UnknownTag`, if nothing is held of it; `NotWhole`;
-    /// `AlreadyHandedOut`; `TransferLimitExceeded`, if the receiver has no credit; `OutOfMemory`, which comes after all
-    /// of these. With the credit spent: `Decode`, if its message cannot be decoded; it counts as handed out then.
+    /// Refused in this order. With nothing changed: `NotAttached`; `UnknownTag`, if nothing is held of it;
+    /// `NotWhole`; `AlreadyHandedOut`; `TransferLimitExceeded`, if the receiver has no credit; `OutOfMemory`,
+    /// which comes after all of these. With the credit spent: `Decode`, if the message cannot be decoded; the
+    /// delivery counts as handed out then.
     ///
-    /// Its cost grows with the bytes that are held of the delivery, and with the deliveries that the receiver
-    /// reports, whose tags are compared.
+    /// Its cost grows with the bytes that are held of the delivery, and with the number of deliveries that
+    /// the receiver reports, whose tags are compared.
     pub fn hand_out<B: FromBody>(&mut self, tag: &DeliveryTag) -> Result<Delivery<B>, PairError>
         ensures done { IfOk result (λ delivery.
             HandsOutDelivery B.decoded self.old tag.now delivery self.new) }
@@ -392,13 +435,14 @@ impl Pair {
         self.deliveries.hand_out(&mut self.ends.receiver, tag)
     }
 
-    /// Both endpoints settle a delivery as accepted and forget it, and so is what is held of it.
+    /// Both endpoints settle a delivery as accepted: it leaves both unsettled maps, its registration is
+    /// resolved, and what is held of it is dropped.
     ///
-    /// Refused in this order, with nothing changed: `NotAttached`; `UnknownTag`, if nothing is held of it; `NotWhole`;
-    /// `ResumeFirst`, while deliveries are still to be resumed, whichever; `OnWire`, if a transfer of it is under way;
-    /// `OutOfMemory`.
+    /// Refused in this order, with nothing changed: `NotAttached`; `UnknownTag`, if nothing is held of it;
+    /// `NotWhole`; `ResumeFirst`, while any delivery is still to be resumed; `OnWire`, if a transfer of it is
+    /// under way; `OutOfMemory`.
     ///
-    /// Its cost grows with the deliveries that both endpoints keep, whose tags are compared.
+    /// Its cost grows with the number of entries in both unsettled maps, whose tags are compared.
     pub fn settle(&mut self, tag: &DeliveryTag) -> Result<(), PairError>
         ensures done { OnOk result (Settles self.old tag.now self.new) }
         ensures refused { AnswersThenOutOfMemory PairError.OutOfMemory result (settle_tests self.old tag.now) }
@@ -415,7 +459,7 @@ impl Pair {
         Ok(())
     }
 
-    // Whether no test refuses to settle a delivery: its id.
+    // The tests of a settlement, and the delivery's id if none refuses.
     fn may_settle(&self, tag: &DeliveryTag) -> Result<DeliveryNumber, PairError>
         ensures { AnswersExactly result (settle_tests self.now tag.now) }
     {
@@ -443,7 +487,8 @@ impl Pair {
         }
     }
 
-    /// What the receiver holds of a delivery, once its first transfer arrived. At any time; does not allocate.
+    /// What the receiver holds of a delivery: none before its first transfer has arrived. May be called at
+    /// any time. Does not allocate.
     pub fn held(&self, tag: &DeliveryTag) -> Option<&IncompleteTransfer>
         ensures held { option_copied result ≡ held_at self.now tag.now }
         ensures good { Good self.now }
@@ -452,17 +497,21 @@ impl Pair {
         self.deliveries.get(tag)?.progress.held.as_ref()
     }
 
-    /// The sender, with what became of each of its registrations.
+    /// The sender, with the fate of each of its registrations.
     pub fn ledger(&self) -> &OutcomeLedger<Target>
         ensures ledger { result.now ≡ self.now.ledger }
         ensures recorded { IsRecorded self.now.ledger.link.unsettled self.now.ledger.records }
+        ensures good { Good self.now }
+        ensures kept { IsWorld self.now }
     {
         &self.ends.ledger
     }
 
     /// The receiver.
     pub fn receiver(&self) -> &ReceiverLink<Target>
-        ensures { result.now ≡ self.now.receiver }
+        ensures receiver { result.now ≡ self.now.receiver }
+        ensures good { Good self.now }
+        ensures kept { IsWorld self.now }
     {
         &self.ends.receiver
     }

@@ -3,7 +3,7 @@ ghost use Rattle.std.specs.Prelude.{◌≡◌, ◌∷◌, ◌<◌, [], length, d
 ghost use Rattle.amqp_link_worlds.specs.Attachable.{list_in};
 ghost use Rattle.amqp_link_worlds.specs.Resumptions.{entry_of};
 ghost use Rattle.amqp_link_worlds.specs.Steps.{is_empty as has_none};
-ghost use Rattle.amqp_link_pair.specs.Queues.{first_lent, lent_to_resume, next_of};
+ghost use Rattle.amqp_link_pair.specs.Queues.{first_lent, lent_to_resume, resuming_of};
 
 use amqp_link_core::resumption::ResumingDelivery;
 use amqp_link_sender::sender_link::SenderAttachExchange;
@@ -46,7 +46,7 @@ impl Resuming {
         }
     }
 
-    // What an exchange has left. Does not allocate.
+    // The list that an exchange returns. Does not allocate.
     pub(crate) fn of(alloc: Global, exchange: SenderAttachExchange) -> Resuming
         ensures { result.list ≡ list_in exchange }
     {
@@ -79,7 +79,7 @@ impl Resuming {
         Some((tag, next))
     }
 
-    // Takes the next delivery out, so that there is room to put it back.
+    // Removes the next delivery, so that there is room to put it back.
     pub(crate) fn take_first(&mut self) -> (DeliveryTag, ResumingDelivery)
         requires { IsSome (first_lent self.old.list) }
         ensures taken { self.old.list ≡ result ∷ self.new.list }
@@ -100,10 +100,10 @@ impl Resuming {
     }
 }
 
-// A delivery that is resumed or sent again as its entry and, if it is resumed, its rest.
+// Splits a delivery that is resumed or sent again into its entry and, if it is resumed, its rest.
 pub(crate) fn taken_apart(next: ResumingDelivery) -> (UnsettledMessage, Option<Payload>)
     requires { IsSome (entry_of next) }
-    ensures { next_of result.0 result.1 ≡ next }
+    ensures { resuming_of result.0 result.1 ≡ next }
 {
     match next {
         ResumingDelivery::Resend(entry) => (entry, None),
@@ -112,9 +112,9 @@ pub(crate) fn taken_apart(next: ResumingDelivery) -> (UnsettledMessage, Option<P
     }
 }
 
-// The delivery of an entry that is sent again, or resumed with this rest.
+// The delivery with this entry, which is resumed with this rest, or sent again without one.
 pub(crate) fn put_together(entry: UnsettledMessage, rest: Option<Payload>) -> ResumingDelivery
-    ensures { result ≡ next_of entry rest }
+    ensures { result ≡ resuming_of entry rest }
 {
     match rest {
         None => ResumingDelivery::Resend(entry),

@@ -36,7 +36,7 @@ pub(crate) fn next_tag(
     Ok(DeliveryTag::from(count.to_be_bytes().to_vec(alloc)?))
 }
 
-// The sender is out of memory. There is no other reason to refuse a send.
+// The error of a sender that refuses only if it is out of memory.
 fn out_of_memory(error: LinkStateError) -> AllocError
     requires { error ≡ LinkStateError.OutOfMemory }
 {
@@ -44,7 +44,7 @@ fn out_of_memory(error: LinkStateError) -> AllocError
     AllocError
 }
 
-// Sends a payload as an unsettled delivery: its tag and its frames.
+// Sends a payload as an unsettled delivery. Returns its tag and its frames.
 pub(crate) fn send_unsettled(
     ledger: &mut OutcomeLedger<Target>,
     payload: &Payload,
@@ -70,7 +70,8 @@ pub(crate) fn send_unsettled(
     }
 }
 
-// What the next delivery to resume is sent with: all that allocates before the sender is called.
+// The transfer, the rest and the tag with which the next delivery is resumed: all that allocates before the
+// sender is called.
 #[derive(Drop)]
 pub(crate) struct Resumption {
     transfer: Transfer,
@@ -136,7 +137,7 @@ pub(crate) fn resumption_of(
     })
 }
 
-// Sends the rest of a delivery, and registers its entry: the frames. Hands the delivery back if it is out of
+// Sends the rest of a delivery, and registers its entry. Returns the frames, or the delivery if it is out of
 // memory, with nothing changed.
 pub(crate) fn resume(
     ledger: &mut OutcomeLedger<Target>,
@@ -166,7 +167,7 @@ pub(crate) fn resume(
     handed_back(sent, kept_rest)
 }
 
-// Registers the entry of a delivery without sending it. Hands the delivery back if it is out of memory, with
+// Registers the entry of a delivery without sending it. Returns the delivery if it is out of memory, with
 // nothing changed.
 pub(crate) fn put_back(
     ledger: &mut OutcomeLedger<Target>,
@@ -184,7 +185,7 @@ pub(crate) fn put_back(
     handed_back(ledger.put_back(tag, entry), kept_rest)
 }
 
-// A refused delivery is put together again from the entry that comes back.
+// Makes the delivery again from the entry that a refused call returns.
 fn handed_back<A: Drop>(
     answer: Result<A, (LinkStateError, UnsettledMessage)>,
     rest: Option<Payload>,

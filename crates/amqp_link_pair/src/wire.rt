@@ -63,7 +63,7 @@ impl Wire {
         Some((&batch.tag, frame))
     }
 
-    // Takes the next transfer off.
+    // Removes the next transfer.
     pub(crate) fn drop_first(&mut self)
         ensures { self.new.transfers ≡ drop 1 self.old.transfers }
     {
@@ -84,7 +84,7 @@ impl Wire {
         self.batches.reserve(1)
     }
 
-    // Puts the frames of a delivery at the end, where there is room.
+    // Adds the frames of a delivery at the end. There has to be room.
     pub(crate) fn push(&mut self, tag: DeliveryTag, frames: Vec<LinkFrame>)
         requires room { 0 < self.old.room }
         requires some { 0 < length frames.items }
@@ -96,7 +96,7 @@ impl Wire {
         });
     }
 
-    // Loses all that is on its way.
+    // Drops all transfers.
     pub(crate) fn clear(&mut self)
         ensures { self.new.transfers ≡ [] }
     {

@@ -1,4 +1,4 @@
--- The pieces in which a payload comes.
+-- The pieces into which a payload is cut.
 use Rattle.std.specs.Prelude.{ℕ, List, length, nat_lt, count_by}
 
 -- how many pieces hold bytes

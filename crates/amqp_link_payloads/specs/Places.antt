@@ -1,4 +1,4 @@
--- A place by what a search for it has found.
+-- A place, from what a search for it has found.
 use Rattle.std.specs.Prelude.{ℕ, List, ◌+◌, ◌&&◌, not, nat_le, slice_get, drop, option_map, Option, Some, None, if◌then◌else◌}
 use Rattle.amqp_link_payloads.specs.Header.{header_len}
 use Rattle.amqp_link_payloads.specs.Position.{starts}
@@ -7,7 +7,7 @@ use Rattle.amqp_link_payloads.specs.Position.{starts}
 abbrev pub header_end : List ℕ → ℕ → Option ℕ
 header_end P s = option_map (λ start. start + header_len (drop start P)) (slice_get (starts P) s)
 
--- the place at offset o from a start, within n bytes and short of the next header's end
+-- the place at offset o from a start, if it is within n bytes and before the end of the next header
 abbrev pub place_by : Option ℕ → Option ℕ → ℕ → ℕ → Option ℕ
 place_by None end n o = None
 place_by (Some start) None n o = if nat_le (start + o) n then Some (start + o) else None

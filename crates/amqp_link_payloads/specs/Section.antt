@@ -1,11 +1,10 @@
--- A data section as it is written (OASIS AMQP 1.0 core, 3.2.6): a descriptor, then a binary value
--- (1.6.19).
+-- An encoded data section (OASIS AMQP 1.0 core, 3.2.6): a descriptor, then a binary value (1.6.19).
 use Rattle.std.specs.Prelude.{◌≡◌, ℕ, ◌<◌, ◌^◌, List, [], ◌∷◌, ◌++◌, length, drop, Option, Some, None, ◌&&◌, nat_lt, if◌then◌else◌}
 use Rattle.std.specs.Int.{w8, w32, w64, to_be_bytes}
 use Rattle.std.specs.Option.{option_or}
 use Rattle.std.specs.Str.{bytes_eq}
 
--- a number is written in one byte, or in four or eight
+-- a number is encoded in one byte, or in four or eight
 pub data Form : Type 0 where
   Short : Form
   Long : Form
@@ -20,7 +19,7 @@ abbrev pub binary : Form → List ℕ → List ℕ
 binary Short contents = 0xA0 ∷ to_be_bytes w8 (length contents) ++ contents
 binary Long contents = 0xB0 ∷ to_be_bytes w32 (length contents) ++ contents
 
--- the first length that a form cannot state
+-- the first length that a form cannot encode
 abbrev pub limit : Form → ℕ
 limit Short = 2 ^ 8
 limit Long = 2 ^ 32
@@ -42,13 +41,13 @@ pub record IsDataSection (bytes contents : List ℕ) : Type 0 where
   pub written : bytes ≡ descriptor d ++ value
   pub is_value : IsBinary value contents
 
--- what stands after as many bytes as an empty section has, where writing it gives the bytes again
+-- the bytes after as many as an empty section has, if encoding them gives the bytes again
 abbrev pub contents_in : Form → Form → List ℕ → Option (List ℕ)
 contents_in d l bytes =
     let rest = drop (length (section d l [])) bytes in
     if bytes_eq bytes (section d l rest) && nat_lt (length rest) (limit l) then Some rest else None
 
--- the contents of the data section that the bytes are, if they are exactly one
+-- the contents of the data section, if the bytes are exactly one
 unfoldable pub contents_of : List ℕ → Option (List ℕ)
 contents_of bytes =
     option_or (contents_in Short Short bytes)

@@ -1,19 +1,19 @@
-//! Why bytes are not read as a message.
+//! Why bytes cannot be decoded as a message.
 ghost use Rattle.std.specs.Prelude.{◌≡◌};
 
 use std::alloc::{AllocError, AllocFailed};
 use thiserror::Error;
 
-/// Why the bytes of a delivery were not read as a message. Nothing was made of them.
+/// Why the bytes of a delivery could not be decoded as a message. Nothing was made of them.
 #[derive(Clone, Copy, Debug, PartialEq, Eq, Error)]
 pub enum DecodeError {
-    /// The bytes are not exactly one data section (3.2.6). The sender's doing.
+    /// The bytes are not exactly one data section (3.2.6). The sender's fault.
     #[error("the bytes are not exactly one data section")]
     NotOneDataSection,
-    /// A body that stands in another crate refuses the bytes, for a reason of its own.
+    /// A body type of another crate refuses the bytes, for a reason of its own.
     #[error("the body refuses the bytes")]
     Refused,
-    /// There was no memory.
+    /// Out of memory.
     #[error("out of memory")]
     OutOfMemory,
 }

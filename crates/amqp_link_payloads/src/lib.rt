@@ -1,5 +1,5 @@
-//! What the bytes of a delivery say by themselves: positions and places of sections, and the message
-//! that they are read as (OASIS AMQP 1.0 core, 3.2 and 3.4.1).
+//! What follows from the bytes of a delivery alone: the positions and places of sections, and the message
+//! that the bytes are decoded as (OASIS AMQP 1.0 core, 3.2 and 3.4.1).
 #![tactic(auto)]
 
 pub mod error;

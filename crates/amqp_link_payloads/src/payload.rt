@@ -4,10 +4,10 @@ ghost use Rattle.std.specs.List.{concat};
 
 use bytes::Bytes;
 
-/// The bytes of a delivery, or of one of its transfers. Its cuts and copies share the buffer.
+/// The bytes of a delivery, or of one of its transfers. Parts and copies of it share its buffer.
 pub type Payload = Bytes;
 
-// The length of the joined pieces, where a `u64` holds it.
+// The length of the joined pieces, if a u64 holds it.
 pub(crate) fn joined_len(pieces: &[Payload]) -> Option<u64>
     ensures { SomeIff result (length (concat pieces.now) < 2 ^ 64) (length (concat pieces.now)) }
 {

@@ -1,9 +1,9 @@
 //! Positions in the bytes of a delivery (3.4.1).
 //!
-//! A position is the number of the last section start and the distance from it. A start is the
-//! first byte, and each later one at which a section header stands whole, also where the same
-//! bytes stand inside a section's data. How the bytes are cut into pieces makes no difference.
-//! Each front of a payload has a position of its own, and the place of that position is its end.
+//! A position is the number of the last section start and the distance from it. A start is the first byte,
+//! and each later byte at which a whole section header stands, also if the same bytes stand inside a
+//! section's data. How the bytes are cut into pieces makes no difference. Each front of a payload has a
+//! position of its own, and the place of that position is the end of the front.
 ghost use Rattle.std.specs.Prelude.{◌≡◌, ◌+◌, ◌^◌, ◌<◌, ◌≤◌, [], ◌∷◌, ◌++◌};
 ghost use Rattle.std.specs.Prelude.{ℕ, List, None, length, IfSome, SomeIff};
 ghost use Rattle.std.specs.List.{concat};
@@ -17,7 +17,7 @@ use crate::payload::{Payload, joined_len};
 use crate::position::header::Tail;
 use crate::position::places::Seek;
 
-// What a scan keeps of the bytes that it has seen.
+// What a scan keeps of the bytes that it has read.
 #[derive(Clone, Copy)]
 struct Scan {
     // the starts past the first byte, while a `u32` holds their number
@@ -38,9 +38,9 @@ impl Scan {
         }
     }
 
-    // A header that ends in this byte is a start, unless it begins with the first byte of all: it
-    // alone is longer than the distance before the byte, since headers never overlap. A distance
-    // that passed its type is small again at the next start, so the scan goes on.
+    // A header that ends in this byte is a start, unless it begins with the very first byte: only then is it
+    // longer than the distance before the byte, since headers never overlap. A distance that is too large for
+    // its type is small again at the next start, so the scan continues.
     fn feed(&mut self, byte: u8)
         ensures { (F : List ℕ) → HasSeen self.old F → HasSeen self.new (F ++ byte ∷ []) }
     {
@@ -61,7 +61,7 @@ impl Scan {
         }
     }
 
-    // The position of the end of what was seen.
+    // The position of the end of the bytes that were read.
     fn end(self) -> Option<(u32, u64)>
         ensures { (F : List ℕ) → HasSeen self F → let at = position F
             in SomeIff result ((at.0 < 2 ^ 32) × (at.1 < 2 ^ 64)) at }
@@ -83,8 +83,8 @@ fn next_distance(distance: Option<u64>) -> Option<u64>
     distance?.checked_add(1)
 }
 
-/// The position of the end of the joined pieces: the section's number, counted from 0, and the
-/// bytes since its start. None where one of them passes its type. Takes no memory.
+/// The position of the end of the joined pieces: the section's number, counted from 0, and the bytes since
+/// its start. None if one of the two is too large for its type. Does not allocate.
 pub fn position_of(pieces: &[Payload]) -> Option<(u32, u64)>
     ensures { let at = position (concat pieces.now)
         in SomeIff result ((at.0 < 2 ^ 32) × (at.1 < 2 ^ 64)) at }
@@ -96,9 +96,9 @@ pub fn position_of(pieces: &[Payload]) -> Option<(u32, u64)>
     Some((scan.number?, scan.distance?))
 }
 
-/// The place in the payload of this offset in the section of this number: as many bytes stand before
-/// it. None where there is no such section, where the place is past the payload's end, or where it
-/// is at or past the end of the next section's header. Reads all bytes, and takes no memory.
+/// The place in the payload of this offset in the section of this number: how many bytes are before it. None
+/// if there is no such section, if the place is past the payload's end, or if it is at or past the end of the
+/// next section's header. Reads all bytes, and does not allocate.
 pub fn place_of(payload: &Payload, section_number: u32, section_offset: u64) -> Option<usize>
     ensures place { result ≡ place payload.now section_number section_offset }
     ensures within { IfSome result (λ place. place ≤ length payload.now) }
@@ -108,9 +108,9 @@ pub fn place_of(payload: &Payload, section_number: u32, section_offset: u64) -> 
     Some(seek.place(section_offset)? as usize)
 }
 
-/// The place in the joined pieces of this offset in the section of this number, as [`place_of`]
-/// tells it of one payload. None also where the length of the joined pieces passes `u64`. Reads all
-/// bytes, and does not allocate.
+/// The place in the joined pieces of this offset in the section of this number, as [`place_of`] returns it
+/// for one payload. None also if a u64 does not hold the length of the joined pieces. Reads all bytes, and
+/// does not allocate.
 pub fn place_in(pieces: &[Payload], section_number: u32, section_offset: u64) -> Option<u64>
     ensures place { length (concat pieces.now) < 2 ^ 64
         → result ≡ place (concat pieces.now) section_number section_offset }
@@ -125,8 +125,8 @@ pub fn place_in(pieces: &[Payload], section_number: u32, section_offset: u64) ->
     seek.place(section_offset)
 }
 
-/// The position of the end of the joined pieces and one more after them, as [`position_of`] tells it.
-/// Takes no memory.
+/// The position of the end of the joined pieces and one more after them, as [`position_of`] returns it. Does
+/// not allocate.
 pub fn position_with(pieces: &[Payload], next: &Payload) -> Option<(u32, u64)>
     ensures { let at = position (concat pieces.now ++ next.now)
         in SomeIff result ((at.0 < 2 ^ 32) × (at.1 < 2 ^ 64)) at }

@@ -9,7 +9,7 @@ use Rattle.amqp_link_types.specs.declared.types.terminus.TargetArchetype.{Target
 use Rattle.amqp_link_state.specs.declared.state.LinkState.{LinkState}
 use Rattle.amqp_link_core.specs.AttachFields.{next_of}
 use Rattle.amqp_link_core.specs.AttachTests.{Tests, refused_if, first_of, first_refusal}
-use Rattle.amqp_link_receiver.specs.ReceiverAttaches.{receiver_came, receiver_sourced, receiver_source_refusal, receiver_target_refusal, receiver_refusal, source_verdict, is_listing}
+use Rattle.amqp_link_receiver.specs.ReceiverAttaches.{receiver_came, receiver_sourced, receiver_source_refusal, receiver_target_refusal, receiver_refusal, receiver_source_verdict, is_listing}
 use Rattle.amqp_link_receiver.specs.Receivers.{Receiver}
 
 module _ {T : Type 0} (admitted : TargetArchetype → Option T) (refused : T → T → Option ReceiverAttachError) (r : Receiver T) (attach : Attach) where
@@ -18,7 +18,7 @@ module _ {T : Type 0} (admitted : TargetArchetype → Option T) (refused : T →
   rest = (receiver_target_refusal admitted refused r attach.initial_delivery_count attach.target, receiver_sourced r attach) ∷ []
 
   refused_first : (next : LinkState) (source : Source) (names : List (List ℕ))
-      → next_of r.local_state attach ≡ Some next → attach.source ≡ Some source → source_verdict r source ≡ Some (DesiredFilterNotSupported names)
+      → next_of r.local_state attach ≡ Some next → attach.source ≡ Some source → receiver_source_verdict r source ≡ Some (DesiredFilterNotSupported names)
       → receiver_refusal admitted refused r attach ≡ Some (DesiredFilterNotSupported names)
   refused_first next source names moves there verdict =
       ap (λ o. first_refusal ((refused_if (is_none o) IllegalState, r) ∷ (receiver_source_refusal r attach.source, receiver_came r attach) ∷ rest)) moves
@@ -27,7 +27,7 @@ module _ {T : Type 0} (admitted : TargetArchetype → Option T) (refused : T →
 
   -- its error carries a list
   pub refused_by_list : (next : LinkState) (source : Source) (names : List (List ℕ))
-      → next_of r.local_state attach ≡ Some next → attach.source ≡ Some source → source_verdict r source ≡ Some (DesiredFilterNotSupported names)
+      → next_of r.local_state attach ≡ Some next → attach.source ≡ Some source → receiver_source_verdict r source ≡ Some (DesiredFilterNotSupported names)
       → IfSome (receiver_refusal admitted refused r attach) (λ error. is_listing error ≡ true)
   refused_by_list next source names moves there verdict =
       subst (λ o. IfSome o (λ error. is_listing error ≡ true)) (sym (refused_first next source names moves there verdict)) refl

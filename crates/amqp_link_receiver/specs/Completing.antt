@@ -1,4 +1,4 @@
--- What the last transfer of a delivery makes of a receiver, and what is answered (OASIS AMQP 1.0
+-- The last transfer of a delivery at a receiver: what it returns, and the receiver afterwards (OASIS AMQP 1.0
 -- core, 2.6.7, 2.6.12 and 2.7.5).
 use Rattle.std.specs.Prelude.{◌≡◌, ℕ, ◌==◌, Bool, true, false, not, ◌&&◌, List, [], ◌∷◌, if◌then◌else◌}
 use Rattle.std.specs.Prelude.{Option, Some, None, is_none, unwrap_or, Result, Ok, Err}
@@ -14,6 +14,7 @@ use Rattle.amqp_link_types.specs.declared.types.errors.ReceiverTransferError.The
 use Rattle.amqp_link_payloads.specs.declared.message.Message.{Message}
 use Rattle.amqp_link_types.specs.declared.types.transfer.Transfer.{Transfer}
 use Rattle.amqp_link_state.specs.Counts.{after_consuming}
+use Rattle.amqp_link_core.specs.AttachTests.{first_of}
 use Rattle.amqp_link_types.specs.Deliveries.{Info, Delivered}
 use Rattle.amqp_link_types.specs.Entries.{Tag}
 use Rattle.amqp_link_types.specs.Refusals.{refusal}
@@ -26,16 +27,16 @@ may_receive Attached = true
 may_receive IncompleteAttachExchanged = true
 may_receive _ = false
 
--- the receiver is asked to settle second on a link whose receiver settles first
+-- the transfer asks for mode second on a link of mode first
 abbrev pub is_illegal_mode : ReceiverSettleMode → Option ReceiverSettleMode → Bool
 is_illegal_mode First (Some Second) = true
 is_illegal_mode _ _ = false
 
--- an unsettled delivery asks for a mode that the link does not have
+-- an unsettled transfer asks for a settle mode that the link does not have
 abbrev pub asks_for_another_mode : {T : Type 0} → Receiver T → Transfer → Bool
 asks_for_another_mode r t = not (is_settled t) && is_illegal_mode r.rcv_settle_mode t.rcv_settle_mode
 
--- which delivery it is; a settled one has no mode
+-- the info of the delivery; a settled one has no mode
 abbrev pub info_of : Transfer → Info
 info_of t = record {
   delivery_id = unwrap_or t.delivery_id 0;
@@ -43,36 +44,36 @@ info_of t = record {
   rcv_settle_mode = if is_settled t then None else t.rcv_settle_mode;
 }
 
--- the tag under which the delivery is kept as unsettled, if it is
+-- the tag under which the delivery gets an entry in the unsettled map: none if it is settled
 abbrev pub unsettled_tag : Transfer → Option Tag
 unsettled_tag t = if is_settled t then None else t.delivery_tag
 
--- ---- how the link is left
+-- ---- the receiver afterwards
 
 module _ {T : Type 0} where
   -- one credit is spent
   abbrev pub spent : Receiver T → Receiver T
   spent r = record r { flow_state = after_consuming 1 r.flow_state }
 
-  -- of the delivery with this tag, where there is one, the place is kept up to which it came
+  -- the entry of the delivery with this tag, if there is a tag, states what has arrived up to this position
   abbrev pub reported : Option Tag → ℕ → ℕ → Receiver T → Receiver T
   reported None number offset r = r
   reported (Some tag) number offset r = with_kept_state tag (Received number offset) r
 
-  -- one credit is spent, and the place of an unsettled delivery is kept
+  -- one credit is spent, and an unsettled delivery has its entry
   abbrev pub entered : Transfer → ℕ → ℕ → Receiver T → Receiver T
   entered t number offset r = spent (reported (unsettled_tag t) number offset r)
 
--- ---- what is answered
+-- ---- the result
 
--- what the link itself has against a delivery
+-- why the link refuses any delivery
 abbrev pub link_refusal : {T : Type 0} → Receiver T → Option ReceiverTransferError
 link_refusal r = refusal (
     (not (may_receive r.local_state), error.IllegalState)
     ∷ (r.flow_state.link_credit == 0, error.TransferLimitExceeded)
     ∷ [])
 
--- what is wrong with the transfer
+-- why it refuses this transfer
 abbrev pub transfer_refusal : {T : Type 0} → Receiver T → Transfer → Option ReceiverTransferError
 transfer_refusal r t = refusal (
     (is_none t.delivery_id, error.DeliveryIdIsNone)
@@ -80,26 +81,20 @@ transfer_refusal r t = refusal (
     ∷ (asks_for_another_mode r t, error.IllegalRcvSettleModeInTransfer)
     ∷ [])
 
--- the first line that stands
-abbrev pub first_of : {X : Type 0} → List (Option X) → Option X
-first_of [] = None
-first_of (Some x ∷ lines) = Some x
-first_of (None ∷ lines) = first_of lines
-
--- a refusal, with the link that it leaves
+-- a refusal, with the receiver that it leaves
 abbrev pub leaving : {T : Type 0} → Receiver T → Option ReceiverTransferError
     → Option (ReceiverTransferError × Receiver T)
 leaving r refused = option_map (λ error. (error, r)) refused
 
 module _ {B : Type 0} where
-  -- why the delivery is not given: its bytes are not read, or there is no handle to give it at
+  -- why the delivery is not returned: its bytes are not decoded, or there is no output handle
   abbrev pub delivery_refusal : {T : Type 0} → Receiver T → Transfer → Result (Message B) DecodeError
       → Option ReceiverTransferError
   delivery_refusal r t (Err source) =
       Some (error.MessageDecode (record { source = source; info = info_of t }))
   delivery_refusal r t (Ok message) = if is_none r.output_handle then Some error.IllegalState else None
 
-  -- why it is refused, out of memory aside, with the link that the refusal leaves
+  -- why the transfer is refused, out of memory aside, with the receiver that the refusal leaves
   abbrev pub completion_refusal : {T : Type 0} → Receiver T → Transfer → ℕ → ℕ
       → Result (Message B) DecodeError → Option (ReceiverTransferError × Receiver T)
   completion_refusal r t number offset decoded = first_of (

@@ -1,5 +1,4 @@
--- The attach that a receiver's end sends, and the one that comes to it (OASIS AMQP 1.0 core, 2.6.3 and
--- 2.7.3).
+-- The attach that a receiver sends, and the one that it takes (OASIS AMQP 1.0 core, 2.6.3 and 2.7.3).
 use Rattle.std.specs.Prelude.{◌≡◌, ℕ, ◌&&◌, ◌||◌, Bool, true, false, [], ◌∷◌, Option, Some, None, is_some, is_none, option_map, unwrap_or, if◌then◌else◌, refl}
 use Rattle.amqp_link_state.specs.declared.state.LinkState.{LinkState}
 use Rattle.amqp_link_state.specs.declared.state.LinkState.TheVariants.{IncompleteAttachSent, IncompleteAttachReceived, IncompleteAttachExchanged}
@@ -26,7 +25,7 @@ abbrev pub has_entries : States → Bool
 has_entries [] = false
 has_entries (entry ∷ entries) = true
 
--- what follows in this state, if the sender has stated a delivery or not
+-- what follows in this state, by whether the sender's attach states an unsettled delivery
 abbrev pub receiver_exchange_in : LinkState → Bool → ReceiverAttachExchange
 receiver_exchange_in state false = exchange.Complete
 receiver_exchange_in IncompleteAttachSent true = exchange.IncompleteUnsettled
@@ -35,9 +34,9 @@ receiver_exchange_in IncompleteAttachExchanged true = exchange.IncompleteUnsettl
 receiver_exchange_in _ true = exchange.Resume
 
 -- whether an error is that of a call that is out of memory
-abbrev pub is_out_of_memory : ReceiverAttachError → Bool
-is_out_of_memory error.OutOfMemory = true
-is_out_of_memory _ = false
+abbrev pub is_receiver_out_of_memory : ReceiverAttachError → Bool
+is_receiver_out_of_memory error.OutOfMemory = true
+is_receiver_out_of_memory _ = false
 
 -- whether an error carries a list, for which there may be no memory
 abbrev pub is_listing : ReceiverAttachError → Bool
@@ -49,7 +48,7 @@ is_refused_by_list None = false
 is_refused_by_list (Some error) = is_listing error
 
 module _ {T : Type 0} where
-  -- what a receiver shows, if its target is sent so
+  -- what a receiver shows; the first parameter is how its target is sent
   abbrev pub receiver_shown : (T → TargetArchetype) → Receiver T → Shown (Entries (Option DeliveryState))
   receiver_shown sent_as r = record {
     role = role.Receiver;
@@ -70,9 +69,9 @@ module _ {T : Type 0} where
     ended = [];
   }
 
-  -- ---- the attach that comes
+  -- ---- the attach that arrives
 
-  -- it has moved the state, the peer's handle is known, and no delivery is under way, if there is a
+  -- the receiver with the state moved, the input handle set and no delivery under way, if there is a
   -- transition
   abbrev pub receiver_came : Receiver T → Attach → Receiver T
   receiver_came r attach = record r {
@@ -81,12 +80,12 @@ module _ {T : Type 0} where
     more = if is_some (next_of r.local_state attach) then false else r.more;
   }
 
-  -- and its source and the sender's mode are taken
+  -- and with the source and the sender's settle mode taken
   abbrev pub receiver_sourced : Receiver T → Attach → Receiver T
   receiver_sourced r attach =
       record (receiver_came r attach) { source = attach.source; snd_settle_mode = attach.snd_settle_mode }
 
-  -- and all the rest: the receiver counts from where the sender begins
+  -- and with all the rest taken: both delivery-counts are the sender's initial one
   abbrev pub receiver_taken : Receiver T → Attach → Receiver T
   receiver_taken r attach = record (receiver_sourced r attach) {
     max_message_size = smaller_limit r.max_message_size attach.max_message_size;
@@ -97,19 +96,19 @@ module _ {T : Type 0} where
     };
   }
 
-  -- why the peer's source is refused by its verification
-  abbrev pub source_verdict : Receiver T → Source → Option ReceiverAttachError
-  source_verdict r theirs = verified r.verify_incoming_source receiver_refuses_source r.source (Some theirs)
+  -- why the verification of the peer's source refuses it
+  abbrev pub receiver_source_verdict : Receiver T → Source → Option ReceiverAttachError
+  receiver_source_verdict r theirs = verified r.verify_incoming_source receiver_refuses_source r.source (Some theirs)
 
-  -- the tests of its source, in order
+  -- the tests of the attach's source, in order
   abbrev pub receiver_source_refusal : Receiver T → Option Source → Option ReceiverAttachError
   receiver_source_refusal r source = first_of (
       refused_if (is_none source) error.IncomingSourceIsNone
       ∷ verified r.verify_incoming_source receiver_refuses_source r.source source
       ∷ [])
 
-  -- The tests of its count and its target, in order. The first parameters say what a target is taken as, and why a
-  -- target of the peer's is refused beside an own one.
+  -- The tests of the attach's count and target, in order. The first two parameters are how a target is taken,
+  -- and why the peer's target is refused beside the own one.
   abbrev pub receiver_target_refusal : (TargetArchetype → Option T) → (T → T → Option ReceiverAttachError) → Receiver T → Option ℕ → Option TargetArchetype → Option ReceiverAttachError
   receiver_target_refusal admitted refused r count target = first_of (
       refused_if (is_none count) error.InitialDeliveryCountIsNone
@@ -117,7 +116,7 @@ module _ {T : Type 0} where
       ∷ verified r.verify_incoming_target refused r.target (target_of admitted target)
       ∷ [])
 
-  -- all its tests, in order, each with what its refusal leaves
+  -- all tests of the attach, in order, each with the receiver that its refusal leaves
   abbrev pub receiver_tests : (TargetArchetype → Option T) → (T → T → Option ReceiverAttachError) → Receiver T → Attach → Tests ReceiverAttachError (Receiver T)
   receiver_tests admitted refused r attach =
       (refused_if (is_none (next_of r.local_state attach)) error.IllegalState, r)
@@ -125,25 +124,26 @@ module _ {T : Type 0} where
       ∷ (receiver_target_refusal admitted refused r attach.initial_delivery_count attach.target, receiver_sourced r attach)
       ∷ []
 
-  -- why it is refused, and what stays of it then
+  -- why the attach is refused, and the receiver that the refusal leaves
   abbrev pub receiver_refusal : (TargetArchetype → Option T) → (T → T → Option ReceiverAttachError) → Receiver T → Attach → Option ReceiverAttachError
   receiver_refusal admitted refused r attach = first_refusal (receiver_tests admitted refused r attach)
 
   abbrev pub receiver_left : (TargetArchetype → Option T) → (T → T → Option ReceiverAttachError) → ReceiverAttachError → Receiver T → Attach → Receiver T
-  receiver_left admitted refused error r attach = left_after (is_out_of_memory error) r (receiver_tests admitted refused r attach)
+  receiver_left admitted refused error r attach = left_after (is_receiver_out_of_memory error) r (receiver_tests admitted refused r attach)
 
-  -- Whether taking it allocates: properties of both endpoints are put together, or a refusal names filters.
-  abbrev pub does_taking_allocate : (TargetArchetype → Option T) → (T → T → Option ReceiverAttachError) → Receiver T → Attach → Bool
-  does_taking_allocate admitted refused r attach =
+  -- Whether taking the attach allocates: there are properties of both endpoints to merge, or missing filters
+  -- to list.
+  abbrev pub receiver_taking_allocates : (TargetArchetype → Option T) → (T → T → Option ReceiverAttachError) → Receiver T → Attach → Bool
+  receiver_taking_allocates admitted refused r attach =
       is_refused_by_list (receiver_refusal admitted refused r attach) || (is_some r.flow_state.properties && is_some attach.properties)
 
   -- ---- what a receiver shows then
 
-  -- a refusal changes nothing but its terms
-  abbrev pub KeepsShown : (T → TargetArchetype) → Receiver T → Receiver T → Type 0
-  KeepsShown sent_as r left = receiver_shown sent_as left ≡ with_terms_of (receiver_shown sent_as r) (receiver_shown sent_as left)
+  -- of what a receiver shows, a refusal changes only the state, the settle modes and the termini
+  abbrev pub ReceiverKeepsShown : (T → TargetArchetype) → Receiver T → Receiver T → Type 0
+  ReceiverKeepsShown sent_as r left = receiver_shown sent_as left ≡ with_terms_of (receiver_shown sent_as r) (receiver_shown sent_as left)
 
   pub receiver_shown_after_refusal : (sent_as : T → TargetArchetype) (admitted : TargetArchetype → Option T) (refused : T → T → Option ReceiverAttachError)
-      (e : ReceiverAttachError) (r : Receiver T) (attach : Attach) → KeepsShown sent_as r (receiver_left admitted refused e r attach)
+      (e : ReceiverAttachError) (r : Receiver T) (attach : Attach) → ReceiverKeepsShown sent_as r (receiver_left admitted refused e r attach)
   receiver_shown_after_refusal sent_as admitted refused e r attach =
-      left_after_is (KeepsShown sent_as r) (is_out_of_memory e) r (receiver_tests admitted refused r attach) refl (refl, (refl, (refl, tt)))
+      left_after_is (ReceiverKeepsShown sent_as r) (is_receiver_out_of_memory e) r (receiver_tests admitted refused r attach) refl (refl, (refl, (refl, tt)))

@@ -25,10 +25,10 @@ pub record Receiver (T : Type 0) : Type 0 where
   pub input_handle : Option InputHandle
   pub flow_state : LinkFlowStateInner
   pub max_frame_size : ℕ
-  -- whether the termini that come are to be verified
+  -- whether the termini of the peer's attach are to be verified
   pub verify_incoming_source : Bool
   pub verify_incoming_target : Bool
-  -- the state of each delivery that is not settled, where one is known
+  -- the entries of the unsettled deliveries: the state of each, if one is known
   pub unsettled : Entries (Option DeliveryState)
-  -- whether the last transfer that came said that more of its delivery follow
+  -- whether the last transfer that arrived had more = true
   pub more : Bool

@@ -1,4 +1,4 @@
-//! The receiver's end of a link of AMQP 1.0 (OASIS AMQP 1.0 core, 2.6).
+//! The receiver's endpoint of a link of AMQP 1.0 (OASIS AMQP 1.0 core, 2.6).
 #![tactic(auto)]
 
 pub mod receiver_link;

@@ -1,4 +1,4 @@
-//! The receiver's end of a link (2.6).
+//! The receiver of a link (2.6).
 ghost use Rattle.std.specs.Prelude.{◌≡◌, [], None, Some, false};
 
 mod attach;
@@ -24,10 +24,33 @@ pub use attach::ReceiverAttachExchange;
 use std::alloc::Global;
 use std::marker::Model;
 
-/// The receiver's end of a link.
+/// The receiver of a link.
 ///
-/// A contract sees its state, name, modes, termini, limits, capabilities, handles, flow state, the list
-/// of its unsettled deliveries, and whether more of a delivery is to come.
+/// Its calls by kind, in the order in which a session needs them, and what each asks its caller to do next:
+///
+/// - **Build**: `new`, then `with_output_handle` with the handle that the session gives; `set_max_frame_size`
+///   as soon as the peer's limit is known.
+/// - **Attach**: `send_attach` makes the attach to send, `on_incoming_attach` takes the peer's, in either order.
+///   It returns `Resume` if the sender resumes deliveries that this receiver holds in part, and
+///   `IncompleteUnsettled` if an attach did not state all of them: the sender resumes those that were stated;
+///   then detach and attach again. If the attach is refused, `handle_attach_error` makes the detach to send.
+/// - **Grant credit**: `send_flow` sets the link-credit and makes the flow to send. `on_incoming_flow` takes the
+///   sender's, and returns the flow to send back, if there is one.
+/// - **Take in**: `on_incoming_transfer` takes a transfer from the session and returns the frame for the
+///   link's user. The user keeps an `IncompleteTransfer` while `more` is set, and reports the position of
+///   what it holds by `on_incomplete_transfer`; with the last transfer `on_complete_transfer` returns the
+///   delivery and spends a credit. `on_transfer_state` takes the state that a transfer carries.
+///   `on_incoming_disposition` takes the sender's disposition, and returns nothing to send.
+/// - **Settle**: `dispose` and `dispose_all` make the dispositions to send.
+/// - **Detach**: `on_incoming_detach` returns the detach to reply with; call `apply_remote_detach_outcome`
+///   afterwards, which moves the state. `send_detach` makes a detach to send, `on_detach_reply` takes the
+///   peer's reply. To attach again, set the handle that the session gives by `output_handle_mut`, and call
+///   `send_attach`.
+/// - **Look**: `local_state`, `name`, `flow_state`, `unsettled`, `output_handle`, `input_handle`, the modes,
+///   `max_message_size`, `properties`, and `complete_attach_fits`, which measures an attach.
+///
+/// A contract sees its state, name, modes, termini, limits, capabilities, handles, flow state, the list of
+/// its unsettled deliveries, and whether the last transfer that arrived had `more` set.
 #[derive(Drop)]
 pub struct ReceiverLink<T: LinkTarget> {
     alloc: Global,
@@ -83,10 +106,11 @@ impl<T: LinkTarget> Model for ReceiverLink<T> {
 impl<T: LinkTarget> ReceiverLink<T> {
     ghost use Rattle.amqp_link_state.specs.declared.state.LinkState.TheVariants.{Unattached};
 
-    /// A link that is not attached, without handles and unsettled deliveries. Takes no memory.
+    /// A link that is not attached, without handles and unsettled deliveries. Does not allocate.
     ///
-    /// The limit of its frames counts a frame's header of four bytes and its body. A peer's limit that
-    /// counts four bytes of size in front as well is handed in less these four.
+    /// The frame limit counts the frame's header of four bytes and its body, and not the four bytes of the
+    /// frame's size in front of them. If the peer's limit counts those as well, the caller passes that limit
+    /// less 4.
     pub fn new(alloc: Global, parts: LinkParts<T>) -> ReceiverLink<T>
         ensures { result ≡ record {
           local_state = Unattached;
@@ -138,8 +162,9 @@ impl<T: LinkTarget> ReceiverLink<T> {
         self
     }
 
-    /// Sets the greatest size of a frame in bytes: its header of four bytes and its body. A peer's
-    /// limit that counts four bytes of size in front as well is handed in less these four.
+    /// Sets the largest size of a frame in bytes: its header of four bytes and its body, without the four
+    /// bytes of the frame's size in front of them. If the peer's limit counts those as well, the caller
+    /// passes that limit less 4.
     pub fn set_max_frame_size(&mut self, max_frame_size: u32)
         ensures { self.new ≡ record self.old { max_frame_size = max_frame_size } }
     {

@@ -4,9 +4,9 @@ use crate::samples::{attach_of, coming, fields, parts};
 use crate::transfers::{begins_next, transfer_arrives};
 use amqp_link_core::endpoint::{LinkAttach, LinkExt};
 use amqp_link_receiver::{ReceiverAttachExchange, ReceiverLink, get_max_message_size};
-use amqp_link_samples::nowhere::parts_to_nowhere;
-use amqp_link_samples::refusals::{Refusal, at_receiver};
 use amqp_link_state::state::LinkState;
+use amqp_link_tests_support::nowhere::parts_to_nowhere;
+use amqp_link_tests_support::refusals::{Refusal, at_receiver};
 use amqp_link_types::types::{
     Attach, Handle, InputHandle, OutputHandle, ReceiverAttachError, ReceiverSettleMode, Role,
     SenderSettleMode, Target,
@@ -31,7 +31,7 @@ fn smaller_limit_of_a_message_stands(rt: HostRuntime) {
     }
 }
 
-// A property that comes becomes the link's.
+// A property of the peer's attach becomes the link's.
 #[test]
 fn properties_that_come_are_taken(rt: HostRuntime) {
     let mut link = ReceiverLink::new(rt.alloc(), parts(&rt, SenderSettleMode::Mixed, 512));
@@ -54,7 +54,7 @@ fn unfinished_exchanges_are_errors(rt: HostRuntime) {
     assert_eq!(rt; incomplete.complete_or(7u8), Err(7));
 }
 
-// The link "l" of mode second with output handle 0, led to this state at count 0. More transfers of a
+// The link "l" of mode second with output handle 0, brought to this state at count 0. More transfers of a
 // delivery are to arrive.
 fn link_in(rt: &(impl Abort + AllocGlobal), state: LinkState) -> ReceiverLink<Target> {
     let mut parts = parts(rt, SenderSettleMode::Mixed, 512);

@@ -291,7 +291,7 @@ fn refused_body_costs_the_credit_and_is_kept(rt: HostRuntime) {
     assert_eq!(rt; unread(&rt), (Some((3, 1, why)), left));
 }
 
-// What a refused transfer is told, by its name.
+// The name of the error of a refused transfer.
 #[derive(Clone, Copy, Debug, PartialEq, Eq)]
 enum Told {
     Given,

@@ -2,8 +2,8 @@
 use crate::samples::{fields, parts};
 use amqp_link_core::endpoint::LinkExt;
 use amqp_link_receiver::ReceiverLink;
-use amqp_link_samples::links::{FlowTold, told, told_back};
 use amqp_link_state::state::LinkFlowStateInner;
+use amqp_link_tests_support::links::{FlowTold, told, told_back};
 use amqp_link_types::frame::LinkFrame;
 use amqp_link_types::types::{
     FlowError, LinkFlow, LinkRelayError, OutputHandle, SenderSettleMode, Target,
@@ -36,7 +36,7 @@ fn named(
     unnamed(rt, delivery_count, available).with_output_handle(OutputHandle(7))
 }
 
-// How a link that asks for no answer stands; a receiver does not say what is available.
+// The flow of a link with these fields; a receiver leaves `available` out.
 fn stated(count: u32, credit: u32, drain: bool, echo: bool) -> FlowTold {
     FlowTold {
         handle: 7,
@@ -55,7 +55,7 @@ fn flow_in(frame: &LinkFrame) -> Option<&LinkFlow> {
     }
 }
 
-// What a flow that goes out tells, where it goes.
+// The fields of the flow that was sent, if one was.
 fn told_by(sent: &Result<LinkFrame, FlowError>) -> Result<Option<FlowTold>, FlowError> {
     match sent {
         Ok(frame) => Ok(flow_in(frame).and_then(told)),
@@ -75,7 +75,7 @@ fn sent_by(
     told
 }
 
-// What goes back for a flow of the sender, and the flow that the receiver sends then.
+// The reply to a flow of the sender, and the flow that the receiver sends then.
 fn back_and_out(
     rt: &(impl Abort + AllocGlobal),
 ) -> (
@@ -107,8 +107,8 @@ fn sender_tells_its_count_and_what_waits(rt: HostRuntime) {
     assert_eq!(rt; out, Ok(Some(stated(7, 4, false, true))));
 }
 
-// What goes back, and the count, the credit and the drain flag of a link at this count, after a flow
-// with this count and credit that asks for no answer.
+// The reply to a flow with this count and credit that asks for no echo, and the count, the credit and the
+// drain flag afterwards, of a link at this count.
 fn left_by(
     rt: &(impl Abort + AllocGlobal),
     own: u32,
@@ -130,11 +130,11 @@ fn left_by(
     (told, count, credit, drain)
 }
 
-// The counts beside which a difference changes its sign.
+// The counts at which a difference changes its sign.
 const EDGES: [u32; 4] = [0, (1 << 31) - 1, 1 << 31, u32::MAX];
 
-// Whether a flow with this count and credit leaves a link at this count with its own credit and drain
-// flag, and with the flow's count where it says one.
+// Whether a flow with this count and credit leaves a link at this count with its own credit and drain flag,
+// and with the flow's count if it has one.
 fn keeps_its_credit(
     rt: &(impl Abort + AllocGlobal),
     own: u32,
@@ -161,7 +161,7 @@ fn credit_is_the_receivers_own(rt: HostRuntime) {
     }
 }
 
-// What goes out as the credit is set and the drain flag with it, then neither, then the flag alone.
+// The flows that are sent as the credit and the drain flag are set, then neither, then the flag alone.
 fn sent_in_turn(
     rt: &(impl Abort + AllocGlobal),
     count: u32,
@@ -190,7 +190,7 @@ fn what_is_given_is_set_and_stated(rt: HostRuntime) {
     }
 }
 
-// Whether a flow goes out as this one.
+// Whether the flow that was sent is this one.
 fn is_sent(sent: &Result<LinkFrame, FlowError>, wanted: &LinkFlow) -> bool {
     match sent {
         Ok(frame) => flow_in(frame) == Some(wanted),
@@ -198,7 +198,7 @@ fn is_sent(sent: &Result<LinkFrame, FlowError>, wanted: &LinkFlow) -> bool {
     }
 }
 
-// Whether a flow goes out with the link's properties.
+// Whether the flow that is sent has the link's properties.
 fn sends_properties(rt: &(impl Abort + AllocGlobal)) -> bool {
     let mut link = named(rt, 5, 6);
     let wanted = LinkFlow {
@@ -222,7 +222,7 @@ fn properties_go_out_where_they_are_asked_for(rt: HostRuntime) {
     assert!(rt; sends_properties(&rt));
 }
 
-// What goes out and back without output handle, and the count and the credit then.
+// The flow that is sent and the reply to one without output handle, and the count and the credit then.
 fn without_handle(
     rt: &(impl Abort + AllocGlobal),
 ) -> (

@@ -1,4 +1,4 @@
-//! What a receiver keeps of deliveries that come in part.
+//! The entries of a receiver for deliveries that arrive in parts.
 use crate::samples::{count_tag, parts};
 use amqp_link_core::endpoint::LinkExt;
 use amqp_link_receiver::ReceiverLink;
@@ -12,7 +12,7 @@ fn link_in(rt: &(impl Abort + AllocGlobal)) -> ReceiverLink<Target> {
     ReceiverLink::new(rt.alloc(), parts(rt, SenderSettleMode::Mixed, 512))
 }
 
-// The place that is kept of a delivery.
+// The position in the entry of a delivery.
 fn place_at(link: &ReceiverLink<Target>, tag: &DeliveryTag) -> Option<(u32, u64)> {
     match link.unsettled().get(tag) {
         Some(
@@ -36,8 +36,8 @@ fn state_without_tag_is_refused(rt: HostRuntime) {
     drop(link);
 }
 
-// Two fronts of a delivery come: whether each is taken, and what is kept after it; and how many
-// deliveries are kept in the end.
+// Two fronts of a delivery arrive: whether each is taken, and the position in the entry after it; and how
+// many entries there are in the end.
 fn fronts_kept(rt: &(impl Abort + AllocGlobal)) -> ([(bool, Option<(u32, u64)>); 2], usize) {
     let mut link = link_in(rt);
     let tag = count_tag(rt, 1);
@@ -56,7 +56,7 @@ fn place_of_a_front_is_kept(rt: HostRuntime) {
     assert_eq!(rt; fronts_kept(&rt), (kept, 1));
 }
 
-// What is kept of a delivery.
+// The entry of a delivery.
 #[derive(Clone, Copy, Debug, PartialEq, Eq)]
 enum Kept {
     Nothing,
@@ -85,7 +85,7 @@ fn kept_of(link: &ReceiverLink<Target>, tag: &DeliveryTag) -> Kept {
     }
 }
 
-// The state that is kept, if one is named here.
+// The state of an entry, if it has one of these.
 fn state_of(kept: Kept) -> Option<DeliveryState> {
     match kept {
         Kept::Accepted => Some(DeliveryState::Accepted),
@@ -98,7 +98,7 @@ fn state_of(kept: Kept) -> Option<DeliveryState> {
     }
 }
 
-// A link that keeps this of a delivery: the sender's disposition sets the state of a place that has arrived.
+// A link with this entry of a delivery: the sender's disposition sets the state after a position has arrived.
 fn keeping(rt: &(impl Abort + AllocGlobal), tag: &DeliveryTag, kept: Kept) -> ReceiverLink<Target> {
     let mut link = link_in(rt);
     if kept != Kept::Nothing {
@@ -109,7 +109,7 @@ fn keeping(rt: &(impl Abort + AllocGlobal), tag: &DeliveryTag, kept: Kept) -> Re
     link
 }
 
-// Whether a transfer's state is taken with this settled flag, and what is kept of the delivery then.
+// Whether a transfer's state is taken with this settled flag, and the entry of the delivery then.
 fn kept_after(
     rt: &(impl Abort + AllocGlobal),
     before: Kept,

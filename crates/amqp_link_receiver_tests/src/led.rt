@@ -1,13 +1,13 @@
-//! A receiver's end that is led to each of its states by the calls that are public.
+//! A receiver that is brought to each of its states by public calls.
 use crate::samples::{coming, count_tag};
 use amqp_link_core::endpoint::{LinkAttach, LinkDetach, LinkExt};
 use amqp_link_receiver::ReceiverLink;
-use amqp_link_samples::table::detach;
 use amqp_link_state::state::LinkState;
+use amqp_link_tests_support::table::detach;
 use amqp_link_types::types::{Role, Target};
 use std::process::Abort;
 
-// The sender's attach at this count, with a map that is whole or not, comes.
+// The sender's attach at this count arrives, marked as incomplete or not.
 fn attach_comes(
     rt: &(impl Abort + AllocGlobal),
     link: &mut ReceiverLink<Target>,
@@ -19,7 +19,7 @@ fn attach_comes(
     drop(link.on_incoming_attach(attach));
 }
 
-// Leads a link that is not attached to where it is, but for a detach.
+// Brings a link that is not attached to this state, or to the one from which a detach leads to it.
 fn attach_up_to(
     rt: &(impl Abort + AllocGlobal),
     link: &mut ReceiverLink<Target>,
@@ -47,9 +47,9 @@ fn attach_up_to(
     }
 }
 
-// Leads a link that is not attached to this state, by a sender's attach with this count. It has no
-// output handle after a detach; before an incomplete attach a delivery is entered, and its frames get
-// a limit of 31 bytes.
+// Brings a link that is not attached to this state, by a sender's attach with this count. It has no output
+// handle after a detach; before an incomplete attach a delivery is entered, and the frame limit is set to 31
+// bytes.
 pub(crate) fn lead_to(
     rt: &(impl Abort + AllocGlobal),
     link: &mut ReceiverLink<Target>,

@@ -1,16 +1,16 @@
-//! A receiver's end in each of its states: the rows of the standard's table (2.6.3 to 2.6.6), and what
-//! its attaches say.
+//! A receiver in each of its states: the rows of the standard's table (2.6.3 to 2.6.6), and the attaches that
+//! it sends.
 use crate::attaching::taken_by;
 use crate::led::lead_to;
 use crate::samples::{coming, count_tag, parts};
 use amqp_link_core::endpoint::{LinkAttach, LinkDetach, LinkExt};
 use amqp_link_receiver::{ReceiverAttachExchange, ReceiverLink};
-use amqp_link_samples::refusals::Refusal;
-use amqp_link_samples::table::{
+use amqp_link_state::state::LinkState;
+use amqp_link_tests_support::refusals::Refusal;
+use amqp_link_tests_support::table::{
     Call, STATES, answered, attached, detach, is_illegal, is_illegal_outcome, left, let_go, taken,
     wanted,
 };
-use amqp_link_state::state::LinkState;
 use amqp_link_types::delivery::Outcomes;
 use amqp_link_types::frame::LinkFrame;
 use amqp_link_types::types::{
@@ -19,8 +19,8 @@ use amqp_link_types::types::{
 use amqp_link_values::length::EncodedLen;
 use std::process::Abort;
 
-// The link "l" with output handle 0, led to this state at count 0. A delivery is unsettled, which an
-// attach names only where the limit is more than 30.
+// The link "l" with output handle 0, brought to this state at count 0. A delivery is unsettled, which an
+// attach states only if the limit is more than 30.
 fn link_in(rt: &(impl Abort + AllocGlobal), state: LinkState, limit: u32) -> ReceiverLink<Target> {
     let link = ReceiverLink::new(rt.alloc(), parts(rt, SenderSettleMode::Mixed, 512));
     let mut link = link.with_output_handle(OutputHandle(0));
@@ -128,8 +128,7 @@ fn detaches_of_the_other_end(rt: HostRuntime) {
     }
 }
 
-// Whether these are refused for the state, by its name: a detach without output handle, and a
-// closing reply to it.
+// Whether a detach without output handle, and then a closing reply, are refused with `IllegalState`.
 fn refused_without_handle(rt: &(impl Abort + AllocGlobal)) -> (bool, bool) {
     let mut link = link_in(rt, LinkState::Attached, 512);
     *link.output_handle_mut() = None;
@@ -139,7 +138,7 @@ fn refused_without_handle(rt: &(impl Abort + AllocGlobal)) -> (bool, bool) {
     (sent, replied)
 }
 
-// So of a detach of the other end on a link that was never attached.
+// The same of a detach that the peer initiates on a link that was never attached.
 fn refused_unattached(rt: &(impl Abort + AllocGlobal)) -> bool {
     let mut link = link_in(rt, LinkState::Unattached, 512);
     let left = is_illegal_outcome(link.apply_remote_detach_outcome(detach(false)));
@@ -175,7 +174,7 @@ fn attach_that_fits_no_frame_is_refused(rt: HostRuntime) {
     assert!(rt; is_too_large, "no entry fits");
 }
 
-// What follows where the sender names a delivery, in full or not.
+// What follows if the sender states a delivery, in a complete map or an incomplete one.
 fn exchanged(
     rt: &(impl Abort + AllocGlobal),
     state: LinkState,
@@ -220,7 +219,7 @@ fn named_deliveries_are_resumed(rt: HostRuntime) {
     }
 }
 
-// What an attach says: its length, and whether it has a map.
+// The length of an attach, and whether it has a map.
 fn said_by(frame: &LinkFrame) -> Option<(Option<u64>, bool)> {
     match frame {
         LinkFrame::Attach(attach) => Some((attach.encoded_len(), attach.unsettled.is_some())),
@@ -245,7 +244,7 @@ fn said_in(
     said
 }
 
-// What a detached link says, and how many deliveries are left.
+// The attach of a detached link, and how many deliveries are left.
 fn said_after_a_detach(
     rt: &(impl Abort + AllocGlobal),
     is_reattaching: bool,
@@ -257,8 +256,8 @@ fn said_after_a_detach(
     (said, left)
 }
 
-// The map takes three bytes in place of one, and its entry fourteen: six of the tag, eight of the state.
-// A link that attaches anew keeps none.
+// The map takes three bytes in place of one, and its entry fourteen: six of the tag, eight of the state. A
+// link that is reattached keeps none.
 #[test]
 fn reattach_forgets_what_was_unsettled(rt: HostRuntime) {
     assert_eq!(rt;

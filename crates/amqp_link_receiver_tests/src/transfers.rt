@@ -1,4 +1,4 @@
-//! What the transfers that arrive at a receiver tell the session.
+//! The results of the transfers that arrive at a receiver, for the session.
 use crate::samples::{count_tag, parts, payload_of};
 use amqp_link_receiver::ReceiverLink;
 use amqp_link_types::frame::LinkFrame;
@@ -8,7 +8,7 @@ use amqp_link_types::types::{
 };
 use std::process::Abort;
 
-// What the session is told by a call: the frame, and the number and the tag of the delivery that it begins.
+// The result of the call: the frame, and the id and the tag of the delivery that the transfer begins.
 type Came = Result<(LinkFrame, Option<(DeliveryNumber, DeliveryTag)>), LinkRelayError>;
 
 // An unsettled transfer of delivery 9 with tag 9 at handle 6, and more of it to arrive or not.
@@ -26,7 +26,7 @@ fn has_name(came: &Came) -> bool {
     matches!(came, Ok((_, Some(_))))
 }
 
-// Whether this transfer names a delivery to the session.
+// Whether the call returns the id and the tag of this transfer.
 pub(crate) fn transfer_arrives(
     rt: &(impl Abort + AllocGlobal),
     link: &mut ReceiverLink<Target>,
@@ -73,7 +73,7 @@ fn frame_told(frame: &LinkFrame) -> Option<(u32, u32, usize)> {
     }
 }
 
-// What a transfer tells: its frame, and the number and the last byte of the tag for the session.
+// The result of a transfer: its frame, and the id and the last byte of the tag for the session.
 #[derive(Clone, Copy, Debug, PartialEq, Eq)]
 struct Told {
     frame: Option<(u32, u32, usize)>,
@@ -113,7 +113,7 @@ fn transfer_of(
     transfer
 }
 
-// What a transfer with this flag, number and tag tells, and whether the one after it begins a delivery of a
+// The result of a transfer with this flag, id and tag, and whether the one after it begins a delivery of a
 // link of mode second. More of the delivery are to arrive or not, before it and after it.
 fn named_after(
     rt: &(impl Abort + AllocGlobal),

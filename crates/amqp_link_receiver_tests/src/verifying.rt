@@ -3,9 +3,9 @@ use crate::attaching::taken_by;
 use crate::samples::{attach_of, fields, parts};
 use amqp_link_core::endpoint::{LinkAttach, LinkExt};
 use amqp_link_receiver::{ReceiverAttachExchange, ReceiverLink};
-use amqp_link_samples::links::text;
-use amqp_link_samples::refusals::{Asked, Refusal, asked_by, at_receiver};
 use amqp_link_state::state::LinkState;
+use amqp_link_tests_support::links::text;
+use amqp_link_tests_support::refusals::{Asked, Refusal, asked_by, at_receiver};
 use amqp_link_types::types::{
     Attach, Fields, FilterSet, OutputHandle, ReceiverAttachError, Role, SenderSettleMode, Source,
     Symbol, Target, TargetArchetype, Value,
@@ -29,7 +29,7 @@ fn filters(rt: &(impl Abort + AllocGlobal), names: &[&str], null: Option<&str>) 
     filters
 }
 
-// Whether exactly these filters are told as missing, in this order.
+// Whether exactly these filters are returned as missing, in this order.
 fn are_missing(answer: &Result<(), FilterError>, names: &[&str]) -> bool {
     match answer {
         Err(FilterError::DesiredFilterNotSupported(missing)) => {
@@ -44,7 +44,7 @@ fn are_missing(answer: &Result<(), FilterError>, names: &[&str]) -> bool {
     }
 }
 
-// The names that are absent or null come in the order in which they were asked for.
+// The names that are absent or null are returned in the order in which they were asked for.
 #[test]
 fn missing_filters_are_named_in_order(rt: HostRuntime) {
     let desired = Some(filters(&rt, &["d", "b", "c", "a"], None));

@@ -10,20 +10,20 @@ Neighbours R [] = Unit {0}
 Neighbours R (a ∷ []) = Unit {0}
 Neighbours R (a ∷ b ∷ more) = R a b × Neighbours R (b ∷ more)
 
--- from the first to the last, both among them
+-- the ids from the first to the last, both included
 abbrev pub written_out : Run → List ℕ
 written_out run = range_with_len run.first (run.last + 1 - run.first)
 
--- the next does not go on where the run ends
+-- the second run does not begin with the number after the first run's last
 abbrev pub Apart : Run → Run → Type 0
 Apart run next = next.first ≢ run.last + 1
 
--- The runs written out are the ids in order, and no two neighbours could be one.
+-- The runs written out are the ids in order, and no two neighbours could be joined.
 pub record AreRuns (ids : List ℕ) (runs : List Run) : Type 0 where
   pub not_empty : AllByRecursion (λ run. run.first ≤ run.last) runs
   pub all : flat_map written_out runs ≡ ids
   pub longest : Neighbours Apart runs
 
--- the same of ids in any order: they are sorted, each as often as it is given
+-- the same of ids in any order: they are sorted first, each as often as it is listed
 abbrev pub Runs : List ℕ → List Run → Type 0
 Runs ids runs = AreRuns (sorted_by (λ id. id) ids) runs

@@ -6,9 +6,9 @@ ghost use Rattle.std.specs.List.Sorted.{IsSortedByKey, IsStableByKey, IsPermutat
 ghost use Rattle.std.specs.Ordering.{nat_cmp};
 ghost use Rattle.amqp_link_runs.specs.Order.{sorted_by};
 
-/// The list by rising numbers, whatever each element's number is, is in the library's words sorted, a
-/// permutation of the list, and stable: elements of one number stand in it as they were listed. It is
-/// the only such list.
+/// The list sorted by the numbers of its elements is, by the library's definitions, sorted, a permutation of
+/// the list, and stable: elements of one number stay in the order in which they were listed. It is the only
+/// such list.
 pub fn sorted_is_sorted_stably<T>()
     ensures sorted { (id_of : T → ℕ) (xs : List T) → IsSortedByKey id_of nat_cmp (sorted_by id_of xs) }
     ensures permutation { (id_of : T → ℕ) (xs : List T) → IsPermutation xs (sorted_by id_of xs) }

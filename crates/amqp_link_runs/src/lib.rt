@@ -9,7 +9,7 @@ pub mod laws;
 
 use std::alloc::{AllocError, Global};
 
-/// Delivery ids from a first to a last one, both among them.
+/// Delivery ids from a first to a last one, both included.
 #[derive(Clone, Copy, Debug, PartialEq, Eq)]
 pub struct Run {
     /// The first id.
@@ -18,8 +18,8 @@ pub struct Run {
     pub last: u32,
 }
 
-/// Sorts pairs by their ids; those of one id stay in the order in which they are listed. An id is
-/// compared as a number here, and does not wrap.
+/// Sorts pairs by their ids; those of one id stay in the order in which they are listed. Ids are compared as
+/// plain numbers, which do not wrap.
 ///
 /// Refused, with nothing changed, only if it is out of memory; up to 20 pairs allocate nothing.
 pub fn sort_by_id<T>(pairs: &mut Vec<(u32, T)>) -> Result<(), AllocError>
@@ -30,7 +30,7 @@ pub fn sort_by_id<T>(pairs: &mut Vec<(u32, T)>) -> Result<(), AllocError>
     pairs.sort_by_key(|pair| pair.0)
 }
 
-// The run after one more id: the current one, longer, or one that begins with it.
+// The run after one more id: the current one, extended, or a new one that begins with the id.
 fn next_run(runs: &mut Vec<Run>, current: Run, id: u32) -> Result<Run, AllocError>
     ensures { IfOk result (λ next. (ids : List ℕ) → AreRuns ids (runs.old.items ++ current ∷ [])
         → AreRuns (ids ++ id ∷ []) (runs.new.items ++ next ∷ [])) }
@@ -48,8 +48,8 @@ fn next_run(runs: &mut Vec<Run>, current: Run, id: u32) -> Result<Run, AllocErro
     })
 }
 
-/// The longest runs of these ids, in the order in which they are listed: a run goes on only from one
-/// id to the next number. Equal ids stand in runs of their own. May take memory.
+/// The longest runs of these ids, in the order in which they are listed: a run is extended only by the next
+/// number. Equal ids are in runs of their own. May allocate.
 pub fn runs_of(alloc: Global, ids: &[u32]) -> Result<Vec<Run>, AllocError>
     ensures { IfOk result (λ runs. AreRuns ids.now runs.items) }
 {

@@ -1,5 +1,4 @@
--- The attach that a sender's end sends, and the one that comes to it (OASIS AMQP 1.0 core, 2.6.3 and
--- 2.7.3).
+-- The attach that a sender sends, and the one that it takes (OASIS AMQP 1.0 core, 2.6.3 and 2.7.3).
 use Rattle.std.specs.Prelude.{◌≡◌, ℕ, Bool, true, false, List, [], ◌∷◌, ◌==◌, ◌&&◌, ◌||◌, not, length, map, Option, Some, is_some, is_none, option_map, unwrap_or, if◌then◌else◌, Err, refl}
 use Rattle.std.specs.Option.{option_or}
 use Rattle.amqp_link_types.specs.declared.delivery.UnsettledMessage.{UnsettledMessage}
@@ -31,7 +30,7 @@ use Rattle.amqp_link_sender.specs.declared.sender_link.incoming.SenderAttachExch
 use Rattle.amqp_link_sender.specs.Senders.{Sender}
 use Rattle.amqp_link_verification.specs.Termini.{sender_refuses_source}
 
--- what becomes of each delivery as the link is attached anew
+-- the outcomes of the deliveries if the link is reattached
 abbrev pub all_illegal : Entries UnsettledMessage → List Ended
 all_illegal entries = map (λ entry. (entry.0, Err link_error.IllegalState)) entries
 
@@ -52,18 +51,18 @@ exchange_in state own remote =
     if is_nothing own remote then exchange.Complete else resumption_in state (deliveries_to_resume own remote)
 
 -- whether an error is that of a call that is out of memory
-abbrev pub is_out_of_memory : SenderAttachError → Bool
-is_out_of_memory error.OutOfMemory = true
-is_out_of_memory _ = false
+abbrev pub is_sender_out_of_memory : SenderAttachError → Bool
+is_sender_out_of_memory error.OutOfMemory = true
+is_sender_out_of_memory _ = false
 
--- whether one end settles what the other leaves unsettled
+-- whether one endpoint settles what the other leaves unsettled
 abbrev pub disagree : SenderSettleMode → SenderSettleMode → Bool
 disagree mode.Settled mode.Unsettled = true
 disagree mode.Unsettled mode.Settled = true
 disagree _ _ = false
 
 module _ {T : Type 0} where
-  -- what a sender shows, if its target is sent so
+  -- what a sender shows; the first parameter is how its target is sent
   abbrev pub sender_shown : (T → TargetArchetype) → Sender T → Shown (Entries UnsettledMessage)
   sender_shown sent_as s = record {
     role = role.Sender;
@@ -97,23 +96,23 @@ module _ {T : Type 0} where
     flow_state = record s.flow_state { initial_delivery_count = sent_count s };
   }
 
-  -- ---- the attach that comes
+  -- ---- the attach that arrives
 
-  -- it has moved the state, and the peer's handle is known, if there is a transition
+  -- the sender with the state moved and the input handle set, if there is a transition
   abbrev pub sender_came : Sender T → Attach → Sender T
   sender_came s attach = record s {
     local_state = unwrap_or (next_of s.local_state attach) s.local_state;
     input_handle = if is_some (next_of s.local_state attach) then Some (record { 0 = attach.handle.0 }) else s.input_handle;
   }
 
-  -- and its target and the receiver's mode are taken
+  -- and with the target and the receiver's settle mode taken
   abbrev pub sender_targeted : (TargetArchetype → Option T) → Sender T → Attach → Sender T
   sender_targeted admitted s attach = record (sender_came s attach) {
     target = target_of admitted attach.target;
     rcv_settle_mode = attach.rcv_settle_mode;
   }
 
-  -- and all the rest; the exchange leaves no unsettled delivery
+  -- and with all the rest taken; the exchange leaves no unsettled delivery
   abbrev pub sender_taken : (TargetArchetype → Option T) → Sender T → Attach → Sender T
   sender_taken admitted s attach = record (sender_targeted admitted s attach) {
     max_message_size = smaller_limit s.max_message_size attach.max_message_size;
@@ -132,21 +131,21 @@ module _ {T : Type 0} where
     pub nothing : plan.is_nothing ≡ is_nothing s.unsettled (remote_entries attach)
     pub exchange : IsPlanOf plan.exchange s.unsettled (remote_entries attach)
 
-  -- why the peer's source is refused by its verification
-  abbrev pub source_verdict : Sender T → Option Source → Option SenderAttachError
-  source_verdict s theirs = verified s.verify_incoming_source (λ own theirs. sender_refuses_source theirs) s.source theirs
+  -- why the verification of the peer's source refuses it
+  abbrev pub sender_source_verdict : Sender T → Option Source → Option SenderAttachError
+  sender_source_verdict s theirs = verified s.verify_incoming_source (λ own theirs. sender_refuses_source theirs) s.source theirs
 
-  -- The tests of its termini, in order. The first parameters say what a target is taken as, and why a target of
-  -- the peer's is refused beside an own one.
+  -- The tests of the attach's termini, in order. The first two parameters are how a target is taken, and why
+  -- the peer's target is refused beside the own one.
   abbrev pub sender_termini_refusal : (TargetArchetype → Option T) → (T → T → Option SenderAttachError) → Sender T → Option Source → Option TargetArchetype → Option SenderAttachError
   sender_termini_refusal admitted refused s source target = first_of (
-      source_verdict s source
+      sender_source_verdict s source
       ∷ refused_if (is_foreign admitted target) error.CoordinatorIsNotImplemented
       ∷ refused_if (is_none target) error.IncomingTargetIsNone
       ∷ verified s.verify_incoming_target refused s.target (target_of admitted target)
       ∷ [])
 
-  -- all its tests, in order, each with what its refusal leaves
+  -- all tests of the attach, in order, each with the sender that its refusal leaves
   abbrev pub sender_tests : (TargetArchetype → Option T) → (T → T → Option SenderAttachError) → Sender T → Attach → Tests SenderAttachError (Sender T)
   sender_tests admitted refused s attach =
       (refused_if (is_none (next_of s.local_state attach)) error.IllegalState, s)
@@ -154,30 +153,30 @@ module _ {T : Type 0} where
       ∷ (refused_if (disagree s.snd_settle_mode attach.snd_settle_mode) error.SndSettleModeNotSupported, sender_targeted admitted s attach)
       ∷ []
 
-  -- why it is refused, and what stays of it then
+  -- why the attach is refused, and the sender that the refusal leaves
   abbrev pub sender_refusal : (TargetArchetype → Option T) → (T → T → Option SenderAttachError) → Sender T → Attach → Option SenderAttachError
   sender_refusal admitted refused s attach = first_refusal (sender_tests admitted refused s attach)
 
   abbrev pub sender_left : (TargetArchetype → Option T) → (T → T → Option SenderAttachError) → SenderAttachError → Sender T → Attach → Sender T
-  sender_left admitted refused error s attach = left_after (is_out_of_memory error) s (sender_tests admitted refused s attach)
+  sender_left admitted refused error s attach = left_after (is_sender_out_of_memory error) s (sender_tests admitted refused s attach)
 
-  -- Whether taking it allocates: there are unsettled deliveries to exchange, or properties of both endpoints to
-  -- be put together.
-  abbrev pub does_taking_allocate : Sender T → Attach → Bool
-  does_taking_allocate s attach =
+  -- Whether taking the attach allocates: there are unsettled deliveries to exchange, or properties of both
+  -- endpoints to merge.
+  abbrev pub sender_taking_allocates : Sender T → Attach → Bool
+  sender_taking_allocates s attach =
       not (is_nothing s.unsettled (remote_entries attach)) || (is_some s.flow_state.properties && is_some attach.properties)
 
   -- ---- what a sender shows then
 
-  -- the target that it takes, as it is sent
+  -- the target that the sender takes, as it is sent
   abbrev pub sender_target_taken : (T → TargetArchetype) → (TargetArchetype → Option T) → Attach → Option TargetArchetype
   sender_target_taken sent_as admitted attach = option_map sent_as (target_of admitted attach.target)
 
-  -- a refusal changes nothing but its terms
-  abbrev pub KeepsShown : (T → TargetArchetype) → Sender T → Sender T → Type 0
-  KeepsShown sent_as s left = sender_shown sent_as left ≡ with_terms_of (sender_shown sent_as s) (sender_shown sent_as left)
+  -- of what a sender shows, a refusal changes only the state, the settle modes and the termini
+  abbrev pub SenderKeepsShown : (T → TargetArchetype) → Sender T → Sender T → Type 0
+  SenderKeepsShown sent_as s left = sender_shown sent_as left ≡ with_terms_of (sender_shown sent_as s) (sender_shown sent_as left)
 
   pub sender_shown_after_refusal : (sent_as : T → TargetArchetype) (admitted : TargetArchetype → Option T) (refused : T → T → Option SenderAttachError)
-      (e : SenderAttachError) (s : Sender T) (attach : Attach) → KeepsShown sent_as s (sender_left admitted refused e s attach)
+      (e : SenderAttachError) (s : Sender T) (attach : Attach) → SenderKeepsShown sent_as s (sender_left admitted refused e s attach)
   sender_shown_after_refusal sent_as admitted refused e s attach =
-      left_after_is (KeepsShown sent_as s) (is_out_of_memory e) s (sender_tests admitted refused s attach) refl (refl, (refl, (refl, tt)))
+      left_after_is (SenderKeepsShown sent_as s) (is_sender_out_of_memory e) s (sender_tests admitted refused s attach) refl (refl, (refl, (refl, tt)))

@@ -43,23 +43,23 @@ pub record Sender (T : Type 0) : Type 0 where
   pub input_handle : Option InputHandle
   pub flow_state : LinkFlowStateInner
   pub max_frame_size : ℕ
-  -- whether the termini that come are to be verified
+  -- whether the termini of the peer's attach are to be verified
   pub verify_incoming_source : Bool
   pub verify_incoming_target : Bool
   pub unsettled : Entries UnsettledMessage
 
 -- ---- settling
 
--- whether a link in this mode settles what does not say for itself
+-- whether a link in this mode settles a transfer that has no settled flag
 abbrev pub settles : SenderSettleMode → Bool
 settles mode.Settled = true
 settles _ = false
 
--- whether a transfer goes out settled: its own flag, or else the link's mode
+-- whether a transfer is sent settled: by its own flag, otherwise by the link's mode
 abbrev pub settled_on_send : {T : Type 0} → Sender T → Transfer → Bool
 settled_on_send s t = unwrap_or t.settled (settles s.snd_settle_mode)
 
--- the settled flag of a new delivery, where its user gives this one
+-- the settled flag of a new delivery, if its user passes this one
 abbrev pub settled_by_mode : SenderSettleMode → Option Bool → Bool
 settled_by_mode mode.Settled given = true
 settled_by_mode mode.Unsettled given = false
@@ -67,14 +67,14 @@ settled_by_mode mode.Mixed given = unwrap_or given false
 
 -- ---- a new delivery
 
--- what its user says of it, beside its payload
+-- what its user passes, beside its payload
 pub record Delivery : Type 0 where
   pub message_format : ℕ
   pub settled : Option Bool
   pub state : Option DeliveryState
   pub batchable : Bool
 
--- a delivery of which this is said
+-- a delivery with these fields
 abbrev pub delivery_of : ℕ → Option Bool → Option DeliveryState → Bool → Delivery
 delivery_of format settled state batchable =
     record { message_format = format; settled = settled; state = state; batchable = batchable }
@@ -109,15 +109,14 @@ untagged s handle d =
 abbrev pub resuming_transfer : {T : Type 0} → Sender T → OutputHandle → Tag → Delivery → Transfer
 resuming_transfer s handle tag d = record (new_transfer s handle tag d) { settled = Some false; resume = true }
 
--- what is kept of it until it is settled: its whole payload, and no state yet
+-- its entry in the unsettled map: its whole payload, and no state yet
 abbrev pub new_entry : ℕ → List ℕ → UnsettledMessage
 new_entry message_format payload = record { payload = payload; state = None; message_format = message_format }
 
 -- ---- sends
 
--- The frames of the transfer t with the payload P, as the link s sends them: a frame has room, the
--- payloads are a split of P at the payload limit, and at the input handle each frame is the one of
--- its place.
+-- The frames of the transfer t with the payload P, as the link s sends them: a frame has room, the payloads
+-- are a split of P at the payload limit, and each frame has the input handle and the fields of its place.
 pub record IsSent {T : Type 0} (s : Sender T) (t : Transfer) (P : List ℕ) (frames : List LinkFrame) : Type 0 where
   pub room : has_room t s.max_frame_size P ≡ true
   pub split : IsSplit P (payload_limit t s.max_frame_size) (map payload_of frames)
@@ -134,16 +133,15 @@ with_registration settled s tag entry = record s {
   unsettled = if settled then s.unsettled else with_entry s.unsettled tag entry;
 }
 
--- A transfer of the delivery with this tag was sent, and the delivery is registered where it is
--- unsettled.
+-- A transfer of the delivery with this tag was sent, and the delivery is registered if it is unsettled.
 pub record SendsTransfer {T : Type 0} (old : Sender T) (message_format : ℕ) (t : Transfer) (tag : Tag) (payload : List ℕ)
     (told : Settlement) (frames : List LinkFrame) (new : Sender T) : Type 0 where
   pub sent : IsSent old t payload frames
   pub answered : told ≡ settlement_of (settled_on_send old t) tag
   pub world : new ≡ with_registration (settled_on_send old t) old tag (new_entry message_format payload)
 
--- A payload was sent as a new delivery at this output handle: its tag is the count before, its
--- transfer was sent, and it took one credit.
+-- A payload was sent as a new delivery at this output handle: its tag is the delivery-count before the send,
+-- its transfer was sent, and it took one credit.
 pub record SendsPayload {T : Type 0} (old : Sender T) (handle : OutputHandle) (d : Delivery) (payload : List ℕ)
     (told : Settlement) (frames : List LinkFrame) (new : Sender T) : Type 0 where
   pub sent : IsSent old (new_transfer old handle (next_tag old) d) payload frames
@@ -155,7 +153,7 @@ pub record SendsPayload {T : Type 0} (old : Sender T) (handle : OutputHandle) (d
     flow_state = after_consuming 1 old.flow_state;
   }
 
--- a send of a payload, by its answer: without credit nothing changes
+-- what a send of a payload does, by what it returns: `CreditMissing` changes nothing
 abbrev pub SendsOrLacksCredit : {T : Type 0} → Sender T → Delivery → List ℕ → Sending → Sender T → Type 0
 SendsOrLacksCredit old d payload (sending.Sent told frames) new =
     IsSomeAnd old.output_handle (λ handle. SendsPayload old handle d payload told frames.items new)
@@ -180,23 +178,29 @@ transfer_tests s t payload =
     ∷ (not (has_room t s.max_frame_size payload), error.NoRoom)
     ∷ []
 
--- a delivery with this tag is free where it is unsettled, and a frame has room beside its transfer
+-- the tests of a delivery with this tag: if it is unsettled its tag is free, and a frame has room for its
+-- transfer
 abbrev pub delivery_tests : {T : Type 0} → Sender T → Transfer → Tag → List ℕ → List (Bool × LinkStateError)
 delivery_tests s t tag payload =
     (not (settled_on_send s t) && is_pending s tag, error.TagPending)
     ∷ (not (has_room t s.max_frame_size payload), error.NoRoom)
     ∷ []
 
--- a transfer that is to be registered names its delivery, which is free where it is unsettled
-abbrev pub tagged_transfer_tests : {T : Type 0} → Sender T → Transfer → List ℕ → List (Bool × LinkStateError)
-tagged_transfer_tests s t payload =
+-- the tests of a transfer whose delivery may be registered: it has a tag and there is an input handle, the
+-- tag is free if the delivery is unsettled, and a frame has room
+abbrev pub tagged_tests : {T : Type 0} → Sender T → Transfer → Bool → List (Bool × LinkStateError)
+tagged_tests s t lacks_room =
     (is_none t.delivery_tag, error.IllegalState)
     ∷ (is_none s.input_handle, error.IllegalState)
     ∷ (not (settled_on_send s t) && option_map_or (is_pending s) t.delivery_tag false, error.TagPending)
-    ∷ (not (has_room t s.max_frame_size payload), error.NoRoom)
+    ∷ (lacks_room, error.NoRoom)
     ∷ []
 
--- a delivery that is registered under this tag is free, and a frame has room beside its transfer
+abbrev pub tagged_transfer_tests : {T : Type 0} → Sender T → Transfer → List ℕ → List (Bool × LinkStateError)
+tagged_transfer_tests s t payload = tagged_tests s t (not (has_room t s.max_frame_size payload))
+
+-- the tests of a delivery that is registered under this tag: the input handle, a free tag, and room in a
+-- frame
 abbrev pub unsettled_transfer_tests : {T : Type 0} → Sender T → Transfer → Tag → List ℕ → List (Bool × LinkStateError)
 unsettled_transfer_tests s t tag payload =
     (is_none s.input_handle, error.IllegalState)
@@ -204,14 +208,14 @@ unsettled_transfer_tests s t tag payload =
     ∷ (not (has_room t s.max_frame_size payload), error.NoRoom)
     ∷ []
 
--- A call that hands an entry back where it is refused, by the first test that holds; out of memory comes
--- only where none does.
+-- A call that returns the entry if it is refused, by the first test that holds; out of memory comes only if
+-- none does.
 abbrev pub HandsBackThenOutOfMemory : {A : Type 0} → Result A (LinkStateError × UnsettledMessage) → UnsettledMessage → List (Bool × LinkStateError) → Type 0
 HandsBackThenOutOfMemory (Ok a) entry tests = refusal tests ≡ None
 HandsBackThenOutOfMemory (Err e) entry tests =
     (e.1 ≡ entry) × (((e.0 ≡ error.OutOfMemory) × (refusal tests ≡ None)) ⊎ (refusal tests ≡ Some e.0))
 
--- what a send of a payload answers where it sends nothing
+-- what a send of a payload returns if it sends nothing
 pub data SendStop : Type 0 where
   missing_credit : SendStop
   refused : LinkStateError → SendStop
@@ -226,7 +230,13 @@ payload_tests s d payload =
     ∷ (not (has_room t s.max_frame_size payload), refused error.NoRoom)
     ∷ []
 
--- A send of a payload by the first test that holds; out of memory comes only where none does.
+-- whether a payload can be sent, by the first test that holds: not without credit
+abbrev pub IsSendable : Result Bool LinkStateError → List (Bool × SendStop) → Type 0
+IsSendable (Ok true) tests = refusal tests ≡ None
+IsSendable (Ok false) tests = refusal tests ≡ Some missing_credit
+IsSendable (Err e) tests = refusal tests ≡ Some (refused e)
+
+-- A send of a payload by the first test that holds; out of memory comes only if none does.
 abbrev pub SendAnswersThenOutOfMemory : Result Sending LinkStateError → List (Bool × SendStop) → Type 0
 SendAnswersThenOutOfMemory (Ok (sending.Sent told frames)) tests = refusal tests ≡ None
 SendAnswersThenOutOfMemory (Ok sending.CreditMissing) tests = refusal tests ≡ Some missing_credit

@@ -1,5 +1,5 @@
--- What waits at a sender as a payload is to be sent (OASIS AMQP 1.0 core, 2.6.5): the error that it
--- gives, and the link after it.
+-- What is pending at a sender when a payload is to be sent (OASIS AMQP 1.0 core, 2.6.5): the error that the
+-- send returns, and the sender afterwards.
 use Rattle.std.specs.Prelude.{Bool, true, false, Option, Some, None}
 use Rattle.amqp_link_types.specs.declared.frame.LinkFrame.{LinkFrame}
 use Rattle.amqp_link_types.specs.declared.frame.LinkFrame.TheVariants as frame
@@ -16,25 +16,26 @@ use Rattle.amqp_link_sender.specs.declared.sender_link.Waiting.{Waiting}
 use Rattle.amqp_link_sender.specs.declared.sender_link.Waiting.TheVariants as waiting
 use Rattle.amqp_link_sender.specs.Senders.{Sender}
 
--- a session that has stopped says why, or only a detach was expected
+-- the error of a session stop: its reason, or that only a detach was expected
 abbrev pub stop_error : Option SessionStopReason → LinkStateError
 stop_error (Some reason) = error.SessionStopped reason
 stop_error None = error.ExpectImmediateDetach
 
--- what a detach states that the peer initiated, by whether it closes and its error
+-- the error of a detach that the peer initiated, by its `closed` and `error` fields
 abbrev pub told_by : Bool → Option Error → LinkStateError
 told_by true None = error.RemoteClosed
 told_by false None = error.RemoteDetached
 told_by true (Some e) = error.RemoteClosedWithError e
 told_by false (Some e) = error.RemoteDetachedWithError e
 
--- the error of a link for that of recording a detach
+-- the link's error for an error of recording a detach
 abbrev pub recorded_error : ApplyRemoteDetachError → LinkStateError
 recorded_error apply.IllegalState = error.IllegalState
 recorded_error (apply.RemoteDetachedWithError e) = error.RemoteDetachedWithError e
 recorded_error (apply.RemoteClosedWithError e) = error.RemoteClosedWithError e
 
--- a detach is told of where the state has a row for it
+-- the error of a detach if it leads to this state: that of its fields, or illegal state if there is no
+-- transition
 abbrev pub told_where : Option LinkState → Detach → LinkStateError
 told_where None detach = error.IllegalState
 told_where (Some next) detach = told_by detach.closed detach.error
@@ -42,7 +43,7 @@ told_where (Some next) detach = told_by detach.closed detach.error
 abbrev pub detach_error : LinkState → Detach → LinkStateError
 detach_error state detach = told_where (next_state Call.RemoteDetach detach.closed state) detach
 
--- a frame that is no detach is not expected
+-- the error of a frame: a detach's own; any other frame is not expected
 abbrev pub frame_error : LinkState → LinkFrame → LinkStateError
 frame_error state (frame.Detach detach) = detach_error state detach
 frame_error state _ = error.ExpectImmediateDetach
@@ -52,10 +53,10 @@ waiting_error state waiting.Nothing = None
 waiting_error state (waiting.Frame f) = Some (frame_error state f)
 waiting_error state (waiting.Stopped reason) = Some (stop_error reason)
 
--- ---- the link after what waits was taken
+-- ---- the sender after what was pending is handled
 
 module _ {T : Type 0} where
-  -- in the next state, where there is one, without an output handle
+  -- in the next state and without output handle, if there is a transition
   abbrev pub let_go : Option LinkState → Sender T → Sender T
   let_go None s = s
   let_go (Some next) s = record s { local_state = next; output_handle = None }
@@ -67,7 +68,7 @@ module _ {T : Type 0} where
   after_frame s (frame.Detach detach) = after_detach s detach
   after_frame s _ = s
 
-  -- a detach that the state admits is recorded, and all else changes nothing
+  -- a detach is recorded if there is a transition, and all else changes nothing
   abbrev pub after_waiting : Sender T → Waiting → Sender T
   after_waiting s (waiting.Frame f) = after_frame s f
   after_waiting s _ = s

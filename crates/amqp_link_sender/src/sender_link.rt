@@ -1,9 +1,8 @@
-//! The sender's end of a link (2.6).
+//! The sender of a link (2.6).
 //!
-//! `send_*` are commands that answer frames, in the order in which they are to go out. A new link is
-//! attached first, then the receiver grants credit, then payloads go out, one credit for each
-//! delivery.
-ghost use Rattle.std.specs.Prelude.{◌≡◌, ◌<◌, [], length, true, None, Some, IfOk, IsSomeAnd, OnOk, OnErr, MatchOption};
+//! A new link is attached first, then the receiver grants credit, then payloads are sent, one credit for each
+//! delivery. The caller sends the frames that a call returns in their order.
+ghost use Rattle.std.specs.Prelude.{◌≡◌, ◌<◌, [], length, true, None, Some, IfOk, IsSomeAnd, OnOk, OnErr, MatchOption, is_none};
 ghost use Rattle.amqp_link_split.specs.Room.{has_room, payload_limit as limit_of_payload};
 ghost use Rattle.amqp_link_split.specs.Split.{IsFewestPieces};
 
@@ -23,7 +22,7 @@ use amqp_link_split::room::{payload_limit, payload_limit_with_tag};
 use amqp_link_split::split::frames;
 use amqp_link_state::role::SenderMarker;
 use amqp_link_state::state::{LinkFlowState, LinkState};
-use amqp_link_types::delivery::{Settlement, UnsettledMessage};
+use amqp_link_types::delivery::{DeliveryOutcome, Settlement, UnsettledMessage};
 use amqp_link_types::frame::LinkFrame;
 use amqp_link_types::types::unsettled_map::UnsettledMap;
 use amqp_link_types::types::{
@@ -34,32 +33,67 @@ pub use incoming::SenderAttachExchange;
 use std::alloc::{AllocError, Global};
 use std::marker::Model;
 
-/// What waits at a sender as a payload is to be sent.
+/// What is pending at a sender when a payload is to be sent. It is handled before the send.
 #[derive(Debug, PartialEq, Eq, Drop)]
 pub enum Waiting {
-    /// Nothing that the link has to know of first.
+    /// Nothing is pending.
     Nothing,
-    /// A frame that came. While a payload waits for credit only a detach may come.
+    /// A frame has arrived. While a payload waits for credit, only a detach is expected.
     Frame(LinkFrame),
-    /// The session has stopped, for this reason where one is known.
+    /// The session has stopped, for this reason if one is known.
     Stopped(Option<SessionStopReason>),
 }
 
-/// What a send of a payload answers.
+/// What a send of a payload returns.
 #[derive(Debug, PartialEq, Eq, Drop)]
 pub enum Sending {
-    /// The delivery goes out in these frames, one at least.
+    /// The delivery is sent in these frames, at least one.
     Sent {
         /// The delivery's tag, and whether it awaits its outcome.
         settlement: Settlement,
-        /// The frames in the order in which they go out.
+        /// The frames in the order in which to send them.
         frames: Vec<LinkFrame>,
     },
     /// The receiver has granted no more credit. Nothing has changed: try again after its next flow.
     CreditMissing,
 }
 
-/// The sender's end of a link.
+/// What `on_incoming_disposition` returns: whether to reply, and the delivery that was resolved.
+#[derive(Debug, PartialEq, Eq, Drop)]
+pub struct DispositionAnswer {
+    /// Whether the sender has to answer with a disposition that settles the delivery: `dispose` makes it.
+    pub echo: bool,
+    /// The delivery that the disposition has resolved, by its tag, and its outcome.
+    pub outcome: Option<(DeliveryTag, DeliveryOutcome)>,
+}
+
+/// The sender of a link.
+///
+/// Its calls by kind, in the order in which a session needs them, and what each asks its caller to do next:
+///
+/// - **Build**: `new`, then `with_output_handle` with the handle that the session gives; `set_max_frame_size`
+///   as soon as the peer's limit is known.
+/// - **Attach**: `send_attach` makes the attach to send, `on_incoming_attach` takes the peer's, in either order.
+///   `on_incoming_attach` returns how to continue with the unsettled deliveries. `Complete`: nothing to do.
+///   `Resume`: for each listed delivery, in order, do what its kind asks for: `send_unsettled_transfer`
+///   resumes it, with the transfer of `generate_resuming_transfer_performative`; `put_back` keeps it for a
+///   later attach. `IncompleteUnsettled`: the same, then detach and attach again, for the deliveries that an
+///   attach did not state. If the attach is refused, `handle_attach_error` makes the detach to send.
+/// - **Take in**: `on_incoming_flow` takes the receiver's flow, and returns the flow to send back, if there
+///   is one. `on_incoming_disposition` may resolve a delivery; if `echo` is set, send the disposition of
+///   `dispose`. `on_incoming_detach` returns the detach to reply with, and the outcome of each pending
+///   delivery if the link is closed; call `apply_remote_detach_outcome` afterwards, which moves the state.
+///   `on_incoming_transfer` refuses every transfer.
+/// - **Send**: `send_payload` sends a new delivery for one credit. `CreditMissing`: wait for a flow, and call
+///   again. `send_payload_with_transfer` and `send_transfer_without_modifying_unsettled_map` send with a
+///   transfer that the caller has, as `generate_non_resuming_transfer_performative` makes it.
+/// - **Settle**: `dispose` and `batch_dispose` make dispositions; `withdraw` removes a delivery from the
+///   unsettled map before it has an outcome; `fail_pending_unsettled` resolves all, as a detach that closes
+///   the link does.
+/// - **Detach**: `send_detach` makes the detach to send, `on_detach_reply` takes the peer's reply. To attach
+///   again, set the handle that the session gives by `output_handle_mut`, and call `send_attach`.
+/// - **Look**: `local_state`, `name`, `flow_state`, `unsettled`, `output_handle`, `input_handle`, the modes,
+///   `max_message_size`, `properties`, `is_settled_on_send`, and `complete_attach_fits`, which measures an attach.
 ///
 /// A contract sees its state, name, modes, termini, limits, capabilities, handles, flow state and the
 /// list of its unsettled deliveries.
@@ -119,13 +153,14 @@ impl<T: LinkTarget> SenderLink<T> {
     ghost use Rattle.amqp_link_sender.specs.Senders.{delivery_of, next_tag, new_transfer, new_entry, settled_on_send, SendsFewest};
     ghost use Rattle.amqp_link_types.specs.Entries.{with_entry};
     ghost use Rattle.amqp_link_sender.specs.Waits.{waiting_error, after_waiting};
-    ghost use Rattle.amqp_link_sender.specs.Senders.{transfer_tests, tagged_transfer_tests, delivery_tests, payload_tests, untagged};
+    ghost use Rattle.amqp_link_sender.specs.Senders.{IsSendable, transfer_tests, tagged_tests, tagged_transfer_tests, delivery_tests, payload_tests, untagged};
     ghost use Rattle.amqp_link_state.specs.declared.state.LinkState.TheVariants.{Unattached};
 
-    /// A link that is not attached, without handles and unsettled deliveries. Takes no memory.
+    /// A link that is not attached, without handles and unsettled deliveries. Does not allocate.
     ///
-    /// The limit of its frames counts a frame's header of four bytes and its body. A peer's limit that
-    /// counts four bytes of size in front as well is handed in less these four.
+    /// The frame limit counts the frame's header of four bytes and its body, and not the four bytes of the
+    /// frame's size in front of them. If the peer's limit counts those as well, the caller passes that limit
+    /// less 4.
     pub fn new(alloc: Global, parts: LinkParts<T>) -> SenderLink<T>
         ensures { result ≡ record {
           local_state = Unattached;
@@ -175,16 +210,17 @@ impl<T: LinkTarget> SenderLink<T> {
         self
     }
 
-    /// Sets the greatest size of a frame in bytes: its header of four bytes and its body. A peer's
-    /// limit that counts four bytes of size in front as well is handed in less these four.
+    /// Sets the largest size of a frame in bytes: its header of four bytes and its body, without the four
+    /// bytes of the frame's size in front of them. If the peer's limit counts those as well, the caller
+    /// passes that limit less 4.
     pub fn set_max_frame_size(&mut self, max_frame_size: u32)
         ensures { self.new ≡ record self.old { max_frame_size = max_frame_size } }
     {
         self.max_frame_size = max_frame_size;
     }
 
-    /// Whether a transfer goes out settled, which leaves no outcome to wait for: by its own flag, or
-    /// else by the link's mode (2.7.5).
+    /// Whether a transfer is sent settled, so that its delivery awaits no outcome: by its `settled` flag if
+    /// it has one, otherwise by the link's sender settle mode (2.7.5).
     pub fn is_settled_on_send(&self, transfer: &Transfer) -> bool
         ensures { result ≡ settled_on_send self.now transfer.now }
     {
@@ -192,10 +228,11 @@ impl<T: LinkTarget> SenderLink<T> {
         transfer.settled.unwrap_or(by_mode)
     }
 
-    /// The transfer of a new delivery, which resumes nothing (2.7.5). It is settled in mode
-    /// `Settled`, unsettled in mode `Unsettled`, and by the given flag, or not, in mode `Mixed`.
+    /// The transfer of a new delivery, which resumes nothing (2.7.5). It is settled in mode `Settled` and
+    /// unsettled in mode `Unsettled`; in mode `Mixed` the given flag decides, and without one it is
+    /// unsettled.
     ///
-    /// Refused with `IllegalState` without output handle. Takes no memory.
+    /// Refused with `IllegalState` if there is no output handle. Does not allocate.
     pub fn generate_non_resuming_transfer_performative(
         &self,
         delivery_tag: DeliveryTag,
@@ -255,23 +292,24 @@ impl<T: LinkTarget> SenderLink<T> {
         }
     }
 
-    /// Sends a payload as a new delivery, for one credit, in the fewest frames that fit the limit
-    /// (2.7.5). Its tag is the delivery count before, as four bytes. It is settled as
-    /// `generate_non_resuming_transfer_performative` says; an unsettled one is kept with its whole
-    /// payload until it is settled. The payload is cut without copying its bytes.
+    /// Sends a payload as a new delivery, for one credit, in the fewest frames that fit the frame limit
+    /// (2.7.5). The delivery-tag is the delivery-count before the send, as four bytes. Whether the delivery
+    /// is settled is decided as in `generate_non_resuming_transfer_performative`. An unsettled delivery is
+    /// registered with its whole payload until it is settled. The payload is cut without copying its bytes.
     ///
-    /// What waits comes first. A detach is recorded as by `apply_remote_detach_outcome`, which moves
-    /// the state and releases the output handle, and answered `RemoteDetached`, `RemoteClosed` or with
-    /// that call's error (`IllegalState` if there is no transition, with nothing changed).
-    /// Another frame, or a stop without a reason, is `ExpectImmediateDetach`; a stop with one is
-    /// `SessionStopped`.
+    /// Whatever is pending is handled before the send. A detach is recorded as by
+    /// `apply_remote_detach_outcome`, which moves the state and releases the output handle; the send then
+    /// returns `RemoteDetached`, `RemoteClosed` or that call's error (`IllegalState`, with nothing changed,
+    /// if there is no transition from this state). Any other frame, or a session stop without a reason,
+    /// returns `ExpectImmediateDetach`; a stop with a reason returns `SessionStopped`.
     ///
-    /// Then, in this order: `IllegalState` without output handle, then without input handle; the answer
-    /// `CreditMissing`; `TagPending` for an unsettled delivery; `NoRoom`; `OutOfMemory`, which comes only
-    /// where none of these does. Nothing has changed then.
+    /// If nothing is pending, these are tested in this order, and nothing has changed if one of them holds:
+    /// `IllegalState` without output handle, then without input handle; `CreditMissing`, which is an answer
+    /// and not an error; `TagPending` for an unsettled delivery; `NoRoom`; `OutOfMemory`, only if none of
+    /// these holds.
     ///
-    /// Its cost grows with the number of frames, and for an unsettled delivery with the number of
-    /// those that are pending: their tags are compared once for the test and once as it is kept.
+    /// Its cost grows with the number of frames. For an unsettled delivery it also grows with the number of
+    /// pending deliveries, whose tags are compared once for the test and once as the delivery is registered.
     pub fn send_payload(
         &mut self,
         waiting: Waiting,
@@ -300,7 +338,7 @@ impl<T: LinkTarget> SenderLink<T> {
         }
     }
 
-    // The same with nothing waiting.
+    // The same if nothing is pending.
     fn send_new(
         &mut self,
         payload: &Payload,
@@ -336,13 +374,46 @@ impl<T: LinkTarget> SenderLink<T> {
             message_format,
             payload,
         )?;
-        // All tests are behind, and all memory is taken.
+        // All tests and all allocations are done.
         self.flow_state.spend_one();
         Ok(Sending::Sent { settlement, frames })
     }
 
-    // Sends the next delivery with this transfer, which has no tag yet: the tag is made once nothing
-    // is against the delivery.
+    /// Whether `send_payload` would send this payload now if nothing is pending; false if there is no credit.
+    /// Its refusals are the same, in the same order. Does not allocate, and changes nothing.
+    pub fn can_send_payload(
+        &self,
+        payload: &Payload,
+        message_format: MessageFormat,
+        settled: Option<bool>,
+        state: Option<DeliveryState>,
+        batchable: bool,
+    ) -> Result<bool, LinkStateError>
+        ensures { IsSendable result (payload_tests self.now
+            (delivery_of message_format settled state batchable) payload.now) }
+    {
+        let Some(handle) = self.output_handle else {
+            drop(state);
+            return Err(LinkStateError::IllegalState);
+        };
+        if self.input_handle.is_none() {
+            drop(state);
+            return Err(LinkStateError::IllegalState);
+        }
+        if self.flow_state.link_credit() == 0 {
+            drop(state);
+            return Ok(false);
+        }
+        let count = self.flow_state.delivery_count().to_be_bytes();
+        let mut next = self.untagged_transfer(handle, message_format, settled, state, batchable);
+        let limit = self.limit_of_next(&mut next, &count, payload);
+        drop(next);
+        limit?;
+        Ok(true)
+    }
+
+    // Sends the next delivery with this transfer, which has no tag yet: the tag is made once no test refuses
+    // the delivery.
     fn send_untagged(
         &mut self,
         input_handle: InputHandle,
@@ -380,8 +451,8 @@ impl<T: LinkTarget> SenderLink<T> {
         Ok(self.begin(input_handle, transfer, tag, message_format, payload, limit)?)
     }
 
-    // The payload bytes of a frame of the delivery with this tag, whose transfer has no tag yet, where
-    // nothing is against it. The transfer is as it was.
+    // The payload limit of the delivery with this tag, whose transfer has no tag yet, if no test refuses it.
+    // The transfer stays as it is.
     fn limit_of_next(
         &self,
         transfer: &mut Transfer,
@@ -403,7 +474,7 @@ impl<T: LinkTarget> SenderLink<T> {
         )
     }
 
-    // Begins a delivery that nothing is against: makes its frames, and keeps it where it is unsettled.
+    // Begins a delivery that no test refuses: makes its frames, and registers it if it is unsettled.
     fn begin(
         &mut self,
         input_handle: InputHandle,
@@ -440,14 +511,13 @@ impl<T: LinkTarget> SenderLink<T> {
         Ok((Settlement::Unsettled(tag), frames))
     }
 
-    /// Sends a payload with this transfer, which names the delivery's tag; spends no credit. An
-    /// unsettled delivery is kept with its whole payload and without a state, whatever state the
-    /// transfer has.
+    /// Sends a payload with this transfer, which carries the delivery-tag. Spends no credit. An unsettled
+    /// delivery is registered with its whole payload and without a state, whatever state the transfer has.
     ///
-    /// Refused in this order, with nothing changed: `IllegalState` without tag, then without input
-    /// handle; `TagPending` for an unsettled delivery; `NoRoom`; `OutOfMemory`.
+    /// Refused in this order, with nothing changed: `IllegalState` if the transfer has no tag, then without
+    /// input handle; `TagPending` for an unsettled delivery; `NoRoom`; `OutOfMemory`.
     ///
-    /// It costs what `send_payload` does.
+    /// Its cost is that of `send_payload`.
     pub fn send_payload_with_transfer(
         &mut self,
         message_format: MessageFormat,
@@ -473,7 +543,7 @@ impl<T: LinkTarget> SenderLink<T> {
         }
     }
 
-    // Keeps a delivery that was sent with its whole payload and no state.
+    // Registers a delivery that was sent, with its whole payload and no state.
     fn register(
         &mut self,
         tag: &DeliveryTag,
@@ -499,8 +569,25 @@ impl<T: LinkTarget> SenderLink<T> {
         if is_kept { Ok(()) } else { Err(AllocError) }
     }
 
-    // The input handle, the tag and the payload bytes of a frame for a transfer that names its
-    // delivery, where nothing is against it. The transfer is as it was.
+    /// Whether `send_payload_with_transfer` would send this payload now. Its refusals are the same, in the
+    /// same order, without `OutOfMemory`. Does not allocate, and changes nothing: the transfer stays as it
+    /// is.
+    pub fn can_send_with_transfer(
+        &self,
+        transfer: &mut Transfer,
+        payload: &Payload,
+    ) -> Result<(), LinkStateError>
+        ensures refused { AnswersExactly result
+            (tagged_transfer_tests self.now transfer.old payload.now) }
+        ensures same { transfer.new ≡ transfer.old }
+    {
+        let limit = payload_limit(transfer, self.max_frame_size, payload);
+        let _ = self.admitted(transfer, limit)?;
+        Ok(())
+    }
+
+    // The input handle, the delivery-tag and the payload limit for a transfer that carries its tag, if no
+    // test refuses it. The transfer stays as it is.
     fn admit_tagged(
         &self,
         transfer: &mut Transfer,
@@ -516,6 +603,21 @@ impl<T: LinkTarget> SenderLink<T> {
         ensures same { transfer.new ≡ transfer.old }
     {
         let limit = payload_limit(transfer, self.max_frame_size, payload);
+        let (input_handle, tag, limit) = self.admitted(transfer, limit)?;
+        Ok((input_handle, tag.clone()?, limit))
+    }
+
+    // The same for a given payload limit, or none if no frame has room. The tag stays in the transfer.
+    fn admitted<'a>(
+        &self,
+        transfer: &'a Transfer,
+        limit: Option<usize>,
+    ) -> Result<(InputHandle, &'a DeliveryTag, usize), LinkStateError>
+        ensures handle { IfOk result (λ sent. self.now.input_handle ≡ Some sent.0) }
+        ensures tag { IfOk result (λ sent. transfer.now.delivery_tag ≡ Some sent.1.now) }
+        ensures limit { IfOk result (λ sent. limit ≡ Some sent.2) }
+        ensures refused { AnswersExactly result (tagged_tests self.now transfer.now (is_none limit)) }
+    {
         let Some(tag) = &transfer.delivery_tag else {
             return Err(LinkStateError::IllegalState);
         };
@@ -525,14 +627,13 @@ impl<T: LinkTarget> SenderLink<T> {
         if !self.is_settled_on_send(transfer) && self.unsettled.contains(tag) {
             return Err(LinkStateError::TagPending);
         }
-        let Some(limit) = limit else {
-            return Err(LinkStateError::NoRoom);
-        };
-        Ok((input_handle, tag.clone()?, limit))
+        match limit {
+            Some(limit) => Ok((input_handle, tag, limit)),
+            None => Err(LinkStateError::NoRoom),
+        }
     }
 
-    /// The frames of a payload with this transfer, and whether it goes out settled. The link is as it
-    /// was.
+    /// The frames of a payload with this transfer, and whether it is sent settled. The link does not change.
     ///
     /// Refused in this order: `IllegalState` without input handle; `NoRoom`; `OutOfMemory`.
     ///
@@ -563,7 +664,7 @@ impl<T: LinkTarget> SenderLink<T> {
     }
 }
 
-// A tag of these bytes, twice: for the answer of a send, and for its transfer.
+// A tag of these bytes, twice: one for the result of a send, and one for its transfer.
 fn tags_of(alloc: Global, bytes: &[u8]) -> Result<(DeliveryTag, DeliveryTag), AllocError>
     ensures { IfOk result (λ tags. (tags.0 ≡ bytes.now) × (tags.1 ≡ bytes.now)) }
 {

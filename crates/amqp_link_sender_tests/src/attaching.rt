@@ -3,10 +3,10 @@ use crate::samples::{attach_of, fields, parts, payload_of};
 use crate::sending::{Told, attached, new_link, send_flagged, told_by, told_by_error};
 use amqp_link_core::endpoint::target::LinkTarget;
 use amqp_link_core::endpoint::{LinkAttach, LinkDetach, LinkExt};
-use amqp_link_samples::nowhere::parts_to_nowhere;
-use amqp_link_samples::refusals::{Refusal, at_sender};
 use amqp_link_sender::{SenderAttachExchange, SenderLink};
 use amqp_link_state::state::LinkState;
+use amqp_link_tests_support::nowhere::parts_to_nowhere;
+use amqp_link_tests_support::refusals::{Refusal, at_sender};
 use amqp_link_types::delivery::{Outcomes, UnsettledMessage};
 use amqp_link_types::frame::LinkFrame;
 use amqp_link_types::types::{
@@ -17,8 +17,8 @@ use amqp_link_values::length::EncodedLen;
 use std::alloc::AllocError;
 use std::process::Abort;
 
-// What an attach that is sent shows: its length, its count, how many deliveries it names, and
-// whether that is not all.
+// What an attach that is sent shows: its length, its count, how many deliveries it states, and whether these
+// are not all.
 #[derive(Clone, Copy, Debug, PartialEq, Eq)]
 struct Shown {
     len: Option<u64>,
@@ -99,7 +99,7 @@ fn attach_names_what_fits(rt: HostRuntime) {
     }
 }
 
-// Whether all fits in a frame of that size, with this count.
+// Whether an attach with all deliveries and this count fits a frame of that size.
 fn fits_at(rt: &(impl Abort + AllocGlobal), limit: u32, count: u32) -> Result<bool, AllocError> {
     let link = new_link(rt, SenderSettleMode::Mixed);
     let fits = link.complete_attach_fits(limit, count);
@@ -120,7 +120,7 @@ fn complete_attach_is_measured_with_its_count(rt: HostRuntime) {
     }
 }
 
-// The end of an outcome: the last byte of its tag, and why.
+// The last byte of the tag of an outcome, and the outcome.
 fn ended(outcomes: &Outcomes, index: usize) -> Option<(u8, Told)> {
     let (tag, outcome) = outcomes.get(index)?;
     let last = *tag.as_bytes().last()?;
@@ -130,7 +130,7 @@ fn ended(outcomes: &Outcomes, index: usize) -> Option<(u8, Told)> {
     }
 }
 
-// How many deliveries a reattach gives up, and the ends of the first three.
+// How many deliveries a reattach resolves, and the outcomes of the first three.
 fn ends_in(
     sent: &Result<(LinkFrame, Outcomes), SenderAttachError>,
 ) -> Option<(usize, [Option<(u8, Told)>; 3])> {
@@ -169,8 +169,7 @@ fn detached_after(
     link
 }
 
-// A link that attaches anew states its present count, says nothing of its deliveries, and gives them
-// up in order.
+// A link that is reattached states its present count and no deliveries, and resolves them in order.
 #[test]
 fn reattach_gives_pending_deliveries_up(rt: HostRuntime) {
     let mut link = detached_after(&rt, 3, 0, false);
@@ -194,7 +193,7 @@ fn reattach_gives_pending_deliveries_up(rt: HostRuntime) {
     assert_eq!(rt; state, LinkState::AttachSent);
 }
 
-// Where the state has no row, a reattach gives nothing up.
+// If there is no transition from the state, a reattach resolves nothing.
 #[test]
 fn refused_reattach_keeps_what_is_pending(rt: HostRuntime) {
     let mut link = detached_after(&rt, 3, 0, true);
@@ -205,7 +204,7 @@ fn refused_reattach_keeps_what_is_pending(rt: HostRuntime) {
     drop(link);
 }
 
-// What a link shows after an attach came.
+// What a link shows after an attach has arrived.
 #[derive(Clone, Copy, Debug, PartialEq, Eq)]
 struct Left {
     refused: Option<Refusal>,
@@ -214,7 +213,7 @@ struct Left {
     max_message_size: Option<u64>,
 }
 
-// Why an attach that came was refused.
+// Why an attach was refused.
 pub(crate) fn refused_by(
     answer: Result<(SenderAttachExchange, Outcomes), SenderAttachError>,
 ) -> Option<Refusal> {
@@ -231,7 +230,7 @@ pub(crate) fn refused_by(
     }
 }
 
-// A link in this mode, with a limit of 7 bytes a message, to which an attach comes.
+// What an attach leaves of a link in this mode, with a largest message of 7 bytes.
 fn left_by<T: LinkTarget>(mut link: SenderLink<T>, attach: Attach) -> Left {
     let refused = refused_by(link.on_incoming_attach(attach));
     let left = Left {
@@ -250,7 +249,7 @@ fn settling(rt: &(impl Abort + AllocGlobal), mode: SenderSettleMode) -> SenderLi
     SenderLink::new(rt.alloc(), parts)
 }
 
-// An attach that settles in the receiver's second mode and takes five bytes a message.
+// An attach with the receiver's second mode, and a largest message of five bytes.
 fn coming(rt: &(impl Abort + AllocGlobal), mode: SenderSettleMode) -> Attach {
     let mut attach = attach_of(rt, Role::Receiver, mode);
     attach.rcv_settle_mode = ReceiverSettleMode::Second;
@@ -294,7 +293,7 @@ fn incoming_attach_is_taken_as_far_as_it_goes(rt: HostRuntime) {
     );
 }
 
-// Whether an attach went with nothing to resume, and with nothing that ended.
+// Whether an attach was taken, with nothing to resume and no outcome.
 fn is_complete(answer: &Result<(SenderAttachExchange, Outcomes), SenderAttachError>) -> bool {
     match answer {
         Ok((SenderAttachExchange::Complete, outcomes)) => outcomes.len() == 0,
@@ -302,7 +301,7 @@ fn is_complete(answer: &Result<(SenderAttachExchange, Outcomes), SenderAttachErr
     }
 }
 
-// A property that comes becomes the link's.
+// A property of the peer's attach becomes the link's.
 #[test]
 fn properties_that_come_are_taken(rt: HostRuntime) {
     let mut link = settling(&rt, SenderSettleMode::Mixed);

@@ -5,12 +5,12 @@ use crate::sending::{Told, attached, new_link, send_flagged, told_by};
 use amqp_link_core::endpoint::target::LinkTarget;
 use amqp_link_core::endpoint::{LinkAttach, LinkDetach, LinkExt};
 use amqp_link_core::resumption::ResumingDelivery;
-use amqp_link_samples::links::went;
-use amqp_link_samples::nowhere::{Nowhere, parts_to_nowhere};
-use amqp_link_samples::refusals::Refusal;
 use amqp_link_sender::sender_link::incoming::{commit_incoming_attach, plan_incoming_attach};
 use amqp_link_sender::{SenderAttachExchange, SenderLink};
 use amqp_link_state::state::LinkState;
+use amqp_link_tests_support::links::went;
+use amqp_link_tests_support::nowhere::{Nowhere, parts_to_nowhere};
+use amqp_link_tests_support::refusals::Refusal;
 use amqp_link_types::delivery::{DeliveryOutcome, Outcomes, UnsettledMessage};
 use amqp_link_types::types::{
     Attach, DeliveryState, DeliveryTag, OutputHandle, Payload, Role, SenderSettleMode, Target,
@@ -84,7 +84,7 @@ fn attach_with(rt: &(impl Abort + AllocGlobal), entries: &[(u8, Known)]) -> Atta
     attach
 }
 
-// How a link goes on after an exchange.
+// What follows from an exchange.
 #[derive(Clone, Copy, Debug, PartialEq, Eq)]
 enum Next {
     Complete,
@@ -232,8 +232,8 @@ fn incomplete_map_is_answered_in_full(rt: HostRuntime) {
     drop(link);
 }
 
-// How one delivery is resolved: sent again, resumed with these bytes, aborted, its outcome stated once
-// more, or ended with this state.
+// How one delivery is resolved: sent again, resumed with these bytes, aborted, its outcome stated again, or
+// ended with this state.
 #[derive(Clone, Copy, Debug)]
 enum Answer {
     Resend,
@@ -305,8 +305,8 @@ fn assert_row(rt: &(impl Abort + AllocGlobal), own: Known, remote: Known, answer
     drop(link);
 }
 
-// The sender knows no state: what the receiver has not is sent. A position that the payload does not have,
-// as one in a third section, is no place: all is sent.
+// The sender knows no state: what the receiver does not have is sent. A position that the payload does not
+// have, such as one in a third section, has no place: all is sent.
 #[test]
 fn rows_without_an_own_state(rt: HostRuntime) {
     for (remote, answer) in [
@@ -321,7 +321,7 @@ fn rows_without_an_own_state(rt: HostRuntime) {
     }
 }
 
-// The sender knows a position of the receiver: one behind it is not resumed.
+// The sender knows a position of the receiver: a position before it is not resumed.
 #[test]
 fn rows_of_an_own_position(rt: HostRuntime) {
     let early = Known::Received(1, 2);
@@ -357,7 +357,7 @@ fn rows_of_an_own_outcome(rt: HostRuntime) {
     }
 }
 
-// How the link goes on where both maps are empty, and whether the lists are.
+// What follows if both maps are empty, and whether the lists are.
 fn next_of_empty(rt: &(impl Abort + AllocGlobal), attach: Attach) -> (Next, bool) {
     let mut link = attaching_with(rt, &[]);
     let exchanged = exchange_on(rt, &mut link, attach);
@@ -392,7 +392,7 @@ fn delivery_of_the_receiver_alone_is_aborted(rt: HostRuntime) {
     drop(link);
 }
 
-// An exchange that only ends deliveries is not `Complete`: the outcomes are returned beside an empty list.
+// An exchange that only resolves deliveries is not `Complete`: the outcomes are returned with an empty list.
 #[test]
 fn ended_delivery_is_no_complete_exchange(rt: HostRuntime) {
     let mut link = attaching_with(&rt, &[(0, Known::Accepted)]);
@@ -405,7 +405,7 @@ fn ended_delivery_is_no_complete_exchange(rt: HostRuntime) {
     assert_eq!(rt; lengths, (0, 1));
 }
 
-// How the link goes on and in which state it is, once this attach has arrived.
+// What follows, and the state of the link, after this attach has arrived.
 fn next_at(
     rt: &(impl Abort + AllocGlobal),
     mut link: SenderLink<Target>,
@@ -556,7 +556,7 @@ fn exchange_of_numbers(
     numbers
 }
 
-// The numbers to 999, but those that leave this remainder by 4.
+// The numbers to 999 without those that have this remainder when divided by 4.
 fn numbers_without(rt: &(impl Abort + AllocGlobal), remainder: u16) -> Vec<u16> {
     let mut numbers = Vec::new(rt.alloc());
     for number in 0..1000u16 {
@@ -634,7 +634,7 @@ fn keeps_both(refusal: Refusal) -> Refused {
     (Some(refusal), [Some(4), Some(5)], 2)
 }
 
-// A link with two deliveries, which admits no target.
+// A link with two deliveries, whose target accepts none of the peer's.
 fn nowhere_with_two(rt: &(impl Abort + AllocGlobal)) -> SenderLink<Nowhere> {
     let parts = parts_to_nowhere(rt.alloc(), SenderSettleMode::Mixed).expect(rt, "memory");
     let mut link = SenderLink::new(rt.alloc(), parts);
@@ -710,7 +710,7 @@ fn only_a_complete_exchange_is_no_error(rt: HostRuntime) {
     assert_eq!(rt; complete_or_seven(&rt, &TWO, true), Err(7));
 }
 
-// What a link shows: its state, its limit of a message's bytes, and how many deliveries are pending.
+// What a link shows: its state, its largest message in bytes, and how many deliveries are pending.
 type Shown = (LinkState, Option<u64>, usize);
 
 fn shown(link: &SenderLink<Target>) -> Shown {

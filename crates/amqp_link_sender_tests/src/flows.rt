@@ -1,9 +1,9 @@
-//! Worked values of flows that come to a sender (2.6.7).
+//! Worked values of flows that arrive at a sender (2.6.7).
 use crate::samples::{fields, parts, payload_of};
 use amqp_link_core::endpoint::LinkExt;
-use amqp_link_samples::links::{FlowTold, told_back};
 use amqp_link_sender::SenderLink;
 use amqp_link_state::state::LinkFlowStateInner;
+use amqp_link_tests_support::links::{FlowTold, told_back};
 use amqp_link_types::types::{
     LinkFlow, LinkRelayError, OutputHandle, SenderSettleMode, Target, Transfer,
 };

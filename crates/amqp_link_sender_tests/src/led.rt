@@ -1,10 +1,10 @@
-//! A sender that is led to each of its states by public calls.
+//! A sender that is brought to each of its states by public calls.
 use crate::samples::{coming, count_tag, payload_of};
 use amqp_link_core::endpoint::{LinkAttach, LinkDetach, LinkExt};
-use amqp_link_samples::links::went;
-use amqp_link_samples::table::detach;
 use amqp_link_sender::SenderLink;
 use amqp_link_state::state::LinkState;
+use amqp_link_tests_support::links::went;
+use amqp_link_tests_support::table::detach;
 use amqp_link_types::delivery::UnsettledMessage;
 use amqp_link_types::types::{Role, Target};
 use std::process::Abort;
@@ -16,7 +16,7 @@ pub(crate) fn put(rt: &(impl Abort + AllocGlobal), link: &mut SenderLink<Target>
     assert!(rt; put, "a free tag");
 }
 
-// The receiver's attach arrives, with a whole map or not.
+// The receiver's attach arrives, marked as incomplete or not.
 fn attach_arrives(
     rt: &(impl Abort + AllocGlobal),
     link: &mut SenderLink<Target>,
@@ -25,7 +25,7 @@ fn attach_arrives(
     drop(link.on_incoming_attach(coming(rt, Role::Receiver, incomplete)));
 }
 
-// Leads a link that is not attached to this state, or to `Attached` if it is reached by a detach.
+// Brings a link that is not attached to this state, or to `Attached` if the state is reached by a detach.
 fn attach_up_to(rt: &(impl Abort + AllocGlobal), link: &mut SenderLink<Target>, state: LinkState) {
     match state {
         LinkState::Unattached => {}
@@ -48,9 +48,9 @@ fn attach_up_to(rt: &(impl Abort + AllocGlobal), link: &mut SenderLink<Target>, 
     }
 }
 
-// Leads a link that is not attached, and has no pending delivery, to this state. It has no output handle
-// after a detach. Before an incomplete attach the delivery of tag 9 is made pending, and its frames get a
-// limit of 31 bytes.
+// Brings a link that is not attached, and has no pending delivery, to this state. It has no output handle
+// after a detach. Before an incomplete attach the delivery of tag 9 is made pending, and the frame limit is
+// set to 31 bytes.
 pub(crate) fn lead_to(
     rt: &(impl Abort + AllocGlobal),
     link: &mut SenderLink<Target>,

@@ -1,4 +1,4 @@
-//! Tests of the sender's end of a link, by what it makes public: worked values.
+//! Tests of the sender's link endpoint, through its public interface: worked values.
 #![tactic(auto)]
 
 #[cfg(test)]

@@ -2,8 +2,8 @@
 use crate::samples::{count_tag, parts, payload_of};
 use crate::sending::{Told, link, new_link, told_by_error};
 use amqp_link_core::endpoint::LinkExt;
-use amqp_link_samples::links::went;
 use amqp_link_sender::SenderLink;
+use amqp_link_tests_support::links::went;
 use amqp_link_types::delivery::UnsettledMessage;
 use amqp_link_types::frame::LinkFrame;
 use amqp_link_types::types::{DeliveryState, LinkStateError, SenderSettleMode, Target, Transfer};
@@ -111,7 +111,7 @@ fn shown_in(frames: &[LinkFrame]) -> [Option<Shown>; 7] {
     shown
 }
 
-// What a call that was refused tells, and whether it has given the entry back.
+// The error of a refused call, and whether it has returned the entry.
 fn refusal_of(
     rt: &(impl Abort + AllocGlobal),
     refused: &(LinkStateError, UnsettledMessage),
@@ -206,7 +206,7 @@ fn entry_is_registered_under_the_given_tag(rt: HostRuntime) {
     drop(link);
 }
 
-// What a resumed send tells at a limit of 24 bytes, with tag 7 pending.
+// The error of a resumed send at a limit of 24 bytes, with tag 7 pending.
 fn told_at_24(
     rt: &(impl Abort + AllocGlobal),
     mut link: SenderLink<Target>,
@@ -221,7 +221,7 @@ fn told_at_24(
     (told, pending)
 }
 
-// A link that is not attached has no input handle; a pending tag comes before the room.
+// A link that is not attached has no input handle; `TagPending` comes before `NoRoom`.
 #[test]
 fn resumed_send_is_refused_in_order(rt: HostRuntime) {
     let mode = SenderSettleMode::Mixed;
@@ -233,7 +233,7 @@ fn resumed_send_is_refused_in_order(rt: HostRuntime) {
     assert_eq!(rt; without_room, (Some((Told::NoRoom, true)), 1));
 }
 
-// What a second entry under a pending tag tells, and whether the first is kept.
+// The error of a second entry under a pending tag, and whether the first entry stays.
 #[test]
 fn pending_entry_is_not_replaced(rt: HostRuntime) {
     let mut link = new_link(&rt, SenderSettleMode::Mixed);

@@ -1,6 +1,6 @@
-//! Samples for tests that take memory: a test ends where it is wanting.
+//! Samples for tests: a test that is out of memory stops.
 use amqp_link_core::link_parts::LinkParts;
-use amqp_link_samples::{links, table};
+use amqp_link_tests_support::{links, table};
 use amqp_link_types::types::{
     Attach, DeliveryTag, Fields, Payload, Role, SenderSettleMode, Target, Text,
 };

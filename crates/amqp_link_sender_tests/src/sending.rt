@@ -47,7 +47,7 @@ pub(crate) fn attached(
     link
 }
 
-// What a call told.
+// The result of a send.
 #[derive(Clone, Copy, Debug, PartialEq, Eq)]
 pub(crate) enum Told {
     Settled,
@@ -108,7 +108,7 @@ pub(crate) fn send_flagged(
     link.send_payload(Waiting::Nothing, payload, 0, settled, None, false)
 }
 
-// The frames of a send that went.
+// The frames of a send that succeeded.
 fn frames_of(sending: &Result<Sending, LinkStateError>) -> Option<&[LinkFrame]> {
     match sending {
         Ok(Sending::Sent { frames, .. }) => Some(frames.as_slice()),
@@ -116,7 +116,7 @@ fn frames_of(sending: &Result<Sending, LinkStateError>) -> Option<&[LinkFrame]> 
     }
 }
 
-// What a frame shows: whether it is a first one, its payload's length, and what its transfer says.
+// What a frame shows: whether it is a first one, its payload's length, and the fields of its transfer.
 #[derive(Clone, Copy, Debug, PartialEq, Eq)]
 struct Shown {
     first: bool,
@@ -158,7 +158,7 @@ fn shown_in(frames: &[LinkFrame]) -> [Option<Shown>; 3] {
     shown
 }
 
-// What the frames of these bytes at a limit of 30 show, where they go.
+// What the frames of these bytes at a limit of 30 show, if they are sent.
 fn shown_at_30(rt: &(impl Abort + AllocGlobal), bytes: &[u8]) -> Option<[Option<Shown>; 3]> {
     let mut link = link(rt, SenderSettleMode::Mixed, 30, 1);
     let payload = payload_of(rt, bytes);
@@ -169,7 +169,7 @@ fn shown_at_30(rt: &(impl Abort + AllocGlobal), bytes: &[u8]) -> Option<[Option<
     shown
 }
 
-// What a transfer that was made says: its handle, format, settlement, whether it resumes and is
+// The fields of a transfer that was made: its handle, format, settled flag, whether it resumes and is
 // batchable, and whether it has a tag and an id.
 fn made(transfer: &Transfer) -> (u32, Option<u32>, Option<bool>, [bool; 4]) {
     let flags = [
@@ -227,7 +227,7 @@ fn twelve_bytes_are_three_frames(rt: HostRuntime) {
     assert_eq!(rt; shown, Some([Some(first), Some(rest), Some(last)]));
 }
 
-// What a link shows after a send: what was told, its credit, its count, and how many are pending.
+// What a link shows after a send: the result, its credit, its count, and how many deliveries are pending.
 #[derive(Clone, Copy, Debug, PartialEq, Eq)]
 struct Standing {
     told: Told,
@@ -245,8 +245,8 @@ fn after(link: &SenderLink<Target>, told: Told) -> Standing {
     }
 }
 
-// What a send with credit 1 comes to, whether the tag of its count is pending then, and what a
-// second send tells.
+// What a link shows after a send with credit 1, whether the tag of its count is pending then, and the result
+// of a second send.
 fn sent_twice(rt: &(impl Abort + AllocGlobal)) -> (Standing, bool, Told) {
     let mut link = link(rt, SenderSettleMode::Mixed, 30, 1);
     let payload = payload_of(rt, &[7]);
@@ -272,7 +272,7 @@ fn sent_delivery_is_pending(rt: HostRuntime) {
     assert_eq!(rt; sent_twice(&rt), (sent, true, Told::CreditMissing));
 }
 
-// What a send of these bytes with credit 1 at this limit comes to.
+// What a link with credit 1 at this limit shows after a send of these bytes.
 fn sent_at(rt: &(impl Abort + AllocGlobal), limit: u32, bytes: &[u8]) -> Standing {
     let mut link = link(rt, SenderSettleMode::Mixed, limit, 1);
     let payload = payload_of(rt, bytes);
@@ -282,7 +282,7 @@ fn sent_at(rt: &(impl Abort + AllocGlobal), limit: u32, bytes: &[u8]) -> Standin
     after
 }
 
-// At 25 the empty payload goes in one frame, and one byte has no room: nothing changes then.
+// At 25 the empty payload is sent in one frame, and one byte has no room: then nothing changes.
 #[test]
 fn frames_have_room_or_nothing_changes(rt: HostRuntime) {
     let refused = Standing {
@@ -313,7 +313,7 @@ fn frames_have_room_or_nothing_changes(rt: HostRuntime) {
     }
 }
 
-// The handles of the first frame of a send that went.
+// The handles of the first frame of a send that succeeded.
 fn first_handles(sending: &Result<Sending, LinkStateError>) -> Option<(InputHandle, Handle)> {
     handles_in(frames_of(sending)?.first()?)
 }
@@ -336,7 +336,7 @@ fn handles_are_kept_apart(rt: HostRuntime) {
     assert_eq!(rt; handles_at_9(&rt), Some((InputHandle(0), Handle(9))));
 }
 
-// Whether a delivery of this mode and flag goes out settled, and whether it is pending then.
+// Whether a delivery of this mode and flag is sent settled, and whether it is pending then.
 fn settled_at(
     rt: &(impl Abort + AllocGlobal),
     mode: SenderSettleMode,
@@ -394,7 +394,7 @@ fn told_by_transfer(sent: Result<(Settlement, Vec<LinkFrame>), LinkStateError>) 
     told
 }
 
-// Sends one byte with a transfer; answers what is told.
+// Sends one byte with a transfer, and returns the result.
 fn send_with(
     rt: &(impl Abort + AllocGlobal),
     link: &mut SenderLink<Target>,
@@ -406,7 +406,7 @@ fn send_with(
     told
 }
 
-// Whether the delivery with count 1 is kept with format 3 and no state.
+// Whether the delivery with count 1 has an entry with format 3 and no state.
 fn is_plainly_kept(rt: &(impl Abort + AllocGlobal), link: &SenderLink<Target>) -> bool {
     let tag = count_tag(rt, 1);
     let entry = link.unsettled().get(&tag);
@@ -415,8 +415,8 @@ fn is_plainly_kept(rt: &(impl Abort + AllocGlobal), link: &SenderLink<Target>) -
     is_plain
 }
 
-// What an unsettled transfer, the same again and a settled one tell, whether the first is plainly
-// kept, and how many deliveries are pending at last.
+// The results of an unsettled transfer, the same again and a settled one, whether the first has a plain
+// entry, and how many deliveries are pending at last.
 fn sent_thrice(rt: &(impl Abort + AllocGlobal)) -> ([Told; 3], bool, usize) {
     let mut link = link(rt, SenderSettleMode::Mixed, 64, 0);
     let first = send_with(rt, &mut link, transfer(rt, 1, false));
@@ -449,7 +449,7 @@ fn shown_with(rt: &(impl Abort + AllocGlobal), transfer: Transfer) -> Option<[Op
     shown
 }
 
-// The one frame of a transfer says what the transfer does.
+// The one frame of a transfer has the fields of the transfer.
 #[test]
 fn frames_go_with_their_transfer(rt: HostRuntime) {
     let only = Shown {

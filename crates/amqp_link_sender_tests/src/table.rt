@@ -2,17 +2,17 @@
 use crate::led::{lead_to, put};
 use crate::samples::{coming, parts};
 use amqp_link_core::endpoint::{LinkDetach, LinkExt};
-use amqp_link_samples::table::{
+use amqp_link_sender::SenderLink;
+use amqp_link_state::state::LinkState;
+use amqp_link_tests_support::table::{
     Call, STATES, answered, attached, detach, is_illegal, is_illegal_outcome, left, let_go, taken,
     wanted,
 };
-use amqp_link_sender::SenderLink;
-use amqp_link_state::state::LinkState;
 use amqp_link_types::types::{OutputHandle, Role, SenderSettleMode, Target};
 use std::process::Abort;
 
-// The link "l" with output handle 0, led to this state. A delivery is pending, which an attach names only
-// where the limit is more than 30.
+// The link "l" with output handle 0, brought to this state. A delivery is pending, which an attach states
+// only if the limit is more than 30.
 fn link_in(rt: &(impl Abort + AllocGlobal), state: LinkState, limit: u32) -> SenderLink<Target> {
     let link = SenderLink::new(rt.alloc(), parts(rt, SenderSettleMode::Mixed, 512));
     let mut link = link.with_output_handle(OutputHandle(0));
@@ -134,8 +134,7 @@ fn detach_without_handle_moves_the_state(rt: HostRuntime) {
     assert_eq!(rt; let_go_without_handle(&rt), (false, LinkState::DetachSent));
 }
 
-// Whether these are refused for the state, by its name: a detach without output handle, and a
-// closing reply to it.
+// Whether a detach without output handle, and then a closing reply, are refused with `IllegalState`.
 fn refused_without_handle(rt: &(impl Abort + AllocGlobal)) -> (bool, bool) {
     let mut link = link_in(rt, LinkState::Attached, 512);
     *link.output_handle_mut() = None;

@@ -2,9 +2,9 @@
 use crate::attaching::refused_by;
 use crate::samples::{attach_of, fields, parts, text};
 use amqp_link_core::endpoint::{LinkAttach, LinkExt};
-use amqp_link_samples::refusals::{Asked, Refusal, asked_by, at_sender};
 use amqp_link_sender::SenderLink;
 use amqp_link_state::state::LinkState;
+use amqp_link_tests_support::refusals::{Asked, Refusal, asked_by, at_sender};
 use amqp_link_types::types::{
     Attach, OutputHandle, ReceiverSettleMode, Role, SenderAttachError, SenderSettleMode, Source,
     Target, TargetArchetype,
@@ -97,7 +97,7 @@ fn termini_are_verified_where_asked_for(rt: HostRuntime) {
     }
 }
 
-// What is answered of an error, and the state then.
+// The result of handling an error, and the state then.
 pub(crate) fn handled(
     rt: &(impl Abort + AllocGlobal),
     link: &mut SenderLink<Target>,
@@ -109,7 +109,7 @@ pub(crate) fn handled(
     told
 }
 
-// A link that was refused its target's address closes with a condition, and only once.
+// A link that refused the target's address closes with a condition, and only once.
 #[test]
 fn refused_link_is_closed_once(rt: HostRuntime) {
     let mut link = attaching(&rt, true);
@@ -139,7 +139,7 @@ fn refused_link_is_closed_once(rt: HostRuntime) {
     assert_eq!(rt; second, refused);
 }
 
-// What is answered at a link that is attached.
+// The result of handling an error at a link that is attached.
 fn handled_attached(
     rt: &(impl Abort + AllocGlobal),
     error: SenderAttachError,

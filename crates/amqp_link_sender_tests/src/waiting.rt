@@ -1,4 +1,4 @@
-//! What waits as a payload is to be sent.
+//! What is pending at a sender when a payload is to be sent.
 use crate::samples::{attach_of, payload_of, text};
 use crate::sending::{Told, link, told_by};
 use amqp_link_core::endpoint::LinkExt;
@@ -10,7 +10,7 @@ use amqp_link_types::types::{
 };
 use std::process::Abort;
 
-// What a send at an attached link with credit 1 comes to while this waits.
+// The result of a send at an attached link with credit 1 while this is pending, and what the link shows.
 #[derive(Clone, Copy, Debug, PartialEq, Eq)]
 struct Left {
     told: Told,
@@ -49,7 +49,7 @@ fn error(rt: &(impl Abort + AllocGlobal)) -> Error {
     }
 }
 
-// A link that has let go.
+// What a link shows that was detached.
 fn gone(told: Told, state: LinkState) -> Left {
     Left {
         told,
@@ -59,7 +59,7 @@ fn gone(told: Told, state: LinkState) -> Left {
     }
 }
 
-// A link of which nothing has changed.
+// What a link shows that did not change.
 fn kept(told: Told) -> Left {
     Left {
         told,

@@ -3,7 +3,7 @@ use Rattle.std.specs.Prelude.{ℕ, ◌+◌, ◌-◌, ◌^◌, min, Bool, true, n
 use Rattle.amqp_link_types.specs.declared.types.transfer.Transfer.{Transfer}
 use Rattle.amqp_link_types.specs.Size.{transfer_len}
 
--- the transfer at its longest: more follows it, and the session gives it the longest delivery id
+-- the transfer at its longest: more = true, and the longest delivery id that a session can give
 abbrev pub longest : Transfer → Transfer
 longest t = record t { delivery_id = Some (2 ^ 32 - 1); more = true }
 
@@ -11,10 +11,11 @@ longest t = record t { delivery_id = Some (2 ^ 32 - 1); more = true }
 abbrev pub worst : Transfer → ℕ
 worst t = transfer_len (longest t)
 
--- four bytes of frame header, the transfer, and a byte of a payload that is not empty fit the frame
+-- the frame header of four bytes and the transfer fit the frame, and one byte more if the payload is not
+-- empty
 abbrev pub has_room : Transfer → ℕ → List ℕ → Bool
 has_room t frame payload = nat_le (4 + worst t + min 1 (length payload)) frame
 
--- the payload bytes for which a frame has room
+-- the payload limit: the payload bytes for which a frame has room
 abbrev pub payload_limit : Transfer → ℕ → ℕ
 payload_limit t frame = frame - 4 - worst t

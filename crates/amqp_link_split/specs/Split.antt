@@ -12,11 +12,11 @@ pub record IsSplit (P : List ℕ) (m : ℕ) (pieces : List (List ℕ)) : Type 0 
   pub filled : (i : ℕ) → i + 1 ≡ length pieces → 0 < length P → 0 < length (slice_index_or pieces i [])
   pub one : length P ≡ 0 → length pieces ≡ 1
 
--- some pieces of at most m bytes that join to P
+-- pieces of at most m bytes each, at least one, that joined are P
 abbrev pub ArePiecesOf : List ℕ → ℕ → List (List ℕ) → Type 0
 ArePiecesOf P m pieces = (1 ≤ length pieces) × (concat pieces ≡ P) × All (λ piece. length piece ≤ m) pieces
 
--- n is the least number of pieces of at most m bytes that join to P
+-- n is the least number of such pieces
 pub record IsFewestPieces (P : List ℕ) (m n : ℕ) : Type 0 where
   pub reached : (pieces : List (List ℕ)) × (ArePiecesOf P m pieces × (length pieces ≡ n))
   pub fewest : (pieces : List (List ℕ)) → ArePiecesOf P m pieces → n ≤ length pieces

@@ -6,7 +6,7 @@ ghost use Rattle.amqp_link_split.specs.Room.{worst as worst_length, has_room, pa
 use amqp_link_types::types::{Payload, Transfer};
 use amqp_link_values::length::EncodedLen;
 
-// The length of a transfer at its longest. The transfer is as it was.
+// The length of a transfer at its longest. The transfer stays as it is.
 fn worst(transfer: &mut Transfer) -> Option<u64>
     ensures value { IsU64Of (worst_length transfer.old) result }
     ensures same { transfer.new ≡ transfer.old }
@@ -21,8 +21,8 @@ fn worst(transfer: &mut Transfer) -> Option<u64>
     length
 }
 
-// The length of a transfer at its longest, with a tag of these bytes in place of its own. The
-// transfer is as it was.
+// The length of a transfer at its longest, with a tag of these bytes in place of its own. The transfer stays
+// as it is.
 fn worst_with_tag(transfer: &mut Transfer, tag: &[u8]) -> Option<u64>
     ensures value { IsU64Of (worst_length (record transfer.old { delivery_tag = Some tag.now })) result }
     ensures same { transfer.new ≡ transfer.old }
@@ -37,8 +37,7 @@ fn worst_with_tag(transfer: &mut Transfer, tag: &[u8]) -> Option<u64>
     length
 }
 
-// The payload bytes for which a frame has room beside this transfer, where there is room. Does not
-// allocate.
+// The payload limit beside this transfer: none if the frame has no room. Does not allocate.
 pub fn payload_limit(
     transfer: &mut Transfer,
     max_frame_size: u32,
@@ -72,7 +71,7 @@ pub fn payload_limit_with_tag(
     limit_beside(worst_with_tag(transfer, tag)?, max_frame_size, payload)
 }
 
-// The payload bytes for which a frame has room beside a transfer of this length.
+// The payload limit beside a transfer of this length: none if the frame has no room.
 fn limit_beside(transfer_len: u64, max_frame_size: u32, payload: &Payload) -> Option<usize>
     ensures room { IfSome result (λ limit.
         nat_le (4 + transfer_len + min 1 (length payload.now)) max_frame_size ≡ true) }

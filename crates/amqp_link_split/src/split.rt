@@ -7,7 +7,7 @@ use amqp_link_types::frame::{LinkFrame, LinkTransfer, continuation_of};
 use amqp_link_types::types::{InputHandle, Payload, Transfer};
 use std::alloc::{AllocError, Global};
 
-// The first frame of a delivery, with the transfer as it is but for its `more`.
+// The first frame of a delivery: the transfer as it is, with this `more`.
 fn first_frame(
     input_handle: InputHandle,
     mut performative: Transfer,

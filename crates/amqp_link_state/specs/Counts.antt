@@ -1,5 +1,5 @@
--- Delivery counts, which wrap, and link credit (OASIS AMQP 1.0 core, 2.6.7). A count is a serial
--- number of 32 bits (RFC 1982).
+-- Delivery-counts, which wrap, and link-credit (OASIS AMQP 1.0 core, 2.6.7). A count is a serial number of 32
+-- bits (RFC 1982).
 use Rattle.std.specs.Prelude.{ℕ, ◌+◌, ◌-◌, ◌%◌, ◌^◌, ℤ, pos, ◌+ℤ◌, ◌-ℤ◌, nat_lt, if◌then◌else◌}
 use Rattle.std.specs.Prelude.{Bool, true, false, ◌||◌, Option, Some, None, unwrap_or}
 use Rattle.std.specs.Int.{w32, saturate_unsigned}
@@ -8,22 +8,22 @@ use Rattle.amqp_link_state.specs.declared.state.LinkFlowStateInner.{LinkFlowStat
 use Rattle.amqp_link_types.specs.declared.types.definitions.OutputHandle.{OutputHandle}
 use Rattle.amqp_link_types.specs.declared.types.performatives.LinkFlow.{LinkFlow}
 
--- the one number from -2^31 to 2^31 - 1 that is a - b but for a multiple of 2^32
+-- the one number from -2^31 to 2^31 - 1 that is a - b modulo 2^32
 abbrev pub sdiff : ℕ → ℕ → ℤ
 sdiff a b =
     let d = (a + (2 ^ 32 - b % 2 ^ 32)) % 2 ^ 32 in
     if nat_lt d (2 ^ 31) then pos d else pos d -ℤ pos (2 ^ 32)
 
--- a sender's credit at its own count, where a receiver at this count grants so much: what is under
--- way is taken off, and the rest is held between 0 and 2^32 - 1
+-- a sender's link-credit at its own count, if a receiver at this count grants this much: count + grant - own,
+-- held between 0 and 2^32 - 1
 abbrev pub granted : ℕ → ℕ → ℕ → ℕ
 granted count grant own = saturate_unsigned w32 (pos grant +ℤ sdiff count own)
 
--- the count up to which the credit allows deliveries, which a spent credit does not move
+-- delivery-count + link-credit, which spending a credit does not change
 abbrev pub count_limit : LinkFlowStateInner → ℕ
 count_limit flow = (flow.delivery_count + flow.link_credit) % 2 ^ 32
 
--- n credits went to the count
+-- n credits were spent: taken from the credit and added to the count
 abbrev pub after_consuming : ℕ → LinkFlowStateInner → LinkFlowStateInner
 after_consuming n flow = record flow {
   delivery_count = (flow.delivery_count + n) % 2 ^ 32;
@@ -32,7 +32,7 @@ after_consuming n flow = record flow {
 
 -- ---- flows
 
--- how an end stands, as a flow at its handle, without properties
+-- the flow state as a flow with this handle, without properties
 abbrev pub flow_of : LinkFlowStateInner → OutputHandle → Bool → LinkFlow
 flow_of own handle echo = record {
   handle = record { 0 = handle.0 };
@@ -44,16 +44,16 @@ flow_of own handle echo = record {
   properties = None;
 }
 
--- the receiver's count, by its flow: where it has seen no delivery, the initial one
+-- the receiver's delivery-count by its flow, or the initial one if the flow has none
 abbrev pub count_in : LinkFlow → LinkFlowStateInner → ℕ
 count_in flow own = unwrap_or flow.delivery_count own.initial_delivery_count
 
--- a sender's credit once a receiver's flow came, before any drain
+-- a sender's link-credit after a receiver's flow, before any drain
 abbrev pub credit_after : LinkFlow → LinkFlowStateInner → ℕ
 credit_after flow own = option_map_or
     (λ credit. granted (count_in flow own) credit own.delivery_count) flow.link_credit own.link_credit
 
--- a sender once that flow came: a drain takes all credit to the count
+-- a sender after that flow: a drain adds all credit to the count
 abbrev pub sender_after : LinkFlow → LinkFlowStateInner → LinkFlowStateInner
 sender_after flow own =
     if flow.drain
@@ -64,12 +64,12 @@ sender_after flow own =
     }
     else record own { link_credit = credit_after flow own; drain = false }
 
--- a drain is always answered
+-- the reply to that flow: there is always one to a drain
 abbrev pub sender_reply : LinkFlow → LinkFlowStateInner → OutputHandle → Option LinkFlow
 sender_reply flow own handle =
     if flow.drain || flow.echo then Some (flow_of (sender_after flow own) handle false) else None
 
--- a receiver once a sender's flow came: it keeps its credit and its drain
+-- a receiver after a sender's flow: it keeps its credit and its drain flag
 abbrev pub receiver_after : LinkFlow → LinkFlowStateInner → LinkFlowStateInner
 receiver_after flow own = record own {
   delivery_count = unwrap_or flow.delivery_count own.delivery_count;
@@ -87,8 +87,7 @@ with_stated credit drain own = record own {
   drain = unwrap_or drain own.drain;
 }
 
--- what a receiver states: nothing of what waits at the sender, and its properties where
--- they are to be included
+-- the flow that a receiver sends: without available, and with its properties if they are to be included
 abbrev pub stated_flow : LinkFlowStateInner → OutputHandle → Bool → Bool → LinkFlow
 stated_flow own handle echo include_properties = record (flow_of own handle echo) {
   available = None;

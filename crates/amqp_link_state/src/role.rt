@@ -1,4 +1,4 @@
-//! The two ends of a link as types (2.8.1).
+//! The two roles of a link endpoint as types (2.8.1).
 ghost use Rattle.std.specs.Prelude.{◌≡◌};
 
 use amqp_link_types::types::Role;

@@ -1,7 +1,7 @@
 //! The state and the flow state of a link endpoint (2.6.7).
 //!
-//! Only the receiver grants credit; each delivery takes one at both ends. Counts are serial numbers
-//! that wrap, so no line here compares two of them by `<`.
+//! Only the receiver grants credit; each delivery takes one at both endpoints. Counts are serial numbers that
+//! wrap, so no line here compares two of them by `<`.
 ghost use Rattle.std.specs.Prelude.{◌≡◌};
 ghost use Rattle.std.specs.Borrow.{Lends, sem};
 ghost use Rattle.std.specs.contracts.option.Option.{the_row as option_row};
@@ -15,12 +15,12 @@ use amqp_link_types::types::{Fields, SequenceNo};
 use std::marker::{Model, PhantomData};
 use thiserror::Error;
 
-/// The credit that a receiver grants where its user says nothing else.
+/// The link-credit that a receiver grants if its user does not choose another.
 pub const DEFAULT_CREDIT: u32 = 200;
 
-/// Where a link endpoint stands between attach and detach (2.6.3 to 2.6.6).
+/// The state of a link endpoint between attach and detach (2.6.3 to 2.6.6).
 ///
-/// An end moves as it sends an attach or one comes, and as it sends a detach or one comes:
+/// The state moves when an attach is sent or arrives, and when a detach is sent or arrives:
 ///
 /// ```text
 ///                         attach sent                      attach comes
@@ -39,21 +39,21 @@ pub const DEFAULT_CREDIT: u32 = 200;
 ///     ---> Detached, or Closed where that detach closes.
 /// ```
 ///
-/// An attach whose unsettled map is incomplete leads to the state of the same name with
-/// `Incomplete` in front, and from there the exchange ends in `IncompleteAttachExchanged`; so does
-/// it where the second attach is incomplete.
+/// An attach whose unsettled map is incomplete leads to the state of the same name with `Incomplete` in
+/// front, and from there the exchange ends in `IncompleteAttachExchanged`; so does it if the second attach is
+/// incomplete.
 #[derive(Clone, Copy, Debug, Default, PartialEq, Eq)]
 pub enum LinkState {
-    /// Neither end has sent an attach.
+    /// Neither endpoint has sent an attach.
     #[default]
     Unattached,
     /// An attach was sent.
     AttachSent,
     /// An attach was sent whose unsettled map is incomplete.
     IncompleteAttachSent,
-    /// An attach came.
+    /// An attach arrived.
     AttachReceived,
-    /// An attach came whose unsettled map is incomplete.
+    /// An attach arrived whose unsettled map is incomplete.
     IncompleteAttachReceived,
     /// Both attaches were exchanged.
     Attached,
@@ -69,14 +69,14 @@ pub enum LinkState {
     Closed,
 }
 
-/// The counts, the credit and the flags of one end of a link (2.6.7).
+/// The delivery-counts, the link-credit and the flags of one link endpoint (2.6.7).
 #[derive(Debug, Default, Drop)]
 pub struct LinkFlowStateInner {
-    /// The sender's count as the link was attached.
+    /// The sender's delivery-count when the link was attached.
     pub initial_delivery_count: SequenceNo,
-    /// How many deliveries were sent, from the initial count on; it wraps.
+    /// The delivery-count: the initial one, and one more for each delivery sent; it wraps.
     pub delivery_count: SequenceNo,
-    /// How many more deliveries may be sent.
+    /// The link-credit: how many more deliveries may be sent.
     pub link_credit: u32,
     /// How many deliveries wait at the sender.
     pub available: u32,
@@ -86,14 +86,14 @@ pub struct LinkFlowStateInner {
     pub properties: Option<Fields>,
 }
 
-/// There is less credit than was to be spent. Nothing was: try again after the receiver's next flow.
+/// There is less credit than was to be spent, and none was spent. Try again after the receiver's next flow.
 #[derive(Clone, Copy, Debug, PartialEq, Eq, Error)]
 #[error("there is less link credit than was to be spent")]
 pub struct InsufficientCredit;
 
-/// The flow state of one end, whose role is `R`.
+/// The flow state of one link endpoint, whose role is `R`.
 ///
-/// A contract sees the counts, the credit and the flags.
+/// A contract sees the delivery-counts, the link-credit and the flags.
 #[derive(Debug, Drop)]
 pub struct LinkFlowState<R> {
     inner: LinkFlowStateInner,
@@ -113,21 +113,21 @@ impl<R> Model for LinkFlowState<R> {
 }
 
 impl<R> LinkFlowState<R> {
-    /// The sender's count as the link was attached.
+    /// The sender's delivery-count when the link was attached.
     pub fn initial_delivery_count(&self) -> SequenceNo
         ensures { result ≡ self.now.initial_delivery_count }
     {
         self.inner.initial_delivery_count
     }
 
-    /// How many deliveries were sent, from the initial count on; it wraps.
+    /// The delivery-count: the initial one, and one more for each delivery sent; it wraps.
     pub fn delivery_count(&self) -> SequenceNo
         ensures { result ≡ self.now.delivery_count }
     {
         self.inner.delivery_count
     }
 
-    /// How many more deliveries may be sent.
+    /// The link-credit: how many more deliveries may be sent.
     pub fn link_credit(&self) -> u32
         ensures { result ≡ self.now.link_credit }
     {
@@ -148,7 +148,7 @@ impl<R> LinkFlowState<R> {
         &self.inner.properties
     }
 
-    /// Further properties of the link, to be written. Takes no memory.
+    /// Further properties of the link, to be written. Does not allocate.
     pub fn properties_mut(&mut self) -> &mut Option<Fields>
         ensures value { result.now ≡ self.old.properties }
         ensures* lends { sem 𝓛 (Lends (flow_row R.row) (option_row fields_row) self.entry result
@@ -157,7 +157,7 @@ impl<R> LinkFlowState<R> {
         &mut self.inner.properties
     }
 
-    /// Makes the initial count what `f` gives for it. Takes no memory.
+    /// Sets the initial delivery-count to what `f` returns for it. Does not allocate.
     pub fn initial_delivery_count_mut<F: FnOnce(SequenceNo) -> SequenceNo>(&mut self, f: F)
         requires { F.pre f self.old.initial_delivery_count }
         ensures count { F.post f self.old.initial_delivery_count self.new.initial_delivery_count }
@@ -167,7 +167,7 @@ impl<R> LinkFlowState<R> {
         flow.initial_delivery_count = f(flow.initial_delivery_count);
     }
 
-    /// Makes the count what `f` gives for it. Takes no memory.
+    /// Sets the delivery-count to what `f` returns for it. Does not allocate.
     pub fn delivery_count_mut<F: FnOnce(SequenceNo) -> SequenceNo>(&mut self, f: F)
         requires { F.pre f self.old.delivery_count }
         ensures count { F.post f self.old.delivery_count self.new.delivery_count }
@@ -179,7 +179,7 @@ impl<R> LinkFlowState<R> {
 }
 
 impl LinkFlowState<ReceiverMarker> {
-    /// A receiver's flow state. Takes no memory.
+    /// A receiver's flow state. Does not allocate.
     pub fn receiver(inner: LinkFlowStateInner) -> Self
         ensures { result ≡ inner }
     {
@@ -191,7 +191,7 @@ impl LinkFlowState<ReceiverMarker> {
 }
 
 impl LinkFlowState<SenderMarker> {
-    /// A sender's flow state. Takes no memory.
+    /// A sender's flow state. Does not allocate.
     pub fn sender(inner: LinkFlowStateInner) -> Self
         ensures { result ≡ inner }
     {

@@ -1,5 +1,11 @@
-//! What is sent: a copy with ample memory.
-use amqp_link::{Message, Payload, Sendable};
+//! What an application sends: a copy with ample memory, and what is built by default; and what it makes of an outcome.
+use amqp_link::delivery::{
+    Builder, FromDeliveryFailure, FromDeliveryState, FromPreSettled, RecvError, SendError,
+    SendResult, outcome_of,
+};
+use amqp_link::errors::{LinkStateError, SessionStopReason};
+use amqp_link::types::{Message, Outcome};
+use amqp_link::{DeliveryState, Payload, Sendable};
 use std::alloc::{AllocError, Global};
 
 // A body that can be copied.
@@ -29,4 +35,69 @@ fn a_copy_has_all_fields(rt: HostRuntime) {
     assert_eq!(rt; copy.message.preamble.as_slice(), [1].as_slice());
     assert_eq!(rt; copy.message.footer.as_slice(), [3].as_slice());
     drop(copy);
+}
+
+#[test]
+fn built_by_default_has_format_0(rt: HostRuntime) {
+    let message = message(rt.alloc()).expect(&rt, "memory");
+    let built = Builder::default().message(message).build();
+    assert_eq!(rt; (built.message_format, built.settled), (0, None));
+    assert_eq!(rt; built.message.body, Number(2));
+    drop(built);
+}
+
+// What is seen of a result.
+#[derive(Clone, Copy, Debug, PartialEq, Eq)]
+enum Seen {
+    Accepted,
+    Released,
+    Stateless,
+    NotTerminal,
+    IllegalState,
+    Stopped,
+    Other,
+}
+
+fn seen_of(outcome: SendResult) -> Seen {
+    let seen = match &outcome {
+        Ok(Outcome::Accepted) => Seen::Accepted,
+        Ok(Outcome::Released) => Seen::Released,
+        Err(SendError::IllegalDeliveryState) => Seen::Stateless,
+        Err(SendError::NonTerminalDeliveryState) => Seen::NotTerminal,
+        Err(SendError::LinkStateError(LinkStateError::IllegalState)) => Seen::IllegalState,
+        Err(SendError::LinkStateError(LinkStateError::SessionStopped(_))) => Seen::Stopped,
+        _ => Seen::Other,
+    };
+    drop(outcome);
+    seen
+}
+
+#[test]
+fn each_state_has_its_result(rt: HostRuntime) {
+    assert_eq!(rt; seen_of(SendResult::from_settled()), Seen::Accepted);
+    assert_eq!(rt; seen_of(SendResult::from_none()), Seen::Stateless);
+    let released = SendResult::from_delivery_state(DeliveryState::Released);
+    assert_eq!(rt; seen_of(released), Seen::Released);
+    let received = SendResult::from_delivery_state(DeliveryState::Received {
+        section_number: 0,
+        section_offset: 3,
+    });
+    assert_eq!(rt; seen_of(received), Seen::NotTerminal);
+    assert_eq!(rt;
+        seen_of(outcome_of(Ok(Some(DeliveryState::Accepted)))),
+        Seen::Accepted
+    );
+    assert_eq!(rt; seen_of(outcome_of(Ok(None))), Seen::Stateless);
+}
+
+#[test]
+fn each_failure_has_its_result(rt: HostRuntime) {
+    assert_eq!(rt;
+        seen_of(SendResult::from_oneshot_recv_error(RecvError)),
+        Seen::IllegalState
+    );
+    let stopped = SendResult::from_session_stop_reason(SessionStopReason::Ended);
+    assert_eq!(rt; seen_of(stopped), Seen::Stopped);
+    let closed = outcome_of(Err(LinkStateError::RemoteClosed));
+    assert_eq!(rt; seen_of(closed), Seen::Other);
 }

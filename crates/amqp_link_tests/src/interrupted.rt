@@ -1,9 +1,8 @@
-//! The calls of a script one by one, also if a growth is refused, whichever it is. Run by hand with
-//! `rt try --test --fail-alloc N`.
+//! The calls of a script one by one, also if one allocation is refused, whichever it is. Run by hand with `rt
+//! try --test --fail-alloc N`.
 use crate::script::{CUT_OFF, Call, RESUMED, SENT_AGAIN, Sample, Seen, TWELVE, new_sample};
-use amqp_link::{
-    DeliveryState, DeliveryTag, Fate, LinkExt, LinkStateError, Pair, PairError, Whole,
-};
+use amqp_link::errors::LinkStateError;
+use amqp_link::{DeliveryState, DeliveryTag, Fate, LinkExt, Pair, PairError, Whole};
 use std::process::Abort;
 
 fn arrive(pair: &mut Pair, id: u32) -> Result<Seen, PairError> {
@@ -161,8 +160,11 @@ fn refused_growth_resumes_all_the_same(rt: HostRuntime) {
     let mut pair = pair.expect(&rt, "memory");
     expect_seen(&rt, &mut pair, &sample, RESUMED.as_slice());
     let left = standing_of(&pair, &sample.tag);
+    let held = pair.held(&sample.tag).expect(&rt, "it has arrived");
+    let id = held.performative().delivery_id;
     drop(pair);
     drop(sample);
+    assert_eq!(rt; id, Some(8), "the id of the transfer that resumed it");
     assert_eq!(rt; left.held, Some(12));
     assert_eq!(rt; left.fates[1], Shown::Pending);
 }

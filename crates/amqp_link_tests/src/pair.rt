@@ -1,5 +1,6 @@
 //! Worked values of a pair.
-use amqp_link::{Arrived, DeliveryTag, Pair, PairError, Payload, Sent};
+use amqp_link::types::DataBody;
+use amqp_link::{Arrived, DeliveryTag, LinkExt, Pair, PairError, Payload, Sent};
 use std::alloc::{AllocError, Global};
 
 const TWELVE: [u8; 12] = [1, 2, 3, 4, 5, 6, 7, 8, 9, 10, 11, 12];
@@ -60,6 +61,27 @@ fn payload_comes_whole(rt: HostRuntime) {
     assert_eq!(rt; held.performative().delivery_id, Some(7));
     assert_eq!(rt; held.pieces().len(), 3);
     assert_eq!(rt; held.pieces()[2].as_slice(), [11, 12].as_slice());
+    drop((pair, bytes));
+    drop(first);
+}
+
+// A message that cannot be decoded costs its credit, counts as handed out, and is settled.
+#[test]
+fn undecoded_delivery_is_settled(rt: HostRuntime) {
+    let alloc = rt.alloc();
+    let mut pair = Pair::new(alloc, 0).expect(&rt, "memory");
+    let bytes = Payload::copy_from_slice(alloc, &TWELVE).expect(&rt, "memory");
+    let first = tag(alloc, [0, 0, 0, 0]).expect(&rt, "memory");
+    assert_eq!(rt; pair.attach(64), Ok(0));
+    assert_eq!(rt; pair.grant(1), Ok(1));
+    assert_eq!(rt; frames(pair.send(&bytes)), Ok(1));
+    assert_eq!(rt; place(pair.arrive(7)), Ok((0, 12, true)));
+    let decoded = pair.hand_out::<DataBody>(&first).err();
+    assert_eq!(rt; decoded, Some(PairError::Decode));
+    assert_eq!(rt; pair.receiver().flow_state().link_credit(), 0);
+    let again = pair.hand_out::<DataBody>(&first).err();
+    assert_eq!(rt; again, Some(PairError::AlreadyHandedOut));
+    assert_eq!(rt; pair.settle(&first), Ok(()));
     drop((pair, bytes));
     drop(first);
 }

@@ -23,12 +23,12 @@ pub(crate) enum Call {
 // What is seen of an answer.
 #[derive(Clone, Copy, Debug, PartialEq, Eq)]
 pub(crate) enum Seen {
-    /// How many deliveries are to be resumed, or how many transfers go out.
+    /// How many deliveries are to be resumed, or how many transfers are sent.
     Count(usize),
     Credit(u32),
     /// Where what is held ends, and whether the delivery is whole.
     Place(u32, u64, bool),
-    /// How many transfers go out, and whether the delivery is resumed.
+    /// How many transfers are sent, and whether the delivery is resumed.
     Resumed(usize, bool),
     /// Whether the bytes that are handed out are those that were sent.
     HandedOut(bool),

@@ -1,5 +1,4 @@
--- Complete deliveries, as those who take them see them, and such as have ended (OASIS AMQP 1.0
--- core, 2.6.12).
+-- Complete deliveries as contracts see them, and outcomes (OASIS AMQP 1.0 core, 2.6.12).
 use Rattle.std.specs.Prelude.{ℕ, List, Option, Result}
 use Rattle.amqp_link_types.specs.declared.types.delivery_state.DeliveryState.{DeliveryState}
 use Rattle.amqp_link_types.specs.declared.types.errors.LinkStateError.{LinkStateError}
@@ -21,6 +20,6 @@ pub record Delivered (T : Type 0) : Type 0 where
   pub message_format : Option ℕ
   pub message : Message T
 
--- the tag of a delivery that a call ended, and what became of it
+-- the tag of a delivery that a call has resolved, and its outcome
 abbrev pub Ended : Type 0
 Ended = Tag × Result (Option DeliveryState) LinkStateError

@@ -10,7 +10,7 @@ abbrev pub is_terminal : DeliveryState → Bool
 is_terminal (state.Received number offset) = false
 is_terminal _ = true
 
--- a state that carries an error or annotations
+-- whether a state carries an error or annotations
 abbrev pub carries_more : DeliveryState → Bool
 carries_more (state.Rejected error) = is_some error
 carries_more (state.Modified failed undeliverable annotations) = is_some annotations

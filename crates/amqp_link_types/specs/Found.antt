@@ -1,4 +1,4 @@
--- What a search for a tag in a list of pairs tells.
+-- The result of a search for a tag in a list of pairs.
 use Rattle.std.specs.Prelude.{◌≡◌, ℕ, ◌<◌, [], ◌∷◌, ◌++◌, length, slice_get, slice_set, Some, None, slice_index_or, swap_remove}
 use Rattle.amqp_link_types.specs.Entries.{Tag, Entries, entry_at, with_entry, without_entry, changed_at, IsMap}
 

@@ -13,14 +13,14 @@ link_transfer (FirstTransfer t) = Some t
 link_transfer (TransferContinuation t) = Some t
 link_transfer _ = None
 
--- the payload of a frame: nothing where it is no transfer
+-- the payload of a frame: none if it is no transfer
 abbrev pub payload_of : LinkFrame → List ℕ
 payload_of (RemoteTransfer t) = t.payload
 payload_of (FirstTransfer t) = t.payload
 payload_of (TransferContinuation t) = t.payload
 payload_of _ = []
 
--- a transfer that says nothing
+-- a transfer without any field
 abbrev pub silent : Transfer
 silent = record {
   handle = record { 0 = 0 };
@@ -36,14 +36,14 @@ silent = record {
   batchable = false;
 }
 
--- the fields of a frame's transfer; a frame that is no transfer says nothing
+-- the fields of a frame's transfer: none if it is no transfer
 abbrev pub performative_of : LinkFrame → Transfer
 performative_of (RemoteTransfer t) = t.performative
 performative_of (FirstTransfer t) = t.performative
 performative_of (TransferContinuation t) = t.performative
 performative_of _ = silent
 
--- without the five fields that only a first transfer has to state
+-- without the five fields that only a first transfer has to carry
 abbrev pub cleared : Transfer → Transfer
 cleared t = record t {
   delivery_id = None;
@@ -53,8 +53,8 @@ cleared t = record t {
   rcv_settle_mode = None;
 }
 
--- Of n frames for the transfer t at a link's input handle, the frame at place i with this payload:
--- the first has all fields, the others are cleared, and more follows all but the last.
+-- Of n frames for the transfer t at a link's input handle, the frame at place i with this payload: the first
+-- has all fields, the others are cleared, and all but the last have more = true.
 abbrev pub frame_of : InputHandle → Transfer → ℕ → ℕ → List ℕ → LinkFrame
 frame_of handle t i n payload =
     let c = cleared t in

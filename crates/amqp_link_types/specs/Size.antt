@@ -29,10 +29,10 @@ use Rattle.amqp_link_types.specs.declared.types.terminus.TerminusExpiryPolicy.{T
 use Rattle.amqp_link_types.specs.declared.types.terminus.TerminusExpiryPolicy.TheVariants as expiry
 use Rattle.amqp_link_types.specs.declared.types.transfer.Transfer.{Transfer}
 
--- ---- described lists, by the lengths of their fields: None is a field that is absent, or that
--- ---- holds its default
+-- ---- described lists, by the lengths of their fields: None is a field that is absent, or has its
+-- ---- default
 
--- a field before others that take `rest` bytes: a null takes a byte only where something follows it
+-- a field before others that take `rest` bytes: a null takes a byte only if something follows it
 unfoldable pub before : Option ℕ → ℕ → ℕ
 before None rest = if rest == 0 then 0 else 1 + rest
 before (Some n) rest = n + rest
@@ -58,11 +58,11 @@ abbrev pub flag : Bool → Option ℕ
 flag false = None
 flag true = Some 1
 
--- a settle mode that is there is a number of 8 bits (2.8.3)
+-- a settle mode that is present is a number of 8 bits (2.8.3)
 abbrev pub mode_len : ReceiverSettleMode → ℕ
 mode_len mode = 2
 
--- which end it is, a truth value (2.8.1)
+-- the role of an endpoint, a truth value (2.8.1)
 abbrev pub role_len : Role → ℕ
 role_len role = 1
 
@@ -82,7 +82,7 @@ durable_field durable.None = None
 durable_field durable.Configuration = Some (uint_len 1)
 durable_field durable.UnsettledState = Some (uint_len 2)
 
--- when a terminus expires, by its symbol: as the session ends by default (3.5.6)
+-- when a terminus expires, by its symbol: when the session ends by default (3.5.6)
 abbrev pub expiry_field : TerminusExpiryPolicy → Option ℕ
 expiry_field expiry.LinkDetach = Some (bytes_len (codes "link-detach"))
 expiry_field expiry.SessionEnd = None
@@ -93,7 +93,7 @@ expiry_field expiry.Never = Some (bytes_len (codes "never"))
 abbrev pub timeout_field : ℕ → Option ℕ
 timeout_field seconds = if seconds == 0 then None else Some (uint_len seconds)
 
--- how messages are given out, by its symbol (3.5.7)
+-- how messages are distributed, by its symbol (3.5.7)
 abbrev pub distribution_len : DistributionMode → ℕ
 distribution_len distribution.Move = bytes_len (codes "move")
 distribution_len distribution.Copy = bytes_len (codes "copy")

@@ -1,4 +1,5 @@
-//! Deliveries: what a sender keeps of one and answers for it, and what a receiver hands out (2.6.12).
+//! Deliveries: what a sender keeps of an unsettled one, their outcomes, and what a receiver hands out
+//! (2.6.12).
 ghost use Rattle.std.specs.Prelude.{◌≡◌, Ok, Err, IfOk};
 
 pub mod complete;
@@ -10,13 +11,13 @@ pub use complete::Delivery;
 pub use info::DeliveryInfo;
 use std::alloc::AllocError;
 
-/// What became of a delivery: its state at the other end, if one was told, or why none will be.
+/// The outcome of a delivery: the peer's state, if it has stated one, or why there is none.
 pub type DeliveryOutcome = Result<Option<DeliveryState>, LinkStateError>;
 
-/// The deliveries that a call ended, and what became of each, in order.
+/// The deliveries that a call has resolved, with the outcome of each, in order.
 pub type Outcomes = Vec<(DeliveryTag, DeliveryOutcome)>;
 
-/// A copy of what became of a delivery. May allocate.
+/// A copy of an outcome. May allocate.
 pub fn copy_of_outcome(outcome: &DeliveryOutcome) -> Result<DeliveryOutcome, AllocError>
     ensures { IfOk result (λ copy. copy ≡ outcome.now) }
 {
@@ -29,16 +30,16 @@ pub fn copy_of_outcome(outcome: &DeliveryOutcome) -> Result<DeliveryOutcome, All
 /// A delivery that was sent and is not settled (2.6.12).
 #[derive(Debug, PartialEq, Eq, Drop)]
 pub struct UnsettledMessage {
-    /// The whole payload, also where only a part of it is still to be sent.
+    /// The whole payload, even if only a part of it is still to be sent.
     pub payload: Payload,
-    /// The state that is known of the delivery, if any.
+    /// The state of the delivery, if one is known.
     pub state: Option<DeliveryState>,
     /// The format of the message.
     pub message_format: MessageFormat,
 }
 
 impl UnsettledMessage {
-    /// A delivery with this payload, state and format. Takes no memory.
+    /// A delivery with this payload, state and format. Does not allocate.
     pub fn new(
         payload: Payload,
         state: Option<DeliveryState>,
@@ -53,15 +54,15 @@ impl UnsettledMessage {
         }
     }
 
-    /// What became of it where it is settled with what is known: its state, if any. Takes no memory.
+    /// The outcome of the delivery if it is settled with the state that is known, if any. Does not allocate.
     pub fn settle(self) -> DeliveryOutcome
         ensures { result ≡ Ok self.state }
     {
         Ok(self.state)
     }
 
-    /// What became of it where it is settled with this state, or with none, whatever was known
-    /// before. Takes no memory.
+    /// The outcome of the delivery if it is settled with this state, or with none, whatever state was known
+    /// before. Does not allocate.
     pub fn settle_with_state(self, state: Option<DeliveryState>) -> DeliveryOutcome
         ensures { result ≡ Ok state }
     {
@@ -69,7 +70,7 @@ impl UnsettledMessage {
         Ok(state)
     }
 
-    /// What became of it where its outcome will never be told, for this reason. Takes no memory.
+    /// The outcome of the delivery if it has failed for this reason. Does not allocate.
     pub fn fail(self, error: LinkStateError) -> DeliveryOutcome
         ensures { result ≡ Err error }
     {
@@ -81,8 +82,8 @@ impl UnsettledMessage {
 /// Whether a delivery that was sent still awaits its outcome.
 #[derive(Debug, PartialEq, Eq, Drop)]
 pub enum Settlement {
-    /// It was sent settled: nothing is kept of it.
+    /// It was sent settled: the sender keeps nothing of it.
     Settled(DeliveryTag),
-    /// It is kept under this tag until it is settled.
+    /// It is registered under this tag until it is settled.
     Unsettled(DeliveryTag),
 }

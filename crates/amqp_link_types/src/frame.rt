@@ -6,10 +6,10 @@ use crate::types::{Attach, Detach, Disposition, InputHandle, LinkFlow, Payload, 
 use amqp_link_values::copy::copy_of;
 use std::alloc::AllocError;
 
-/// A transfer with its payload, as it stands in one frame (2.7.5).
+/// A transfer with its payload, in one frame (2.7.5).
 #[derive(Debug, PartialEq, Eq, Drop)]
 pub struct LinkTransfer {
-    /// In a frame that is sent the link's input handle, in one that came the transfer's own handle.
+    /// In a frame that is sent, the link's input handle; in one that has arrived, the transfer's own handle.
     pub input_handle: InputHandle,
     /// The fields of the transfer.
     pub performative: Transfer,
@@ -20,19 +20,19 @@ pub struct LinkTransfer {
 /// A frame of a link.
 #[derive(Debug, PartialEq, Eq, Drop)]
 pub enum LinkFrame {
-    /// An end takes the link up.
+    /// An endpoint attaches to the link.
     Attach(Attach),
-    /// An end tells of its counts and credit.
+    /// An endpoint states its delivery-count and link-credit.
     Flow(LinkFlow),
-    /// A transfer that came from the other end.
+    /// A transfer that has arrived from the peer.
     RemoteTransfer(LinkTransfer),
     /// The first transfer of a delivery that is sent. The session gives it its delivery id.
     FirstTransfer(LinkTransfer),
     /// A further transfer of a delivery that is sent. It gets no delivery id.
     TransferContinuation(LinkTransfer),
-    /// An end tells what became of deliveries.
+    /// An endpoint states the state of deliveries.
     Disposition(Disposition),
-    /// An end lets the link go.
+    /// An endpoint detaches from the link.
     Detach(Detach),
 }
 
@@ -80,8 +80,8 @@ pub fn continuation_of(transfer: &Transfer) -> Result<Transfer, AllocError>
     })
 }
 
-/// Clears what only the first transfer of a delivery has to say (2.7.5): its delivery id, tag,
-/// format, settled flag and receiver settle mode. The rest stays.
+/// Clears what only the first transfer of a delivery has to carry (2.7.5): its delivery id, tag, format,
+/// settled flag and receiver settle mode. The other fields stay.
 pub fn clear_continuation_fields(transfer: &mut Transfer)
     ensures { transfer.new ≡ cleared transfer.old }
 {

@@ -1,7 +1,7 @@
 //! How many bytes a performative and its parts take, each in its shortest code (1.6 and 2.7).
 //!
-//! A described list is measured from its last field to its first: a null takes a byte only where
-//! something follows it.
+//! A described list is measured from its last field to its first: a null takes a byte only if something
+//! follows it.
 #![tactic(auto, using(crate::proofs::Sizes::sizes))]
 
 ghost use Rattle.std.specs.Prelude.{Some, option_map};

@@ -1,11 +1,11 @@
-//! What became of a delivery, by each of the calls that end it.
+//! The outcome of a delivery, by each of the calls that end it.
 mod complete;
 
 use amqp_link_types::delivery::{DeliveryOutcome, UnsettledMessage};
 use amqp_link_types::types::{DeliveryState, LinkStateError};
 use bytes::Bytes;
 
-// What is told of a delivery that ended.
+// The kind of an outcome.
 #[derive(Clone, Copy, Debug, PartialEq, Eq)]
 enum Told {
     Nothing,
@@ -27,7 +27,7 @@ fn told_by(outcome: DeliveryOutcome) -> Told {
     told
 }
 
-// A delivery that the other end has taken.
+// A delivery that the peer has accepted.
 fn accepted() -> UnsettledMessage {
     UnsettledMessage::new(Bytes::new(), Some(DeliveryState::Accepted), 0)
 }

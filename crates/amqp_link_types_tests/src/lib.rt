@@ -1,4 +1,4 @@
-//! Tests of the types, by what they make public: what no clause says of them.
+//! Tests of the types through their public interface: what no clause states.
 #![tactic(auto)]
 
 #[cfg(test)]

@@ -30,7 +30,7 @@ fn told(flow: &LinkFlow) -> Option<(u32, u32, u32, u32, bool, bool)> {
     ))
 }
 
-// What a sender's end answers to a flow of this count and credit.
+// The reply of a sender to a flow of this count and credit.
 fn answered(
     state: &mut LinkFlowState<SenderMarker>,
     delivery_count: Option<SequenceNo>,
@@ -76,7 +76,7 @@ fn credit_is_spent_one_by_one(rt: HostRuntime) {
     drop(state);
 }
 
-// Credit and count of a sender's end at a count, once it is granted credit.
+// Credit and count of a sender at a count, after it was granted credit.
 fn granted(own: SequenceNo, count: SequenceNo, credit: u32) -> (Reply, u32, SequenceNo) {
     let mut state = sender_at(own);
     let answered = answered(&mut state, Some(count), Some(credit), false);
@@ -111,7 +111,7 @@ fn drain_takes_all_credit_to_the_count(rt: HostRuntime) {
     drop(state);
 }
 
-// What a receiver's end answers to a flow.
+// The reply of a receiver to a flow.
 fn taken(state: &mut LinkFlowState<ReceiverMarker>, flow: LinkFlow) -> Reply {
     let reply = state.on_incoming_flow(&flow, HANDLE);
     drop(flow);
@@ -159,7 +159,7 @@ fn draining(rt: &(impl Abort + AllocGlobal)) -> LinkFlowStateInner {
     }
 }
 
-// What a flow tells: how many properties, count, credit, what is available, drain and echo.
+// The fields of a flow: how many properties, count, credit, available, drain and echo.
 type Seen = (usize, Option<u32>, Option<u32>, Option<u32>, bool, bool);
 
 fn properties_in(flow: &LinkFlow) -> usize {
@@ -194,7 +194,7 @@ fn flow_of(rt: &(impl Abort + AllocGlobal), echo: bool, included: bool) -> Optio
     seen
 }
 
-// What a flow tells that sets the credit and the drain flag.
+// The fields of the flow that sets the credit and the drain flag.
 fn stated(rt: &(impl Abort + AllocGlobal), included: bool) -> Option<Seen> {
     let mut state = LinkFlowState::receiver(draining(rt));
     let seen = seen_in(&state.state_flow(Some(9), Some(false), HANDLE, true, included));

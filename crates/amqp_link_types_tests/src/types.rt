@@ -1,5 +1,4 @@
-//! What no clause says of the types: their defaults, and that each call answers while there is
-//! memory.
+//! What no clause states of the types: their defaults, and that each call succeeds while there is memory.
 mod copies;
 mod defaults;
 mod frames;

@@ -1,5 +1,5 @@
--- How the logic stores a value's data: as a tree of numbers, each level behind the number of its
--- kind. `data_code` says that what is stored can be read back.
+-- How the logic stores the data of a value: as a tree of numbers, in which each level begins with the number
+-- of its kind. `data_code` states that what is stored can be read back.
 use Rattle.std.specs.Prelude.{◌≡◌, ◌==◌, [], ◌∷◌, refl}
 use Rattle.std.specs.Prelude.{ℕ, ℤ, pos, negsuc, List, Bool, true, false, cond}
 use Rattle.std.proofs.Common.{ap}
@@ -13,7 +13,7 @@ use Rattle.amqp_link_values.specs.Data.{Items, no_items, item, Pairs, no_pairs, 
 use Rattle.amqp_link_values.specs.declared.value.Descriptor.{Descriptor}
 use Rattle.amqp_link_values.specs.declared.value.Descriptor.TheVariants.{Code, Name}
 
--- ---- what a level holds, there and back
+-- ---- the content of a level, stored and read back
 
 -- a truth value: 1 or 0
 abbrev pub truth_to : Bool → Gv
@@ -27,7 +27,7 @@ pub truth_back : (b : Bool) → truth_from (truth_to b) ≡ b
 truth_back true = refl
 truth_back false = refl
 
--- a signed number: a number n stands for -1 - n, and a pair for what is not negative
+-- a signed number: n stands for -1 - n, and a pair for a number that is not negative
 abbrev pub signed_to : ℤ → Gv
 signed_to (pos n) = gcons gnil (gnum n)
 signed_to (negsuc n) = gnum n
@@ -41,7 +41,7 @@ pub signed_back : (z : ℤ) → signed_from (signed_to z) ≡ z
 signed_back (pos n) = refl
 signed_back (negsuc n) = refl
 
--- bytes: a number and the others
+-- bytes: the first one and the others
 abbrev pub text_to : List ℕ → Gv
 text_to [] = gnil
 text_to (n ∷ ns) = gcons (gnum n) (text_to ns)
@@ -55,7 +55,7 @@ pub text_back : (ns : List ℕ) → text_from (text_to ns) ≡ ns
 text_back [] = refl
 text_back (n ∷ ns) = ap (λ ms. n ∷ ms) (text_back ns)
 
--- texts: one and the others
+-- texts: the first one and the others
 abbrev pub texts_to : List (List ℕ) → Gv
 texts_to [] = gnil
 texts_to (t ∷ ts) = gcons (text_to t) (texts_to ts)
@@ -86,7 +86,7 @@ kind_back (Name s) = ap Name (text_back s)
 -- ---- a whole value
 
 abbrev mutual
-  -- a value: a pair of the number of its kind and what it holds
+  -- a value: a pair of the number of its kind and its content
   pub data_to : Data → Gv
   data_to null = gcons (gnum 0) gnil
   data_to (boolean b) = gcons (gnum 1) (truth_to b)
@@ -107,7 +107,7 @@ abbrev mutual
   data_to (map ps) = gcons (gnum 16) (pairs_to ps)
   data_to (described k d) = gcons (gnum 17) (gcons (kind_to k) (data_to d))
 
-  -- the items of a list: one and the others
+  -- the items of a list: the first one and the others
   pub items_to : Items → Gv
   items_to no_items = gnil
   items_to (item d ds) = gcons (data_to d) (items_to ds)
@@ -117,7 +117,7 @@ abbrev mutual
   pairs_to no_pairs = gnil
   pairs_to (pair k v ps) = gcons (data_to k) (gcons (data_to v) (pairs_to ps))
 
--- a level of the kind n over g, which is also read as items, pairs and a described value
+-- a level of the kind n with the content g, which is also read as items, as pairs and as a described value
 abbrev level : ℕ → Gv → Items → Pairs → Data → Data
 level n g ds ps d =
     cond (n == 0) null
@@ -139,7 +139,7 @@ level n g ds ps d =
     (cond (n == 16) (map ps) d))))))))))))))))
 
 abbrev mutual
-  -- each reads what its namesake above wrote
+  -- each reads what the function of the same type above has stored
   pub data_from : Gv → Data
   data_from gnil = null
   data_from (gnum n) = null
@@ -163,7 +163,7 @@ abbrev mutual
   pairs_from (gcons a (gcons b c)) = pair (data_from a) (data_from b) (pairs_from c)
 
 mutual
-  -- what is read is what was written
+  -- what is read is what was stored
   pub data_back : (d : Data) → data_from (data_to d) ≡ d
   data_back null = refl
   data_back (boolean b) = ap boolean (truth_back b)

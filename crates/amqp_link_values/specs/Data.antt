@@ -1,9 +1,9 @@
--- What a `Value` is, whatever memory it holds (OASIS AMQP 1.0 core, 1.6).
+-- The data that a `Value` stands for, however it is stored in memory (OASIS AMQP 1.0 core, 1.6).
 use Rattle.std.specs.Prelude.{ℕ, ℤ, Bool, List}
 use Rattle.amqp_link_values.specs.declared.value.Descriptor.{Descriptor}
 
 mutual
-  -- one value: its kind, and what it holds; binaries, texts and symbols hold their bytes
+  -- one value: its kind and its content; binaries, texts and symbols have their bytes
   pub data Data : Type 0 where
     null : Data
     boolean : Bool → Data

@@ -1,5 +1,5 @@
--- How many bytes a value takes in its shortest code (OASIS AMQP 1.0 core, 1.6). A comment names
--- the codes that a line stands for, in hexadecimal.
+-- How many bytes a value takes in its shortest code (OASIS AMQP 1.0 core, 1.6). A comment has the codes of
+-- its line, in hexadecimal.
 use Rattle.std.specs.Prelude.{◌≡◌, ◌≤◌, ◌+◌, ◌^◌, ◌==◌, ◌&&◌, if◌then◌else◌, nat_le}
 use Rattle.std.specs.Prelude.{ℕ, ℤ, Bool, pos, negsuc, List, length, sum_by, Option, MatchOption}
 use Rattle.std.specs.List.{list_all}
@@ -10,7 +10,7 @@ use Rattle.amqp_link_values.specs.Data.{Items, no_items, item, Pairs, no_pairs, 
 use Rattle.amqp_link_values.specs.declared.value.Descriptor.{Descriptor}
 use Rattle.amqp_link_values.specs.declared.value.Descriptor.TheVariants.{Code, Name}
 
--- the number, or nothing exactly where it passes u64
+-- the number, or none exactly if a u64 does not hold it
 abbrev pub IsU64Of : ℕ → Option ℕ → Type 0
 IsU64Of n o = MatchOption o (2 ^ 64 ≤ n) (λ m. m ≡ n)
 
@@ -39,12 +39,12 @@ ulong_len n = unsigned_len 9 n
 abbrev pub bytes_len : List ℕ → ℕ
 bytes_len bytes = text_len (length bytes)
 
--- a truth value that is there: 41 or 42
+-- a truth value that is present: 41 or 42
 abbrev pub bool_len : Bool → ℕ
 bool_len b = 1
 
--- a list or a map whose parts take c bytes: c0 or c1 with a size and a count of one byte each,
--- d0 or d1 with four bytes each; the size counts the count's bytes too
+-- a list or a map whose parts take c bytes: c0 or c1 with a size and a count of one byte each, d0 or d1 with
+-- four bytes each; the size includes the bytes of the count
 abbrev pub compound_len : ℕ → ℕ
 compound_len c = if nat_le c 254 then 3 + c else 9 + c
 
@@ -55,8 +55,8 @@ elements_len names =
     then sum_by (λ s. 1 + length s) names
     else sum_by (λ s. 4 + length s) names
 
--- an array of `count` elements, which take c bytes: e0 or f0, with the elements' code beside size
--- and count
+-- an array of `count` elements, which take c bytes: e0 or f0, with the code of the elements after the size
+-- and the count
 abbrev pub counted_len : ℕ → ℕ → ℕ
 counted_len count c = if nat_le c 253 && nat_le count 255 then 4 + c else 10 + c
 

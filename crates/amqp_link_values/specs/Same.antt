@@ -1,5 +1,5 @@
--- The tests behind `==` of values, descriptors and maps. Two values are compared by the trees of
--- numbers that stand for them (`Code`), so that the test of a whole value is one recursion.
+-- The tests behind `==` of values, descriptors and maps. Two values are compared by the trees of numbers that
+-- store them (`Code`), so that the test of a whole value is one recursion.
 use Rattle.std.specs.Prelude.{ℕ, Bool, true, false, ◌&&◌, ◌==◌, List}
 use Rattle.std.specs.Cmp.Lexicographic.{pointwise}
 use Rattle.std.specs.Ordering.{on}
@@ -20,11 +20,11 @@ same_tree _ _ = false
 abbrev pub same_data : Data → Data → Bool
 same_data = on data_to same_tree
 
--- two lists of values, the same one by one
+-- two lists of values, equal one by one
 abbrev pub same_items : Items → Items → Bool
 same_items = on items_to same_tree
 
--- two lists of pairs, the same one by one
+-- two lists of pairs, equal one by one
 abbrev pub same_pairs : Pairs → Pairs → Bool
 same_pairs = on pairs_to same_tree
 
@@ -36,6 +36,6 @@ same_kind = on kind_to same_tree
 abbrev pub same_entry : List ℕ × Data → List ℕ × Data → Bool
 same_entry e f = bytes_eq e.0 f.0 && same_data e.1 f.1
 
--- the entries of two maps, the same one by one: their order counts
+-- the entries of two maps, equal one by one: their order counts
 abbrev pub same_entries : List (List ℕ × Data) → List (List ℕ × Data) → Bool
 same_entries = pointwise same_entry

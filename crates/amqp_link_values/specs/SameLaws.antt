@@ -1,5 +1,5 @@
--- The tests behind `==` answer true exactly where the two are one, and so they are equivalences:
--- the laws that `==` owes its callers. Proofs alone.
+-- The tests behind `==` return true exactly if the two are equal, so they are equivalences: the laws that
+-- callers of `==` need. Proofs alone.
 use Rattle.std.proofs.Common.{◌≡◌, ◌&&◌, ◌∙◌, ℕ, Bool, true, false, List}
 use Rattle.std.proofs.Common.{refl, ap, sym, subst, rules, tests, true≢false}
 use Rattle.std.proofs.lemmas.Bool.Decides.{Decides-and}
@@ -16,7 +16,7 @@ use Rattle.amqp_link_values.specs.declared.value.Descriptor.{Descriptor}
 
 -- ---- trees
 
--- a conjunction that is true, taken apart
+-- the first part of a conjunction that is true
 first : (s t : Bool) → (s && t) ≡ true → s ≡ true
 first true t h = refl
 first false t h = h
@@ -25,7 +25,7 @@ second : (s t : Bool) → (s && t) ≡ true → t ≡ true
 second true t h = h
 second false t h = absurd (true≢false (sym h))
 
--- trees that pass the test are one
+-- two trees that pass the test are equal
 tree_is : (x y : Gv) → same_tree x y ≡ true → x ≡ y
 tree_is gnil gnil h = refl
 tree_is (gnum m) (gnum n) h = ap gnum (search (tests, rules))
@@ -40,7 +40,7 @@ tree_is (gnum m) (gcons c d) h = absurd (true≢false (sym h))
 tree_is (gcons a b) gnil h = absurd (true≢false (sym h))
 tree_is (gcons a b) (gnum n) h = absurd (true≢false (sym h))
 
--- a tree passes the test with itself
+-- each tree passes the test with itself
 same_tree-refl : (x : Gv) → same_tree x x ≡ true
 same_tree-refl gnil = refl
 same_tree-refl (gnum n) = search (tests, rules)
@@ -48,7 +48,7 @@ same_tree-refl (gcons a b) = λ i. same_tree-refl a i && same_tree-refl b i
 
 -- ---- what is stored as a tree and read back
 
--- what can be read back from its tree is compared by the tree
+-- a type whose values can be read back from their trees is compared by the trees
 stored_Decides : {A : Type 0} (to : A → Gv) (from : Gv → A) → ((a : A) → from (to a) ≡ a) →
     (a b : A) → Decides (same_tree (to a) (to b)) (a ≡ b)
 stored_Decides to from back a b = (

@@ -17,7 +17,7 @@ abbrev pub pairs_of : List (Data × Data) → Pairs
 pairs_of [] = no_pairs
 pairs_of (p ∷ ps) = pair p.0 p.1 (pairs_of ps)
 
--- one level, with each value inside already seen as its data
+-- one level, in which the values inside are replaced by their data
 abbrev pub view_step : Value-F Data → Data
 view_step Value-F.Null = null
 view_step (Value-F.Bool b) = boolean b

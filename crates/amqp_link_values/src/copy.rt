@@ -3,8 +3,8 @@ ghost use Rattle.std.specs.Prelude.{◌≡◌, ◌||◌, IfOk, OnErr, is_some, t
 
 use std::alloc::AllocError;
 
-/// A copy of what may be absent, for a type whose copies are equal to what they copy. Where it is
-/// absent this does not allocate.
+/// A copy of a value that may be absent, for a type whose copies are equal to their originals. Does not
+/// allocate if the value is absent.
 pub fn copy_of<T: Clone>(value: &Option<T>) -> Result<Option<T>, AllocError>
     requires { (t c : T) → T.is_clone t c → c ≡ t }
     ensures copy { IfOk result (λ copy. copy ≡ value.now) }
@@ -16,7 +16,7 @@ pub fn copy_of<T: Clone>(value: &Option<T>) -> Result<Option<T>, AllocError>
     }
 }
 
-/// Copies of two such parts. Where both are absent this does not allocate.
+/// Copies of two such values. Does not allocate if both are absent.
 pub fn copies_of<T: Clone + Drop, U: Clone>(
     first: &Option<T>,
     second: &Option<U>,

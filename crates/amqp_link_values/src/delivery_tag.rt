@@ -11,10 +11,10 @@ use std::alloc::AllocError;
 use std::hash::{Hash, Hasher};
 use std::marker::Model;
 
-/// The bytes by which both ends name a delivery that is not settled (2.8.7).
+/// The bytes by which both endpoints name an unsettled delivery (2.8.7).
 ///
-/// A contract sees a tag as its bytes. Two tags are equal exactly if their bytes are, and equal
-/// ones hash alike.
+/// A contract sees a tag as its bytes. Two tags are equal exactly if their bytes are, and equal ones have
+/// equal hashes.
 #[derive(Debug, Drop)]
 pub struct DeliveryTag {
     bytes: Vec<u8>,
@@ -36,7 +36,7 @@ impl DeliveryTag {
         self.bytes.as_slice()
     }
 
-    /// The buffer, given back. Takes no memory.
+    /// The buffer of the tag. Does not allocate.
     pub fn into_bytes(self) -> Vec<u8>
         ensures { result.items ≡ self }
     {

@@ -76,7 +76,7 @@ impl Fields {
         self.entries.iter()
     }
 
-    /// The names with their values in the same order, given up. Does not allocate.
+    /// The names with their values in the same order, without the map. Does not allocate.
     pub fn into_pairs(self) -> IntoIter<Symbol, Value>
         ensures pairs { map view_entry result ≡ self }
         ensures runs { GivesInOrder (List ℕ × TheValue) }
@@ -84,7 +84,7 @@ impl Fields {
         self.entries.into_iter()
     }
 
-    /// What the fields were made with, for a list of some of them. Does not allocate.
+    /// The allocator of the fields, with which a caller can make a list of some of them. Does not allocate.
     pub fn allocator(&self) -> Global {
         *self.entries.allocator()
     }
@@ -96,8 +96,8 @@ impl Fields {
         self.entries.get(name)
     }
 
-    /// Puts a value under a name: in the place of the one that is there, which is returned, or
-    /// last. Allocates only for a new name; where it is out of memory it returns both.
+    /// Puts a value under a name: in the place of the one that is there, which is returned, or last.
+    /// Allocates only for a new name; if it is out of memory, both are returned.
     pub fn insert(
         &mut self,
         name: Symbol,
@@ -112,8 +112,8 @@ impl Fields {
         self.entries.insert(name, value)
     }
 
-    /// These fields with those of `other` put one by one. Both stay as they are. Where both are
-    /// empty this does not allocate.
+    /// These fields with those of `other` put one by one. Neither changes. Does not allocate if both are
+    /// empty.
     pub fn merged(&self, other: &Fields) -> Result<Fields, AllocError>
         ensures merged { IfOk result (λ both. both ≡ insert_all bytes_eq self.now other.now) }
         ensures memory { OnErr result (0 < length self.now + length other.now) }
@@ -140,7 +140,7 @@ impl Fields {
 impl Clone for Fields {
     ghost is_clone = { λ fields copy. copy ≡ fields };
 
-    // The copy of a map allocates even where the map is empty, so that case stands apart.
+    // The copy of a map allocates even if the map is empty, so that this case is handled first.
     fn clone(&self) -> Result<Fields, AllocError>
         ensures copy { IfOk result (λ copy. copy ≡ self.now) }
         ensures memory { OnErr result (0 < length self.now) }
@@ -159,7 +159,7 @@ impl PartialEq for Fields {
 
     ghost laws = { partial_equiv_from_equiv entries_equiv };
 
-    // Two maps are equal where their entries are, in their order.
+    // Two maps are equal if their entries are, in their order.
     fn eq(&self, other: &Fields) -> bool
         ensures value { result ≡ same_entries self.now other.now }
         ensures equal { IsTrue result ↔ (self.now ≡ other.now) }

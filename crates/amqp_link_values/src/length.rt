@@ -12,13 +12,13 @@ use crate::symbol::Symbol;
 use crate::symbols::Symbols;
 use crate::text::Text;
 
-/// What has a length in bytes when it is written.
+/// A type whose values have an encoded length in bytes.
 pub trait EncodedLen {
-    // The length, which may pass u64.
+    // The length, which may be larger than a u64.
     ghost len_of: { Self → ℕ };
 
-    /// The number of bytes that this takes in its shortest code; none exactly where it passes u64.
-    /// Takes no memory.
+    /// The number of bytes of its shortest encoding; none exactly if a u64 does not hold it. Does not
+    /// allocate.
     fn encoded_len(&self) -> Option<u64>
         ensures { IsU64Of (len_of self.now) result };
 }

@@ -12,10 +12,10 @@ use std::alloc::AllocError;
 use std::hash::{Hash, Hasher};
 use std::marker::Model;
 
-/// A name from a domain of names, as `amqp:invalid-field` (1.6.21).
+/// A name from a domain of names, such as `amqp:invalid-field` (1.6.21).
 ///
-/// A contract sees a symbol as the bytes of its text. Two symbols are equal exactly if their bytes
-/// are, and equal ones hash alike.
+/// A contract sees a symbol as the bytes of its text. Two symbols are equal exactly if their bytes are, and
+/// equal ones have equal hashes.
 #[derive(Debug, Drop)]
 pub struct Symbol {
     text: Text,
@@ -30,14 +30,14 @@ impl Model for Symbol {
 }
 
 impl Symbol {
-    /// The text as it is written.
+    /// The text of the symbol.
     pub fn as_str(&self) -> &str
         ensures { result.now ≡ self.now }
     {
         self.text.as_str()
     }
 
-    /// The buffer, given back. Takes no memory.
+    /// The buffer of the symbol. Does not allocate.
     pub fn into_string(self) -> String
         ensures { string_bytes result ≡ self }
     {

@@ -1,4 +1,4 @@
-//! Lists of symbols, as capabilities and outcomes are given (2.7.3, 3.5.3).
+//! Lists of symbols, such as capabilities and outcomes (2.7.3, 3.5.3).
 ghost use Rattle.std.specs.Prelude.{◌≡◌, ◌↔◌, IsTrue};
 ghost use Rattle.std.specs.Cmp.{partial_equiv_from_equiv};
 
@@ -30,7 +30,7 @@ impl Symbols {
         self.symbols.as_slice()
     }
 
-    /// The list, given back. Takes no memory.
+    /// The list as a `Vec`. Does not allocate.
     pub fn into_vec(self) -> Vec<Symbol>
         ensures { result.items ≡ self }
     {

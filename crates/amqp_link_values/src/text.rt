@@ -11,10 +11,10 @@ use std::alloc::AllocError;
 use std::hash::{Hash, Hasher};
 use std::marker::Model;
 
-/// A text, as the description of an error is one (1.6.20).
+/// A text, such as the description of an error (1.6.20).
 ///
-/// A contract sees a text as the bytes of its UTF-8. Two texts are equal exactly if their bytes
-/// are, and equal ones hash alike.
+/// A contract sees a text as the bytes of its UTF-8. Two texts are equal exactly if their bytes are, and
+/// equal ones have equal hashes.
 #[derive(Debug, Drop)]
 pub struct Text {
     text: String,
@@ -29,14 +29,14 @@ impl Model for Text {
 }
 
 impl Text {
-    /// The text as it is written.
+    /// The text as a `&str`.
     pub fn as_str(&self) -> &str
         ensures { result.now ≡ self.now }
     {
         self.text.as_str()
     }
 
-    /// The buffer, given back. Takes no memory.
+    /// The buffer of the text. Does not allocate.
     pub fn into_string(self) -> String
         ensures { string_bytes result ≡ self }
     {

@@ -4,12 +4,12 @@ mod equality;
 
 use crate::symbol::Symbol;
 
-/// What says of which type a described value is (1.2.2).
+/// The descriptor of a described value: which type it is of (1.2.2).
 #[derive(Debug, Drop)]
 pub enum Descriptor {
-    /// A number of the registry.
+    /// A numeric descriptor.
     Code(u64),
-    /// A symbolic name.
+    /// A symbolic descriptor.
     Name(Symbol),
 }
 

@@ -1,4 +1,4 @@
-//! Tests of the values and the payloads, by what they make public: what no clause says of them.
+//! Tests of the values and the payloads through their public interface: what no clause states.
 #![tactic(auto)]
 
 #[cfg(test)]

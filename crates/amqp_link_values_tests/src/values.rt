@@ -1,5 +1,5 @@
-//! What no clause says of the values: that each call answers while there is memory, and that
-//! hashed maps find what was made apart.
+//! What no clause states of the values: that each call succeeds while there is memory, and that hashed maps
+//! find a key that was made separately.
 mod copies;
 mod symbols;
 

@@ -23,7 +23,7 @@ abbrev pub is_in_place : Option Filters → List ℕ → Bool
 is_in_place None name = false
 is_in_place (Some filters) name = is_filter (lookup (bytes_eq name) filters)
 
--- the names of these filters that are not in place, in their order
+-- the names of those of these filters that are not in place, in their order
 abbrev pub names_missing : Option Filters → Filters → List (List ℕ)
 names_missing supported desired = filter (λ name. not (is_in_place supported name)) (map (λ entry. entry.0) desired)
 
@@ -32,7 +32,7 @@ abbrev pub filters_missing : Option Filters → Option Filters → List (List �
 filters_missing None supported = []
 filters_missing (Some desired) supported = names_missing supported desired
 
--- the error of an attach that stands for one of its filters
+-- the error of an attach for an error of its filters
 abbrev pub attach_error : FilterError → ReceiverAttachError
 attach_error (filter_error.DesiredFilterNotSupported names) = DesiredFilterNotSupported names
 attach_error filter_error.OutOfMemory = OutOfMemory

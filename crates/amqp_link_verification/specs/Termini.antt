@@ -16,15 +16,15 @@ abbrev pub verdict : {E : Type 0} → Option E → Result (Unit {0}) E
 verdict None = Ok tt
 verdict (Some error) = Err error
 
--- Why a sender refuses the receiver's source: one that the sender is to make has an address already, or one
--- that is not dynamic has properties of a dynamic node.
+-- Why a sender refuses the receiver's source: it has an address, though the sender is to create the source;
+-- or it has properties of a dynamic node, though it is not dynamic.
 abbrev pub sender_refuses_source : Source → Option SenderAttachError
 sender_refuses_source theirs = refusal (
     (theirs.dynamic && is_some theirs.address, sender.SourceAddressIsSomeWhenDynamicIsTrue)
     ∷ (not theirs.dynamic && is_some theirs.dynamic_node_properties, sender.DynamicNodePropertiesIsSomeWhenDynamicIsFalse)
     ∷ [])
 
--- the filters that a receiver's source asks for, and the sender's does not have
+-- the filters that a receiver's source asks for, and that are not in place at the sender's
 abbrev pub missing_in : Source → Source → List (List ℕ)
 missing_in own theirs = filters_missing own.filter theirs.filter
 
@@ -32,8 +32,8 @@ abbrev pub are_some : List (List ℕ) → Bool
 are_some [] = false
 are_some (name ∷ names) = true
 
--- Why a receiver refuses the sender's source: filters are not in place, one that the sender has made has no
--- address, or one that is not dynamic has properties of a dynamic node.
+-- Why a receiver refuses the sender's source: filters are missing; it has no address, though the sender has
+-- created the source; or it has properties of a dynamic node, though it is not dynamic.
 abbrev pub receiver_refuses_source : Source → Source → Option ReceiverAttachError
 receiver_refuses_source own theirs = refusal (
     (are_some (missing_in own theirs), receiver.DesiredFilterNotSupported (missing_in own theirs))
@@ -41,16 +41,16 @@ receiver_refuses_source own theirs = refusal (
     ∷ (not theirs.dynamic && is_some theirs.dynamic_node_properties, receiver.DynamicNodePropertiesIsSomeWhenDynamicIsFalse)
     ∷ [])
 
--- Why a sender refuses the receiver's target: one that the receiver has made has no address, or one that is
--- not dynamic has properties of a dynamic node.
+-- Why a sender refuses the receiver's target: it has no address, though the receiver has created the target;
+-- or it has properties of a dynamic node, though it is not dynamic.
 abbrev pub sender_refuses_target : Target → Option SenderAttachError
 sender_refuses_target theirs = refusal (
     (theirs.dynamic && is_none theirs.address, sender.TargetAddressIsNoneWhenDynamicIsTrue)
     ∷ (not theirs.dynamic && is_some theirs.dynamic_node_properties, sender.DynamicNodePropertiesIsSomeWhenDynamicIsFalse)
     ∷ [])
 
--- Why a receiver refuses the sender's target: one that the receiver is to make has an address already, or one
--- that is not dynamic has properties of a dynamic node.
+-- Why a receiver refuses the sender's target: it has an address, though the receiver is to create the target;
+-- or it has properties of a dynamic node, though it is not dynamic.
 abbrev pub receiver_refuses_target : Target → Option ReceiverAttachError
 receiver_refuses_target theirs = refusal (
     (theirs.dynamic && is_some theirs.address, receiver.TargetAddressIsSomeWhenDynamicIsTrue)

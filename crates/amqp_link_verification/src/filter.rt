@@ -1,4 +1,4 @@
-//! Filters of a source (3.5.8): those that a receiver asks for are to be in place.
+//! The filters of a source (3.5.8): those that a receiver asks for have to be in place.
 ghost use Rattle.std.specs.Prelude.{◌≡◌, ◌≢◌, ◌⊎◌, not, [], OnOk, IfOk, OnErr, IfErr};
 ghost use Rattle.amqp_link_verification.specs.Filters.{is_in_place as does_stand, names_missing, filters_missing};
 
@@ -10,13 +10,13 @@ use amqp_link_values::value::Value;
 use std::alloc::AllocError;
 use thiserror::Error;
 
-/// Why the filters of a source do not serve.
+/// Why the filters of a source are refused.
 #[derive(Debug, PartialEq, Eq, Drop, Error)]
 pub enum FilterError {
-    /// Filters of these names were asked for, and are not in place.
+    /// The receiver asked for filters of these names, and they are not in place.
     #[error("filters that were asked for are not in place")]
     DesiredFilterNotSupported(Symbols),
-    /// Out of memory: the list of those names was not made.
+    /// Out of memory: the list of the names was not made.
     #[error("out of memory")]
     OutOfMemory,
 }
@@ -46,9 +46,9 @@ impl From<FilterError> for ReceiverAttachError {
     }
 }
 
-/// Whether each filter that is asked for is in place, whatever its value: a name that is absent there, or
-/// has a null, is missing. Only the list of the missing names allocates; they stand in the order in which
-/// they are asked for. Each name is looked up once.
+/// Whether each filter that is asked for is in place, with any value: a filter is missing if its name is
+/// absent there or has null. The missing names are listed in the order in which they are asked for; only
+/// their list allocates. Each name is looked up once.
 pub fn verify_filter(
     desired: &Option<FilterSet>,
     supported: &Option<FilterSet>,
@@ -68,7 +68,7 @@ pub fn verify_filter(
     Err(FilterError::DesiredFilterNotSupported(missing.into()))
 }
 
-// The names of the filters that are not in place, in order. Only those allocate.
+// The names of the filters that are not in place, in order. Allocates only for those.
 fn missing_names(desired: &Fields, supported: &Option<Fields>) -> Result<Vec<Symbol>, AllocError>
     ensures names { IfOk result (λ names. names.items ≡ names_missing supported.now desired.now) }
     ensures memory { OnErr result (names_missing supported.now desired.now ≢ []) }

@@ -1,8 +1,7 @@
-//! Whether the termini of the peer's attach are as the standard has them (OASIS AMQP 1.0 core, 3.5.3, 3.5.4
-//! and 3.5.8).
+//! Whether the termini of the peer's attach are valid (OASIS AMQP 1.0 core, 3.5.3, 3.5.4 and 3.5.8).
 //!
 //! Each endpoint verifies the peer's terminus beside its own, as a sender or as a receiver. A terminus that
-//! is refused is named by an error of the attach; what a link leaves after it is said at the link.
+//! is refused is reported by an error of the attach; the link's calls state what they leave after it.
 #![tactic(auto)]
 
 pub mod filter;

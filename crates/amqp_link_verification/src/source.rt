@@ -7,26 +7,26 @@ ghost use Rattle.amqp_link_verification.specs.Termini.{verdict};
 use crate::filter::verify_filter;
 use amqp_link_types::types::{ReceiverAttachError, SenderAttachError, Source};
 
-/// A source that is verified as it arrives in an attach.
+/// A source that can be verified when it arrives in an attach.
 pub trait VerifySource {
-    // Why a sender with the first refuses the second, its peer's.
+    // Why a sender with the first source refuses the second, its peer's.
     ghost refused_by_sender: { Self → Self → Option SenderError };
 
-    // Why a receiver does.
+    // Why a receiver with the first source refuses the second, its peer's.
     ghost refused_by_receiver: { Self → Self → Option ReceiverError };
 
-    /// Whether a sender with this source takes its peer's, `other`. Does not allocate.
+    /// Whether a sender with this source accepts its peer's, `other`. Does not allocate.
     ///
-    /// Refused in this order: an address, though the sender is to make the source; properties of a dynamic
-    /// node, though the source is not dynamic.
+    /// Refused in this order: `other` has an address, though the sender is to create the source; it has
+    /// properties of a dynamic node, though it is not dynamic.
     fn verify_as_sender(&self, other: &Self) -> Result<(), SenderAttachError>
         ensures { result ≡ verdict (refused_by_sender self.now other.now) };
 
-    /// Whether a receiver with this source takes its peer's, `other`. Only the list of the missing filters
-    /// allocates.
+    /// Whether a receiver with this source accepts its peer's, `other`. Allocates only the list of the
+    /// missing filters.
     ///
-    /// Refused in this order: filters that are missing; no address, though the sender has made the source;
-    /// properties of a dynamic node, though the source is not dynamic.
+    /// Refused in this order: filters are missing; `other` has no address, though the sender has created the
+    /// source; it has properties of a dynamic node, though it is not dynamic.
     fn verify_as_receiver(&self, other: &Self) -> Result<(), ReceiverAttachError>
         ensures refused { MatchResult result
             (λ _. refused_by_receiver self.now other.now ≡ None)

@@ -8,37 +8,37 @@ use amqp_link_types::types::{
     ReceiverAttachError, SenderAttachError, Target, TargetArchetype, terminus,
 };
 
-/// A target that is verified as it arrives in an attach. Nothing here allocates.
+/// A target that can be verified when it arrives in an attach. Nothing here allocates.
 pub trait VerifyTargetArchetype {
-    // Why a sender with the first refuses the second, its peer's.
+    // Why a sender with the first target refuses the second, its peer's.
     ghost refused_by_sender: { Self → Self → Option SenderError };
 
-    // Why a receiver does.
+    // Why a receiver with the first target refuses the second, its peer's.
     ghost refused_by_receiver: { Self → Self → Option ReceiverError };
 
-    /// Whether a sender with this target takes its peer's, `other`.
+    /// Whether a sender with this target accepts its peer's, `other`.
     ///
-    /// A plain target is refused in this order: no address, though the receiver has made the target;
-    /// properties of a dynamic node, though the target is not dynamic.
+    /// A plain target is refused in this order: it has no address, though the receiver has created it; it has
+    /// properties of a dynamic node, though it is not dynamic.
     fn verify_as_sender(&self, other: &Self) -> Result<(), SenderAttachError>
         ensures refused { result ≡ verdict (refused_by_sender self.now other.now) }
         ensures memory { IsErrOf result SenderError.OutOfMemory → ⊥ };
 
-    /// Whether a receiver with this target takes its peer's, `other`.
+    /// Whether a receiver with this target accepts its peer's, `other`.
     ///
-    /// A plain target is refused in this order: an address, though the receiver is to make the target;
-    /// properties of a dynamic node, though the target is not dynamic.
+    /// A plain target is refused in this order: it has an address, though the receiver is to create it; it
+    /// has properties of a dynamic node, though it is not dynamic.
     fn verify_as_receiver(&self, other: &Self) -> Result<(), ReceiverAttachError>
         ensures refused { result ≡ verdict (refused_by_receiver self.now other.now) }
         ensures memory { IsErrOf result ReceiverError.OutOfMemory → ⊥ };
 }
 
-/// A target whose kind can be asked for. Nothing here allocates.
+/// A target that can be asked for its kind. Nothing here allocates.
 pub trait VariantOfTargetArchetype {
     // Whether it is a coordinator of transactions.
     ghost coordinates: { Self → Bool };
 
-    /// Whether it is a coordinator of transactions, of which there is none here.
+    /// Whether it is a coordinator of transactions. No target here is one.
     fn is_coordinator(&self) -> bool
         ensures { result ≡ coordinates self.now };
 }

@@ -8,22 +8,22 @@ use Rattle.amqp_link_types.specs.Refusals.{refusal, AnswersExactly, AnswersOrOut
 use Rattle.amqp_link_types.proofs.MapLemmas.{false_is_not_true}
 use Rattle.amqp_link_ledger.proofs.ListSteps.{some_is}
 use Rattle.amqp_link_worlds.specs.Before.{before_measuring}
-use Rattle.amqp_link_worlds.specs.PairRuns.{Decoder, tests_of, tests_before_memory, Does, IsLeft, IsRefused, Step, RunsEvents, StopsInTime, is_out_of_memory, ends_out_of_memory}
+use Rattle.amqp_link_worlds.specs.PairRuns.{Decoder, tests_of, tests_before_memory, Does, IsLeft, IsRefused, Step, RunsEvents, StopsInTime, is_answer_out_of_memory, ends_out_of_memory}
 use Rattle.amqp_link_worlds.specs.declared.event.AnswerOf.{AnswerOf}
 use Rattle.amqp_link_worlds.specs.declared.event.Event.{Event}
 use Rattle.amqp_link_worlds.specs.declared.event.Event.TheVariants.{Attach, Grant, HandOut, Cut}
-use Rattle.amqp_link_worlds.specs.Steps.{Tests, LeftByAttach, LeftByHandOut, grant_tests, arrive_tests, cut_tests, next_tests, settle_tests, is_halfway_at_other}
+use Rattle.amqp_link_worlds.specs.Steps.{PairTests, LeftByAttach, LeftByHandOut, grant_tests, send_tests, arrive_tests, cut_tests, next_tests, settle_tests, is_halfway_at_other}
 use Rattle.amqp_link_worlds.specs.Worlds.{World, is_together}
 use Rattle.amqp_link_worlds.specs.declared.error.PairError.{PairError}
 use Rattle.amqp_link_worlds.specs.declared.error.PairError.TheVariants.{AlreadyAttached, LimitChanged, LimitTooSmall, OutOfMemory, Decode}
 
 -- ---- answers
 
-pub then_or : {A : Type 0} (r : Result A PairError) (tests : Tests) → AnswersThenOutOfMemory OutOfMemory r tests → AnswersOrOutOfMemory OutOfMemory r tests
+pub then_or : {A : Type 0} (r : Result A PairError) (tests : PairTests) → AnswersThenOutOfMemory OutOfMemory r tests → AnswersOrOutOfMemory OutOfMemory r tests
 then_or (Ok a) tests h = h
 then_or (Err e) tests h = elim (h) [ inl memory ↦ inl memory.0 | inr test ↦ inr test ]
 
-pub exactly_or : {A : Type 0} (r : Result A PairError) (tests : Tests) → AnswersExactly r tests → AnswersOrOutOfMemory OutOfMemory r tests
+pub exactly_or : {A : Type 0} (r : Result A PairError) (tests : PairTests) → AnswersExactly r tests → AnswersOrOutOfMemory OutOfMemory r tests
 exactly_or (Ok a) tests h = h
 exactly_or (Err e) tests h = inr h
 
@@ -33,11 +33,11 @@ is_memory OutOfMemory = true
 is_memory error = false
 
 -- none of these tests names it
-abbrev NamesNone : Tests → Type 0
+abbrev NamesNone : PairTests → Type 0
 NamesNone [] = Unit {0}
 NamesNone (test ∷ tests) = (is_memory test.1 ≡ false) × NamesNone tests
 
-none_names_it : (tests : Tests) → NamesNone tests → refusal tests ≢ Some OutOfMemory
+none_names_it : (tests : PairTests) → NamesNone tests → refusal tests ≢ Some OutOfMemory
 none_names_it [] names h = cc
 none_names_it (test ∷ tests) names h = by test.0 (none_names_it tests names.1) h
   where
@@ -47,6 +47,9 @@ none_names_it (test ∷ tests) names h = by test.0 (none_names_it tests names.1)
 
 pub grant_needs_none : (w : World) → refusal (grant_tests w) ≢ Some OutOfMemory
 grant_needs_none w = none_names_it (grant_tests w) (refl, tt)
+
+pub send_needs_none : (w : World) (payload : List ℕ) → refusal (send_tests w payload) ≢ Some OutOfMemory
+send_needs_none w payload = none_names_it (send_tests w payload) (refl, (refl, (refl, (refl, (refl, tt)))))
 
 pub arrive_needs_none : (w : World) → refusal (arrive_tests w) ≢ Some OutOfMemory
 arrive_needs_none w = none_names_it (arrive_tests w) (refl, (refl, tt))
@@ -61,12 +64,12 @@ pub settle_needs_none : (w : World) (tag : Tag) → refusal (settle_tests w tag)
 settle_needs_none w tag = none_names_it (settle_tests w tag) (refl, (refl, (refl, (refl, (refl, tt)))))
 
 -- what a call returns that is out of memory only if no test holds
-pub memory_last : {A : Type 0} (r : Result A PairError) (tests : Tests) → refusal tests ≢ Some OutOfMemory → AnswersThenOutOfMemory OutOfMemory r tests → IsErrOf r OutOfMemory
+pub memory_last : {A : Type 0} (r : Result A PairError) (tests : PairTests) → refusal tests ≢ Some OutOfMemory → AnswersThenOutOfMemory OutOfMemory r tests → IsErrOf r OutOfMemory
     → refusal tests ≡ None
 memory_last r tests other answers is = elim (subst (λ r. AnswersThenOutOfMemory OutOfMemory r tests) is answers) [ inl memory ↦ memory.1 | inr test ↦ absurd (other test) ]
 
 -- what a call returns that does not allocate
-pub memory_exactly : {A : Type 0} (r : Result A PairError) (tests : Tests) → refusal tests ≢ Some OutOfMemory → AnswersExactly r tests → IsErrOf r OutOfMemory → refusal tests ≡ None
+pub memory_exactly : {A : Type 0} (r : Result A PairError) (tests : PairTests) → refusal tests ≢ Some OutOfMemory → AnswersExactly r tests → IsErrOf r OutOfMemory → refusal tests ≡ None
 memory_exactly r tests other answers is = absurd (other (subst (λ r. AnswersExactly r tests) is answers))
 
 -- an attach is out of memory only past these tests
@@ -154,7 +157,7 @@ module _ {B : Type 0} (decoded : Decoder B) where
   }
 
   -- an event is done, and it is the last
-  pub the_last : (old new : World) (e : Event) (events : List Event) (answer : Result (AnswerOf B) PairError) → Step decoded old e answer new → is_out_of_memory answer ≡ true
+  pub the_last : (old new : World) (e : Event) (events : List Event) (answer : Result (AnswerOf B) PairError) → Step decoded old e answer new → is_answer_out_of_memory answer ≡ true
       → RunsEvents decoded old (e ∷ events) (answer ∷ []) false new
   the_last old new e events answer step memory = record {
     moments = record { before = old; event = e; answer = answer; after = new } ∷ [];
@@ -168,7 +171,7 @@ module _ {B : Type 0} (decoded : Decoder B) where
 
   -- an event is done, and others follow
   pub an_event_then : (a b c : World) (e : Event) (events : List Event) (answer : Result (AnswerOf B) PairError) (answers : List (Result (AnswerOf B) PairError)) (finished : Bool)
-      → Step decoded a e answer b → is_out_of_memory answer ≡ false → RunsEvents decoded b events answers finished c → RunsEvents decoded a (e ∷ events) (answer ∷ answers) finished c
+      → Step decoded a e answer b → is_answer_out_of_memory answer ≡ false → RunsEvents decoded b events answers finished c → RunsEvents decoded a (e ∷ events) (answer ∷ answers) finished c
   an_event_then a b c e events answer answers finished step goes_on run = record {
     moments = record { before = a; event = e; answer = answer; after = b } ∷ run.moments;
     steps = (refl, step, run.steps);

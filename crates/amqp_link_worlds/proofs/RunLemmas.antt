@@ -22,7 +22,7 @@ use Rattle.amqp_link_worlds.specs.Resumptions.{entry_of}
 use Rattle.std.specs.Option.{option_or}
 use Rattle.amqp_link_sender.specs.Senders.{new_entry}
 use Rattle.amqp_link_types.specs.declared.types.delivery_state.DeliveryState.TheVariants.{Accepted}
-use Rattle.amqp_link_worlds.specs.PairRuns.{is_send_of, is_arrival_of, tests_of, Does, IsLeft, IsRefused, Step, Moment, IsRun, first_payload, payload_arrived, does_send, since_send, arrived}
+use Rattle.amqp_link_worlds.specs.PairRuns.{FatesMoveOnce, is_send_of, is_arrival_of, tests_of, Does, IsLeft, IsRefused, Step, Moment, IsRun, first_payload, payload_arrived, does_send, since_send, arrived}
 use Rattle.amqp_link_worlds.specs.declared.event.AnswerOf.{AnswerOf}
 use Rattle.amqp_link_worlds.specs.declared.event.AnswerOf.TheVariants as answer
 use Rattle.amqp_link_worlds.specs.declared.event.Event.{Event}
@@ -198,6 +198,11 @@ module _ {B : Type 0} (decoded : List ℕ → Result (Message B) DecodeError) wh
       MovesOnce-trans old.ledger.records m.after.ledger.records new.ledger.records
       (subst (λ (w : World). MovesOnce w.ledger.records m.after.ledger.records) r.0 (step_moves m.before m.after m.event m.answer r.1))
       (MovesOnce-run m.after new moments r.2)
+
+  -- and from each world of it on
+  pub FatesMoveOnce-run : (old new : World) (moments : List (Moment decoded)) → IsRun decoded old moments new → FatesMoveOnce decoded moments new
+  FatesMoveOnce-run old new [] r = tt
+  FatesMoveOnce-run old new (m ∷ moments) r = (MovesOnce-run m.after new moments r.2, FatesMoveOnce-run m.after new moments r.2)
 
   -- ---- what is held is what arrived
 

@@ -19,8 +19,7 @@ use Rattle.amqp_link_worlds.specs.Wires.{frames_of}
 use Rattle.amqp_link_worlds.specs.Worlds.{World}
 use Rattle.amqp_link_worlds.specs.declared.progress.Progress.{Progress}
 
--- both handles are 0, deliveries state themselves whether they are settled, there is credit, the next tag
--- is free, and the frames have room
+-- both handles are 0, the mode is mixed, there is credit, the next tag is free, and the frames have room
 pub record CanSend (s : Sender Target) : Type 0 where
   pub output : s.output_handle ≡ Some (record { 0 = 0 })
   pub input : s.input_handle ≡ Some (record { 0 = 0 })
@@ -29,13 +28,13 @@ pub record CanSend (s : Sender Target) : Type 0 where
   pub free : entry_at s.unsettled (next_tag s) ≡ None
   pub room : 29 ≤ s.max_frame_size
 
--- nothing is there of a tag
+-- a world has nothing of this tag: no delivery, no report, and no transfer under way
 pub record IsFree (w : World) (tag : Tag) : Type 0 where
   pub delivery : entry_at w.deliveries tag ≡ None
   pub report : entry_at w.receiver.unsettled tag ≡ None
   pub quiet : frames_of tag w.wire ≡ []
 
--- both endpoints have their handles, and neither drains
+-- both endpoints have an output handle, and neither drains
 pub record CanGrant (s : Sender Target) (r : Receiver Target) : Type 0 where
   pub sender_output : s.output_handle ≡ Some (record { 0 = 0 })
   pub receiver_output : r.output_handle ≡ Some (record { 0 = 0 })
@@ -49,7 +48,7 @@ pub record CanCut (s : Sender Target) (r : Receiver Target) : Type 0 where
   pub sent : next_state Call.SendDetach false s.local_state ≡ Some DetachSent
   pub taken : next_state Call.RemoteDetach false r.local_state ≡ Some Detached
 
--- a delivery of the list has an entry and a rest, its tag is free, and its frames have room
+-- a delivery of the list has an entry and a rest, its tag is free, and a frame has room for its transfer
 pub record CanResume (w : World) (tag : Tag) (next : ResumingDelivery) : Type 0 where
   pub entry : UnsettledMessage
   pub rest : List ℕ
@@ -60,17 +59,17 @@ pub record CanResume (w : World) (tag : Tag) (next : ResumingDelivery) : Type 0 
   pub known : entry_at w.deliveries tag ≡ Some before
   pub free : entry_at w.ledger.link.unsettled tag ≡ None
   pub allowed : refusal (unsettled_transfer_tests w.ledger.link (delivery_transfer tag (resumes next)) tag rest) ≡ None
-  -- its transfer says resume exactly if the receiver reports it
+  -- its transfer has resume = true exactly if the receiver reports it
   pub flag : resumes next ≡ is_some (entry_at w.receiver.unsettled tag)
 
--- if it has credit, the receiver takes the delivery that is held, and its report stays as it is
+-- a receiver that has credit takes the delivery that is held, and its report stays as it is
 pub record CanComplete (r : Receiver Target) (held : Held) : Type 0 where
   pub attached : may_receive r.local_state ≡ true
   pub handle : r.output_handle ≡ Some (record { 0 = 0 })
   pub allowed : transfer_refusal r held.performative ≡ None
   pub same : entered held.performative (position (held_bytes held)).0 (position (held_bytes held)).1 r ≡ spent r
 
--- both endpoints have the delivery, and a pair knows how far it has come
+-- both endpoints have an entry of the delivery, and a pair knows how far it has come
 pub record CanSettle (w : World) (tag : Tag) : Type 0 where
   pub own : IsSome (entry_at w.ledger.link.unsettled tag)
   pub report : IsSome (entry_at w.receiver.unsettled tag)

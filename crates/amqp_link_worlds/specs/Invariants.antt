@@ -1,5 +1,5 @@
--- What a pair keeps beyond its good deliveries, so that no call is refused for anything but its own
--- reasons. No contract of the pair's public calls needs it.
+-- What each call of a pair keeps (clause `kept`), beside that its deliveries are good, so that a call is
+-- refused only for the reasons that its doc lists. The laws have it as their premise.
 use Rattle.std.specs.Prelude.{◌≡◌, ◌⊎◌, ℕ, Bool, false, not, ◌&&◌, ◌<◌, ◌≤◌, ◌^◌, List, [], ◌∷◌, ◌++◌, length, drop, Option, Some, None, IsSome, is_some, IfSome, unwrap_or}
 use Rattle.std.specs.List.{AllByRecursion}
 use Rattle.amqp_link_types.specs.Entries.{Tag, IsMap}
@@ -26,44 +26,45 @@ use Rattle.amqp_link_worlds.specs.declared.progress.Progress.{Progress}
 
 -- ---- registrations of one tag
 
--- none is pending any more
+-- no registration is pending
 abbrev pub HaveMoved : List Fate → Type 0
 HaveMoved fates = AllByRecursion (λ fate. is_pending_fate fate ≡ false) fates
 
--- the last has this fate, and those before it are not pending
+-- the latest registration has this fate, and no earlier one is pending
 pub record IsLatest (fate : Fate) (fates : List Fate) : Type 0 where
   pub earlier : List Fate
   pub before : HaveMoved earlier
   pub fates_are : fates ≡ earlier ++ fate ∷ []
 
--- none is pending, and the last is not handed out
+-- no registration is pending, and the latest is not handed out
 pub record AreOver (fates : List Fate) : Type 0 where
   pub before : HaveMoved fates
   pub last : IsOpen (latest fates) → ⊥
 
 -- ---- transfers
 
--- a transfer that names this delivery of a pair
+-- a transfer that carries the tag and the fields of this delivery of a pair
 abbrev pub IsNamed : Tag → Transfer → Type 0
 IsNamed tag t = t ≡ record (delivery_transfer tag t.resume) { delivery_id = t.delivery_id; more = t.more }
 
--- a continuation that names no delivery and adds no field
+-- a continuation without id and tag that adds no field
 pub record IsContinuing (t : Transfer) : Type 0 where
   pub id : t.delivery_id ≡ None
   pub tag : t.delivery_tag ≡ None
   pub silent : IsSilent t
 
--- a first transfer of the delivery
+-- the frame of a first transfer of the delivery
 abbrev pub IsOpening : Tag → LinkFrame → Type 0
 IsOpening tag (FirstTransfer x) = IsNamed tag x.performative
 IsOpening tag _ = ⊥
 
--- a further one
+-- the frame of a further transfer
 abbrev pub IsContinuation : LinkFrame → Type 0
 IsContinuation (TransferContinuation x) = IsContinuing x.performative
 IsContinuation _ = ⊥
 
--- a first transfer begins the delivery or resumes it; a further one adds to what is held
+-- of the transfers under way the first may begin the delivery or resume it; a further one adds to what is
+-- held
 abbrev pub IsNext : Tag → Option Held → List LinkFrame → Type 0
 IsNext tag held [] = Unit {0}
 IsNext tag held (f ∷ frames) =
@@ -71,7 +72,7 @@ IsNext tag held (f ∷ frames) =
 
 -- ---- one delivery
 
--- what a pair's own send has registered: a tag of four bytes, a payload that can be counted, no state, and
+-- an entry as a pair's own send registers it: a tag of four bytes, a payload under 2^32 bytes, no state, and
 -- format 0
 pub record IsOwn (tag : Tag) (entry : UnsettledMessage) : Type 0 where
   pub tag_is : length tag ≡ 4
@@ -79,12 +80,12 @@ pub record IsOwn (tag : Tag) (entry : UnsettledMessage) : Type 0 where
   pub state : entry.state ≡ None
   pub format : entry.message_format ≡ 0
 
--- what is held is named by the transfers of the delivery, and has an id
+-- what is held has the fields of the delivery's transfers, and an id
 pub record IsHeld (tag : Tag) (held : Held) : Type 0 where
   pub named : IsNamed tag held.performative
   pub has_id : IsSome held.performative.delivery_id
 
--- a delivery is good, and its transfers come as they should
+-- a delivery is good, and its transfers under way are in order
 pub record IsUnderWay (out : Bool) (tag : Tag) (entry : UnsettledMessage) (p : Progress) (reported : Option (Option DeliveryState))
     (frames : List LinkFrame) : Type 0 where
   pub good : IsGood entry.payload p out reported frames None
@@ -93,7 +94,7 @@ pub record IsUnderWay (out : Bool) (tag : Tag) (entry : UnsettledMessage) (p : P
   pub next : IsNext tag p.held frames
 
 -- A delivery that is to be resumed: nothing is under way, what is not held is to be sent, and its transfer
--- says resume if something is held.
+-- has resume = true if something is held.
 pub record IsListed (tag : Tag) (next : ResumingDelivery) (p : Progress) (reported : Option (Option DeliveryState))
     (frames : List LinkFrame) : Type 0 where
   pub entry : UnsettledMessage
@@ -102,8 +103,8 @@ pub record IsListed (tag : Tag) (next : ResumingDelivery) (p : Progress) (report
   pub rest : rest_of next ≡ Some (drop (length (bytes_in p.held)) entry.payload)
   pub flag : resumes next ≡ is_some p.held
 
--- A tag is of no delivery, and nothing is left of it; or the sender has it in its map, or it is to be
--- resumed.
+-- A tag is of no delivery, and the world has nothing of it; or it has an entry in the sender's map; or it is
+-- in the list to resume.
 abbrev pub IsKeptAs : Bool → Tag → Option UnsettledMessage → Option ResumingDelivery → Option Progress → Option (Option DeliveryState)
     → List LinkFrame → List Fate → Type 0
 IsKeptAs together tag None None progress reported frames fates =
@@ -119,7 +120,7 @@ IsKept together tag s = IsKeptAs together tag s.own s.listed s.progress s.report
 
 -- ---- both endpoints
 
--- an endpoint is as it was made, but for its state, handles, counts, credit, frame limit and deliveries
+-- an endpoint is as it was made, but for its state, handles, counts, credit, frame limit and unsettled map
 abbrev pub IsPlainSender : Sender Target → Type 0
 IsPlainSender s = let flow = s.flow_state in let plain = new_sender 0 in s ≡ record plain {
   local_state = s.local_state;
@@ -148,7 +149,7 @@ IsPlainReceiver r = let flow = r.flow_state in let plain = new_receiver 0 in r �
   unsettled = r.unsettled;
 }
 
--- both are attached at a limit that leaves room for a byte beside a transfer that resumes
+-- both are attached, at a limit with room for a payload byte beside a transfer that resumes
 pub record AreTogether (limit : ℕ) (s : Sender Target) (r : Receiver Target) : Type 0 where
   pub enough : 29 ≤ limit
   pub sender_state : s.local_state ≡ Attached
@@ -158,13 +159,13 @@ pub record AreTogether (limit : ℕ) (s : Sender Target) (r : Receiver Target) :
   pub receiver_output : r.output_handle ≡ Some (record { 0 = 0 })
   pub frame : s.max_frame_size ≡ limit
 
--- the receiver has taken the sender's attach, and counts from its count
+-- the receiver has taken the sender's attach, and both its delivery-counts are the sender's
 pub record HasTaken (count : ℕ) (r : Receiver Target) : Type 0 where
   pub initial : r.flow_state.initial_delivery_count ≡ count
   pub present : r.flow_state.delivery_count ≡ count
   pub input : r.input_handle ≡ Some (record { 0 = 0 })
 
--- what holds of a receiver in this state while an attach is on its way
+-- what holds of a receiver in this state while an attach is between its steps
 abbrev pub IsOnWay : ℕ → Receiver Target → LinkState → Type 0
 IsOnWay count r Unattached = Unit {0}
 IsOnWay count r Detached = Unit {0}
@@ -172,7 +173,7 @@ IsOnWay count r AttachReceived = HasTaken count r
 IsOnWay count r Attached = HasTaken count r
 IsOnWay count r _ = ⊥
 
--- the sender's attach was sent, which stated its present count
+-- the sender has sent its attach, which stated its present delivery-count
 pub record AreHalfway (limit : ℕ) (s : Sender Target) (r : Receiver Target) : Type 0 where
   pub sender_state : s.local_state ≡ AttachSent
   pub sender_output : s.output_handle ≡ Some (record { 0 = 0 })
@@ -182,8 +183,8 @@ pub record AreHalfway (limit : ℕ) (s : Sender Target) (r : Receiver Target) : 
   pub receiver_frame : r.max_frame_size ≡ limit
   pub receiver_state : IsOnWay s.flow_state.delivery_count r r.local_state
 
--- Neither has sent an attach since they were made or detached; a first one states the initial count. Each
--- has no other handle than 0.
+-- Neither has sent an attach since it was made or detached; if no attach was ever sent, the initial count is
+-- the present one. Neither has another handle than 0.
 pub record AreApart (s : Sender Target) (r : Receiver Target) : Type 0 where
   pub alike : r.local_state ≡ s.local_state
   pub state : (s.local_state ≡ Unattached) ⊎ (s.local_state ≡ Detached)

@@ -7,9 +7,9 @@ use Rattle.amqp_link_payloads.specs.declared.message.Message.{Message}
 use Rattle.amqp_link_types.specs.Entries.{Tag}
 use Rattle.amqp_link_types.specs.Frames.{payload_of}
 use Rattle.amqp_link_types.specs.Refusals.{refusal}
-use Rattle.amqp_link_ledger.specs.Fates.{fates_of, latest}
-use Rattle.amqp_link_worlds.specs.Before.{before_measuring, before_tag, before_decoding}
-use Rattle.amqp_link_worlds.specs.Steps.{Tests, Attaches, StaysOrStops, Grants, Sends, Arrives, Cuts, Resumes, PutsBack, HandsOutDelivery, Settles, IsUndecoded, attach_tests, grant_tests, send_tests, arrive_tests, cut_tests, next_tests, hand_out_tests, settle_tests}
+use Rattle.amqp_link_ledger.specs.Fates.{MovesOnce, fates_of, latest}
+use Rattle.amqp_link_worlds.specs.Before.{before_measuring, before_decoding}
+use Rattle.amqp_link_worlds.specs.Steps.{PairTests, Attaches, StaysOrStops, Grants, Sends, Arrives, Cuts, Resumes, PutsBack, HandsOutDelivery, Settles, IsUndecoded, attach_tests, grant_tests, send_tests, arrive_tests, cut_tests, next_tests, hand_out_tests, settle_tests}
 use Rattle.amqp_link_worlds.specs.Wires.{OnWire}
 use Rattle.amqp_link_worlds.specs.Worlds.{World, IsOpen, bytes_in, held_at}
 use Rattle.amqp_link_worlds.specs.declared.event.AnswerOf.{AnswerOf}
@@ -19,7 +19,7 @@ use Rattle.amqp_link_worlds.specs.declared.event.Event.TheVariants.{Attach, Gran
 use Rattle.amqp_link_worlds.specs.declared.error.PairError.{PairError}
 use Rattle.amqp_link_worlds.specs.declared.error.PairError.TheVariants as error
 
--- how a message is read of its bytes
+-- how a message is decoded from its bytes
 abbrev pub Decoder : Type 0 → Type 0
 Decoder B = List ℕ → Result (Message B) DecodeError
 
@@ -29,35 +29,35 @@ first_payload [] = []
 first_payload (next ∷ wire) = payload_of next.frame
 
 module _ {B : Type 0} where
-  -- whether an answer is that a delivery with this tag was sent
+  -- whether an answer states that a delivery with this tag was sent
   abbrev pub is_send_of : Tag → Result (AnswerOf B) PairError → Bool
   is_send_of tag (Ok (answer.Sent sent count)) = bytes_eq tag sent
   is_send_of tag _ = false
 
-  -- whether it is that a transfer of this tag arrived
+  -- whether an answer states that a transfer with this tag arrived
   abbrev pub is_arrival_of : Tag → Result (AnswerOf B) PairError → Bool
   is_arrival_of tag (Ok (answer.Arrived came section offset whole)) = bytes_eq tag came
   is_arrival_of tag _ = false
 
-  -- whether an event was out of memory
-  abbrev pub is_out_of_memory : Result (AnswerOf B) PairError → Bool
-  is_out_of_memory (Err error.OutOfMemory) = true
-  is_out_of_memory _ = false
+  -- whether an answer states that the call was out of memory
+  abbrev pub is_answer_out_of_memory : Result (AnswerOf B) PairError → Bool
+  is_answer_out_of_memory (Err error.OutOfMemory) = true
+  is_answer_out_of_memory _ = false
 
-  -- whether the last of these was
+  -- whether the last of these answers does
   abbrev pub ends_out_of_memory : List (Result (AnswerOf B) PairError) → Bool
   ends_out_of_memory [] = false
-  ends_out_of_memory (answer ∷ []) = is_out_of_memory answer
+  ends_out_of_memory (answer ∷ []) = is_answer_out_of_memory answer
   ends_out_of_memory (answer ∷ next ∷ answers) = ends_out_of_memory (next ∷ answers)
 
-  -- of these answers only the last may be that
+  -- no answer but the last states that its call was out of memory
   abbrev pub StopsInTime : List (Result (AnswerOf B) PairError) → Type 0
   StopsInTime [] = Unit {0}
   StopsInTime (answer ∷ []) = Unit {0}
-  StopsInTime (answer ∷ next ∷ answers) = (is_out_of_memory answer ≡ false) × StopsInTime (next ∷ answers)
+  StopsInTime (answer ∷ next ∷ answers) = (is_answer_out_of_memory answer ≡ false) × StopsInTime (next ∷ answers)
 
-  -- whether a delivery is out after an answered event: from its send or its resumption on, until a cut, an
-  -- attach or its settlement
+  -- whether a delivery is out after an answered event: from its send or its resumption until a cut, an attach
+  -- or its settlement
   abbrev pub is_out_after : Tag → Event → AnswerOf B → Bool → Bool
   is_out_after tag (Attach limit) answer out = false
   is_out_after tag (Send payload) (answer.Sent sent count) out = bytes_eq tag sent || out
@@ -67,8 +67,8 @@ module _ {B : Type 0} where
   is_out_after tag event answer out = out
 
   module _ (decoded : List ℕ → Result (Message B) DecodeError) where
-    -- why an event is refused, in the order of the tests
-    abbrev pub tests_of : World → Event → Tests
+    -- the tests that refuse an event, in order
+    abbrev pub tests_of : World → Event → PairTests
     tests_of w (Attach limit) = attach_tests w limit
     tests_of w (Grant n) = grant_tests w
     tests_of w (Send payload) = send_tests w payload
@@ -79,14 +79,13 @@ module _ {B : Type 0} where
     tests_of w (HandOut tag) = hand_out_tests decoded w tag
     tests_of w (Settle tag) = settle_tests w tag
 
-    -- those of them that come before it may be out of memory
-    abbrev pub tests_before_memory : World → Event → Tests
+    -- those of which none holds if the event is out of memory
+    abbrev pub tests_before_memory : World → Event → PairTests
     tests_before_memory w (Attach limit) = before_measuring w limit
-    tests_before_memory w (Send payload) = before_tag w payload
     tests_before_memory w (HandOut tag) = before_decoding w tag
     tests_before_memory w e = tests_of w e
 
-    -- what an event that is not refused does
+    -- what an event does if it is not refused
     abbrev pub Does : World → Event → AnswerOf B → World → Type 0
     Does old (Attach limit) (answer.Attached count) new = Attaches old limit count new
     Does old (Grant n) (answer.Granted credit) new = Grants old n credit new
@@ -99,27 +98,26 @@ module _ {B : Type 0} where
     Does old (Settle tag) answer.Settled new = Settles old tag new
     Does old _ _ new = ⊥
 
-    -- What an event that is out of memory leaves: all as it was, unless an attach is on its way. A grant
-    -- and a cut do not allocate.
+    -- What an event leaves if it is out of memory: all as it was, or an attach between its steps. A grant and
+    -- a cut do not allocate.
     abbrev pub IsLeft : World → Event → World → Type 0
     IsLeft old (Attach limit) new = StaysOrStops old limit new
     IsLeft old (Grant n) new = ⊥
     IsLeft old Cut new = ⊥
     IsLeft old _ new = new ≡ old
 
-    -- what a refused event leaves: all as it was, but a delivery that cannot be decoded counts as handed
-    -- out
+    -- what a refused event leaves: all as it was, but a delivery that cannot be decoded counts as handed out
     abbrev pub IsRefused : World → Event → PairError → World → Type 0
     IsRefused old (HandOut tag) error.Decode new = IsUndecoded old tag new
     IsRefused old e error new = new ≡ old
 
-    -- an event with its answer, and the worlds before and after it
+    -- a step: an event with its answer, and the worlds before and after it
     abbrev pub Step : World → Event → Result (AnswerOf B) PairError → World → Type 0
     Step old e (Ok answer) new = (refusal (tests_of old e) ≡ None) × Does old e answer new
     Step old e (Err error.OutOfMemory) new = (refusal (tests_before_memory old e) ≡ None) × IsLeft old e new
     Step old e (Err error) new = (refusal (tests_of old e) ≡ Some error) × IsRefused old e error new
 
-    -- one event with its answer, and the worlds before and after it
+    -- the same as a record
     pub record Moment : Type 0 where
       pub before : World
       pub event : Event
@@ -131,21 +129,26 @@ module _ {B : Type 0} where
     IsRun old [] new = new ≡ old
     IsRun old (m ∷ moments) new = (m.before ≡ old) × Step m.before m.event m.answer m.after × IsRun m.after moments new
 
-    -- an event is done, whatever its answer
+    -- from each world of a run on, the fate of a registration moves at most once: that of one made in the run too
+    abbrev pub FatesMoveOnce : List Moment → World → Type 0
+    FatesMoveOnce [] new = Unit {0}
+    FatesMoveOnce (m ∷ moments) new = MovesOnce m.after.ledger.records new.ledger.records × FatesMoveOnce moments new
+
+    -- a step with some answer
     abbrev pub IsStep : World → Event → World → Type 0
     IsStep old e new = (answer : Result (AnswerOf B) PairError) × Step old e answer new
 
-    -- these events are done one after the other
+    -- a run of these events, one after the other
     pub record IsRunOf (old : World) (events : List Event) (new : World) : Type 0 where
       pub moments : List Moment
       pub steps : IsRun old moments new
       pub events_are : events ≡ map (λ m. m.event) moments
 
-    -- ---- a list of events
+    -- ---- the answers to a list of events
 
-    -- The events were done in order, as far as there are answers. If the run finished, all were done and none
-    -- was out of memory; otherwise it stopped after the first that was, or before an event for whose answer
-    -- there was no room.
+    -- The events were done in order, one for each answer. If the run finished, all were done and none was out
+    -- of memory; otherwise it stopped after the first that was, or before an event for whose answer there was
+    -- no room.
     pub record RunsEvents (old : World) (events : List Event) (answers : List (Result (AnswerOf B) PairError)) (finished : Bool)
         (new : World) : Type 0 where
       pub moments : List Moment
@@ -158,27 +161,28 @@ module _ {B : Type 0} where
 
     -- ---- what arrived
 
-    -- the payload that a step takes off the wire for a tag
+    -- the payload that a step takes off the wire, if its transfer has this tag
     abbrev pub payload_arrived : Tag → Moment → List ℕ
     payload_arrived tag m = if is_arrival_of tag m.answer then first_payload m.before.wire else []
 
-    -- whether a step sends the tag
+    -- whether a step sends a delivery with this tag
     abbrev pub does_send : Tag → Moment → Bool
     does_send tag m = is_send_of tag m.answer
 
-    -- what follows the last send of a tag, or all if there is none
+    -- the steps after the last send of a tag, or all if there is none
     abbrev pub since_send : Tag → List Moment → List Moment
     since_send tag [] = []
     since_send tag (m ∷ moments) =
         if list_any (does_send tag) moments then since_send tag moments
         else if does_send tag m then moments else m ∷ moments
 
-    -- What arrived of a tag: what was held as the run began, if its send came earlier, and then the
-    -- payloads that its arrivals took off the wire since its send.
+    -- What arrived of a tag: what was held at the beginning of the run, if the tag was sent before it, and
+    -- then the payloads that arrived since the send of the tag.
     abbrev pub arrived : World → List Moment → Tag → List ℕ
     arrived old moments tag =
         (if list_any (does_send tag) moments then [] else bytes_in (held_at old tag)) ++ flat_map (payload_arrived tag) (since_send tag moments)
 
-    -- of each delivery whose registration is not over, the receiver holds exactly what arrived
+    -- of each delivery whose latest registration is pending or handed out, the receiver holds exactly what
+    -- arrived
     abbrev pub HoldsWhatArrived : World → List Moment → World → Type 0
     HoldsWhatArrived old moments new = (tag : Tag) → IsOpen (latest (fates_of tag new.ledger.records)) → bytes_in (held_at new tag) ≡ arrived old moments tag

@@ -1,4 +1,4 @@
--- When a transfer can be received.
+-- When the receiver of a pair takes a transfer.
 use Rattle.std.specs.Prelude.{◌≡◌, ℕ, Option, Some, None}
 use Rattle.amqp_link_types.specs.Entries.{Tag}
 use Rattle.amqp_link_types.specs.Refusals.{refusal}
@@ -9,7 +9,7 @@ use Rattle.amqp_link_core.specs.Held.{Held}
 use Rattle.amqp_link_core.specs.IncompleteRefusals.{start_tests, append_tests, resume_tests}
 use Rattle.amqp_link_worlds.specs.Invariants.{IsNamed, IsContinuing}
 
--- both transfers name the delivery with this tag
+-- both transfers carry the fields of the delivery with this tag
 pub record AreNamed (old t : Transfer) : Type 0 where
   pub tag : Tag
   pub old_named : IsNamed tag old

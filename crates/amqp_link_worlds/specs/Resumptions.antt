@@ -16,7 +16,7 @@ rest_of (Resend entry) = Some entry.payload
 rest_of (Resume entry rest) = Some rest
 rest_of _ = None
 
--- whether the receiver has something of it already, so that its transfer says resume
+-- whether the receiver holds something of it, so that its transfer has resume = true
 abbrev pub resumes : ResumingDelivery → Bool
 resumes (Resume entry rest) = true
 resumes _ = false

@@ -55,16 +55,16 @@ abbrev pub delivery_transfer : Tag → Bool → Transfer
 delivery_transfer tag resume =
     record silent { delivery_tag = Some tag; message_format = Some 0; settled = Some false; resume = resume }
 
--- of a delivery that was just sent nothing has arrived
+-- a delivery that was just sent, and of which nothing has arrived
 abbrev pub begun : Progress
 begun = record { held = None; whole = false; put_back = false; taken = false }
 
--- the fields of a delivery once this transfer arrived: a first transfer gives it this id
+-- the fields of a delivery after a transfer has arrived: a first transfer gives it this id
 abbrev pub fields_after : Transfer → ℕ → LinkFrame → Transfer
 fields_after t id (FirstTransfer x) = record t { delivery_id = Some id }
 fields_after t id _ = t
 
--- what is held once a transfer arrived
+-- what is held after a transfer has arrived
 abbrev pub held_after : Option Held → ℕ → LinkFrame → Held
 held_after None id f = record {
   performative = fields_after (performative_of f) id f;
@@ -75,7 +75,7 @@ held_after (Some held) id f = record {
   pieces = held.pieces ++ payload_of f ∷ [];
 }
 
--- a delivery once a transfer arrived: it is whole from its last transfer on
+-- a delivery after a transfer has arrived: it is whole once its last transfer has arrived
 abbrev pub received : Progress → ℕ → LinkFrame → Progress
 received p id f = record p {
   held = Some (held_after p.held id f);
@@ -116,7 +116,7 @@ default_target = record {
 abbrev pub zero_output : OutputHandle
 zero_output = record { 0 = 0 }
 
--- the counts of an endpoint of a new pair, without credit
+-- the flow state of an endpoint of a new pair, with this delivery-count and no credit
 abbrev pub new_flow : ℕ → LinkFlowStateInner
 new_flow count = record {
   initial_delivery_count = count;
@@ -127,7 +127,7 @@ new_flow count = record {
   properties = None;
 }
 
--- the sender of a new pair: the link "l" at handle 0, with this count, not attached
+-- the sender of a new pair: the link "l" at handle 0, with this delivery-count, not attached
 abbrev pub new_sender : ℕ → Sender Target
 new_sender count = record {
   local_state = Unattached;
@@ -148,7 +148,7 @@ new_sender count = record {
   unsettled = [];
 }
 
--- its receiver
+-- the receiver of a new pair
 abbrev pub new_receiver : ℕ → Receiver Target
 new_receiver count = record {
   local_state = Unattached;
@@ -170,7 +170,7 @@ new_receiver count = record {
   more = false;
 }
 
--- a new pair: nothing is attached, sent, held or under way
+-- a new pair: not attached, and nothing is sent, held or under way
 abbrev pub new_world : ℕ → World
 new_world count = record {
   phase = Apart;
@@ -183,7 +183,7 @@ new_world count = record {
 
 -- ---- attaching: the endpoints
 
--- the sender once its attach was sent, which states its present count
+-- the sender after its attach was sent, which states its present delivery-count
 abbrev pub sender_asking : ℕ → Sender Target → Sender Target
 sender_asking limit s = record s {
   local_state = AttachSent;
@@ -192,7 +192,7 @@ sender_asking limit s = record s {
   max_frame_size = limit;
 }
 
--- and once the receiver's has arrived: the exchange took its deliveries
+-- the sender after it has taken the receiver's attach: the exchange has emptied its map
 abbrev pub sender_together : ℕ → Sender Target → Sender Target
 sender_together limit s = record (sender_asking limit s) {
   local_state = Attached;
@@ -200,11 +200,11 @@ sender_together limit s = record (sender_asking limit s) {
   unsettled = [];
 }
 
--- the receiver at its handle, with this frame limit
+-- the receiver at handle 0, with this frame limit
 abbrev pub receiver_at_limit : ℕ → Receiver Target → Receiver Target
 receiver_at_limit limit r = record r { output_handle = Some (record { 0 = 0 }); max_frame_size = limit }
 
--- the receiver once the sender's attach has arrived: it counts from the sender's count
+-- the receiver after it has taken the sender's attach: both its delivery-counts are the sender's
 abbrev pub receiver_half_attached : ℕ → ℕ → Receiver Target → Receiver Target
 receiver_half_attached limit count r = record (receiver_at_limit limit r) {
   local_state = AttachReceived;
@@ -213,17 +213,18 @@ receiver_half_attached limit count r = record (receiver_at_limit limit r) {
   more = false;
 }
 
--- and once its own was sent
+-- the receiver after its attach was sent
 abbrev pub receiver_together : ℕ → ℕ → Receiver Target → Receiver Target
 receiver_together limit count r = record (receiver_half_attached limit count r) { local_state = Attached }
 
 -- ---- attaching: whether the attaches fit
 
--- whether an attach with all deliveries of its endpoint fits a frame
+-- whether an attach fits a frame
 abbrev pub fits : Attach → ℕ → Bool
 fits attach frame = nat_le (4 + attach_len attach) frame
 
--- whether those of both endpoints do, with the sender's count
+-- whether the attaches of both endpoints, with all their deliveries and the sender's delivery-count, fit a
+-- frame
 abbrev pub attaches_fit : Sender Target → Receiver Target → ℕ → Bool
 attaches_fit s r limit =
     let count = s.flow_state.delivery_count in
@@ -231,29 +232,29 @@ attaches_fit s r limit =
     let answered = counted_attach (receiver_shown archetype.Target r) count (unwrap_or r.output_handle zero_output) in
     fits (with_entries sent (states_of s.unsettled) 0) limit && fits (with_entries answered r.unsettled 0) limit
 
--- whether the endpoints are on the way at another frame limit
+-- whether an attach has begun at another frame limit, and not finished
 abbrev pub is_halfway_at_other : ℕ → Phase → Bool
 is_halfway_at_other limit (Halfway begun) = not (limit == begun)
 is_halfway_at_other limit _ = false
 
-abbrev pub Tests : Type 0
-Tests = List (Bool × PairError)
+abbrev pub PairTests : Type 0
+PairTests = List (Bool × PairError)
 
--- a frame limit of less than 29 leaves no room for a byte beside a transfer that resumes
-abbrev pub attach_tests : World → ℕ → Tests
+-- A limit under 29 has no room for a payload byte beside a transfer that resumes.
+abbrev pub attach_tests : World → ℕ → PairTests
 attach_tests w limit =
     (is_together w.phase, error.AlreadyAttached)
     ∷ (is_halfway_at_other limit w.phase, error.LimitChanged)
     ∷ (nat_lt limit 29 || not (attaches_fit w.ledger.link w.receiver limit), error.LimitTooSmall)
     ∷ []
 
--- ---- attaching: the step
+-- ---- attaching: what it does
 
--- what an attach leaves to resume, by what both endpoints have kept
+-- the deliveries that an attach leaves to resume, by the unsettled maps of both endpoints
 abbrev pub list_to_resume : World → Entries ResumingDelivery
 list_to_resume w = deliveries_to_resume w.ledger.link.unsettled w.receiver.unsettled
 
--- The ledger after an exchange: outcomes that it returns are resolved, and then its list is handed out.
+-- The ledger after an exchange: the outcomes that it returns are resolved, and then its list is handed out.
 abbrev pub ledger_together : ℕ → World → Ledger Target
 ledger_together limit w = record {
   link = sender_together limit w.ledger.link;
@@ -262,7 +263,7 @@ ledger_together limit w = record {
 }
 
 -- Both endpoints are attached at the frame limit. Each delivery of the sender's map is handed out, to be
--- resumed from where the receiver's report ends.
+-- resumed from the position that the receiver reports.
 abbrev pub after_attach : ℕ → World → World
 after_attach limit w = record w {
   phase = Together limit;
@@ -271,13 +272,13 @@ after_attach limit w = record w {
   resuming = list_to_resume w;
 }
 
--- the answer is how many are to be resumed
+-- the answer is how many deliveries are to be resumed
 pub record Attaches (old : World) (limit count : ℕ) (new : World) : Type 0 where
   pub counted : count ≡ length (list_to_resume old)
   pub world : new ≡ after_attach limit old
 
--- where an attach may stop: the sender's is on its way, the receiver has taken it, or the receiver's
--- is on its way
+-- where an attach may stop: the sender's attach was sent, the receiver has taken it, or the receiver's attach
+-- was sent
 pub data AttachStop : Type 0 where
   Asked : AttachStop
   Taken : AttachStop
@@ -288,7 +289,7 @@ receiver_at Asked limit count r = receiver_at_limit limit r
 receiver_at Taken limit count r = receiver_half_attached limit count r
 receiver_at Answered limit count r = receiver_together limit count r
 
--- the world of an attach that has come so far
+-- the world of an attach that has stopped there
 abbrev pub halfway_at : AttachStop → ℕ → World → World
 halfway_at stop limit w = record w {
   phase = Halfway limit;
@@ -296,8 +297,8 @@ halfway_at stop limit w = record w {
   receiver = receiver_at stop limit w.ledger.link.flow_state.delivery_count w.receiver;
 }
 
--- An attach is out of memory once the sender's was sent. No test of the call holds, and a receiver whose
--- attach was sent does not send it again.
+-- An attach that is out of memory after the sender's was sent has stopped. No test of the call holds, and a
+-- receiver that has sent its attach does not send it again.
 pub record StopsAt (stop : AttachStop) (old : World) (limit : ℕ) (new : World) : Type 0 where
   pub may : refusal (attach_tests old limit) ≡ None
   pub onward : old.receiver.local_state ≡ Attached → stop ≡ Answered
@@ -310,11 +311,11 @@ later Taken Asked = Taken
 later Taken stop = stop
 later Answered stop = Answered
 
--- an attach that is out of memory leaves all as it was, or stops on the way
+-- an attach that is out of memory leaves all as it was, or stops at one of these places
 abbrev pub StaysOrStops : World → ℕ → World → Type 0
 StaysOrStops old limit new = (new ≡ old) ⊎ ((stop : AttachStop) × StopsAt stop old limit new)
 
--- what an attach leaves that did not succeed
+-- what an attach leaves that has failed
 abbrev pub LeftByAttach : {A : Type 0} → Result A PairError → World → ℕ → World → Type 0
 LeftByAttach (Ok a) old limit new = Unit {0}
 LeftByAttach (Err error.OutOfMemory) old limit new = StaysOrStops old limit new
@@ -322,12 +323,12 @@ LeftByAttach (Err e) old limit new = new ≡ old
 
 -- ---- the other calls
 
--- the counts of an endpoint, with this credit
+-- the flow state of an endpoint, with this link-credit
 abbrev pub with_credit : LinkFlowStateInner → ℕ → LinkFlowStateInner
 with_credit flow credit = record flow { link_credit = credit }
 
--- The receiver's credit becomes what is granted, and the sender's what is granted less what the receiver
--- has not counted yet, which is the answer.
+-- The receiver's link-credit becomes the granted credit, and the sender's, which is the answer, becomes the
+-- receiver's delivery-count + the granted credit - the sender's delivery-count.
 pub record Grants (old : World) (n answer : ℕ) (new : World) : Type 0 where
   pub credit : answer ≡ granted old.receiver.flow_state.delivery_count n old.ledger.link.flow_state.delivery_count
   pub world : new ≡ record old {
@@ -335,7 +336,7 @@ pub record Grants (old : World) (n answer : ℕ) (new : World) : Type 0 where
     receiver = record old.receiver { flow_state = with_credit old.receiver.flow_state n };
   }
 
--- an entry goes into the sender's map, and gets the next number
+-- an entry is registered: it goes into the sender's map, and its tag gets the next number
 abbrev pub after_registration : Ledger Target → Tag → UnsettledMessage → Ledger Target
 after_registration ledger tag entry = record {
   link = record ledger.link { unsettled = with_entry ledger.link.unsettled tag entry };
@@ -361,9 +362,9 @@ pub record Sends (old : World) (payload : List ℕ) (tag : Tag) (count : ℕ) (n
     wire = old.wire ++ under tag frames;
   }
 
--- The first transfer comes off the wire, its payload is added to what is held of its delivery, and the
--- receiver reports how much that is. The answer is the delivery's tag, the position of what is held, and
--- whether its last transfer has arrived.
+-- The first transfer leaves the wire, its payload is added to what is held of its delivery, and the receiver
+-- reports the position of that. The answer is the delivery's tag, this position, and whether its last
+-- transfer has arrived.
 pub record Arrives (old : World) (id : ℕ) (tag : Tag) (place : ℕ × ℕ) (whole : Bool) (new : World) : Type 0 where
   pub first : OnWire
   pub rest : List OnWire
@@ -379,8 +380,8 @@ pub record Arrives (old : World) (id : ℕ) (tag : Tag) (place : ℕ × ℕ) (wh
     wire = rest;
   }
 
--- A detach that does not close, and its reply: both output handles are released and the wire is lost; what
--- is held, what is registered and every fate stay.
+-- A detach that does not close, and its reply: both output handles are released and the wire is lost; what is
+-- held and reported, the sender's map and each fate stay.
 pub record Cuts (old new : World) : Type 0 where
   pub world : new ≡ record old {
     phase = Apart;
@@ -389,8 +390,8 @@ pub record Cuts (old new : World) : Type 0 where
     wire = [];
   }
 
--- The rest of the next delivery is at the end of the wire, and its entry is registered anew. The answer
--- is the tag, the number of transfers, and whether the receiver has something of it already.
+-- The rest of the next delivery is at the end of the wire, and its entry is registered again. The answer is
+-- the tag, the number of transfers, and whether the receiver holds something of it already.
 pub record Resumes (old : World) (tag : Tag) (count : ℕ) (resume : Bool) (new : World) : Type 0 where
   pub next : ResumingDelivery
   pub others : Entries ResumingDelivery
@@ -413,7 +414,7 @@ pub record Resumes (old : World) (tag : Tag) (count : ℕ) (resume : Bool) (new 
     wire = old.wire ++ under tag frames;
   }
 
--- The entry of the next delivery is registered anew, and nothing is sent.
+-- The entry of the next delivery is registered again, and nothing is sent.
 pub record PutsBack (old : World) (tag : Tag) (new : World) : Type 0 where
   pub next : ResumingDelivery
   pub others : Entries ResumingDelivery
@@ -435,11 +436,11 @@ after_hand_out w tag p = record w {
   deliveries = with_entry w.deliveries tag (record p { taken = true });
 }
 
--- a delivery that cannot be decoded counts as handed out
+-- what a delivery leaves that cannot be decoded: it counts as handed out
 abbrev pub IsUndecoded : World → Tag → World → Type 0
 IsUndecoded old tag new = (p : Progress) × (entry_at old.deliveries tag ≡ Some p) × (new ≡ after_hand_out old tag p)
 
--- what a hand-out leaves that did not succeed
+-- what a hand-out leaves that has failed
 abbrev pub LeftByHandOut : {A : Type 0} → Result A PairError → World → Tag → World → Type 0
 LeftByHandOut (Ok a) old tag new = Unit {0}
 LeftByHandOut (Err error.Decode) old tag new = IsUndecoded old tag new
@@ -455,7 +456,7 @@ pub record HandsOutDelivery {B : Type 0} (decoded : List ℕ → Result (Message
   pub given : IsDelivery old.receiver held.performative (decoded (held_bytes held)) delivery
   pub world : new ≡ after_hand_out old tag before
 
--- Both endpoints forget the delivery, and its registration is resolved: it was accepted.
+-- The delivery leaves both maps and the pair, and its registration is resolved as accepted.
 pub record Settles (old : World) (tag : Tag) (new : World) : Type 0 where
   pub world : new ≡ record old {
     ledger = record {
@@ -472,10 +473,10 @@ abbrev pub is_empty : {A : Type 0} → List A → Bool
 is_empty [] = true
 is_empty (x ∷ xs) = false
 
-abbrev pub grant_tests : World → Tests
+abbrev pub grant_tests : World → PairTests
 grant_tests w = (not (is_together w.phase), error.NotAttached) ∷ []
 
-abbrev pub send_tests : World → List ℕ → Tests
+abbrev pub send_tests : World → List ℕ → PairTests
 send_tests w payload =
     (not (is_together w.phase), error.NotAttached)
     ∷ (not (is_empty w.resuming), error.ResumeFirst)
@@ -484,14 +485,14 @@ send_tests w payload =
     ∷ (is_some (entry_at w.ledger.link.unsettled (next_tag w.ledger.link)), error.TagPending)
     ∷ []
 
-abbrev pub arrive_tests : World → Tests
+abbrev pub arrive_tests : World → PairTests
 arrive_tests w = (not (is_together w.phase), error.NotAttached) ∷ (is_empty w.wire, error.WireEmpty) ∷ []
 
-abbrev pub cut_tests : World → Tests
+abbrev pub cut_tests : World → PairTests
 cut_tests w = (not (is_together w.phase), error.NotAttached) ∷ (not (is_empty w.resuming), error.StillHandedOut) ∷ []
 
--- of `resume_next` and of `put_back_next`
-abbrev pub next_tests : World → Tests
+-- the tests of `resume_next` and of `put_back_next`
+abbrev pub next_tests : World → PairTests
 next_tests w = (not (is_together w.phase), error.NotAttached) ∷ (is_empty w.resuming, error.NothingToResume) ∷ []
 
 -- whether a delivery has this flag
@@ -502,7 +503,7 @@ abbrev pub is_error : {A E : Type 0} → Result A E → Bool
 is_error (Ok a) = false
 is_error (Err e) = true
 
-abbrev pub hand_out_tests : {B : Type 0} → (List ℕ → Result (Message B) DecodeError) → World → Tag → Tests
+abbrev pub hand_out_tests : {B : Type 0} → (List ℕ → Result (Message B) DecodeError) → World → Tag → PairTests
 hand_out_tests decoded w tag =
     (not (is_together w.phase), error.NotAttached)
     ∷ (not (is_some (held_at w tag)), error.UnknownTag)
@@ -512,7 +513,7 @@ hand_out_tests decoded w tag =
     ∷ (is_error (decoded (bytes_in (held_at w tag))), error.Decode)
     ∷ []
 
-abbrev pub settle_tests : World → Tag → Tests
+abbrev pub settle_tests : World → Tag → PairTests
 settle_tests w tag =
     (not (is_together w.phase), error.NotAttached)
     ∷ (not (is_some (held_at w tag)), error.UnknownTag)

@@ -1,5 +1,4 @@
--- What is on its way from a sender to a receiver: the transfers in order, each with the tag of its
--- delivery.
+-- The transfers on their way from a sender to a receiver, in order, each with the tag of its delivery.
 use Rattle.std.specs.Prelude.{ℕ, List, map, filter, flat_map}
 use Rattle.std.specs.Str.{bytes_eq}
 use Rattle.amqp_link_types.specs.Entries.{Tag}

@@ -21,7 +21,8 @@ use Rattle.amqp_link_worlds.specs.Resumptions.{entry_of, rest_of}
 use Rattle.amqp_link_worlds.specs.Wires.{OnWire, frames_of, payload_of_all}
 use Rattle.amqp_link_worlds.specs.declared.progress.Progress.{Progress}
 
--- how far the endpoints are attached: not at all, on the way at a frame limit, or both at it
+-- how far the endpoints are attached: not at all, between the steps of an attach at a frame limit, or both at
+-- it
 pub data Phase : Type 0 where
   Apart : Phase
   Halfway : ℕ → Phase
@@ -35,9 +36,9 @@ pub record World : Type 0 where
   pub phase : Phase
   pub ledger : Ledger Target
   pub receiver : Receiver Target
-  -- how far each delivery has come, from its send on
+  -- how far each delivery has come, from its send until its settlement
   pub deliveries : Entries Progress
-  -- what the last exchange has left to resume, in order
+  -- the deliveries of the last exchange that are still to be resumed, in order
   pub resuming : Entries ResumingDelivery
   pub wire : List OnWire
 
@@ -47,14 +48,14 @@ pub record World : Type 0 where
 pub record Standing : Type 0 where
   -- its entry in the sender's map
   pub own : Option UnsettledMessage
-  -- its place in the list to resume
+  -- its delivery in the list to resume
   pub listed : Option ResumingDelivery
   pub progress : Option Progress
   -- its entry in the receiver's map
   pub reported : Option (Option DeliveryState)
   -- its transfers under way
   pub frames : List LinkFrame
-  -- what became of its registrations
+  -- the fates of its registrations
   pub fates : List Fate
 
 abbrev pub standing : World → Tag → Standing
@@ -86,7 +87,7 @@ is_out together None p = false
 abbrev pub is_out_at : World → Tag → Bool
 is_out_at w tag = option_map_or (is_out (is_together w.phase) (entry_at w.ledger.link.unsettled tag)) (entry_at w.deliveries tag) false
 
--- some bytes more make the whole
+-- some bytes follow the front and make the whole
 abbrev pub IsFront : List ℕ → List ℕ → Type 0
 IsFront front whole = (rest : List ℕ) × (front ++ rest ≡ whole)
 
@@ -97,7 +98,7 @@ EndsInTime whole [] = whole ≡ true
 EndsInTime whole (f ∷ []) = (performative_of f).more ≡ false
 EndsInTime whole (f ∷ g ∷ frames) = ((performative_of f).more ≡ true) × EndsInTime whole (g ∷ frames)
 
--- the front that ends at a position was received
+-- the state of a delivery that was received up to a position
 abbrev pub received_at : ℕ × ℕ → DeliveryState
 received_at place = Received place.0 place.1
 
@@ -106,10 +107,10 @@ abbrev pub receiver_entry : Option Held → Option (Option DeliveryState)
 receiver_entry None = None
 receiver_entry (Some held) = Some (Some (received_at (position (held_bytes held))))
 
--- What is held of a delivery is a front of its payload, and the receiver reports exactly that front. If
--- the delivery is out, the transfers under way carry the rest, and the last one ends it; otherwise none is
--- under way. Once its last transfer has arrived, the whole payload is held. If its entry is handed out, the
--- rest to send is what is not held.
+-- What is held of a delivery is a front of its payload, and the receiver reports its position. If the
+-- delivery is out, the transfers under way carry the rest, and the last one ends it; otherwise none is under
+-- way. Once its last transfer has arrived, the whole payload is held. If its entry is handed out, the rest to
+-- send is what is not held.
 pub record IsGood (payload : List ℕ) (p : Progress) (out : Bool) (reported : Option (Option DeliveryState)) (frames : List LinkFrame)
     (rest : Option (List ℕ)) : Type 0 where
   pub front : IsFront (bytes_in p.held) payload
@@ -120,11 +121,11 @@ pub record IsGood (payload : List ℕ) (p : Progress) (out : Bool) (reported : O
   pub complete : p.whole ≡ true → bytes_in p.held ≡ payload
   pub rest_is : IfSome rest (λ bytes. bytes ≡ drop (length (bytes_in p.held)) payload)
 
--- its entry at the sender, in the map or handed out
+-- its entry at the sender: in the unsettled map, or handed out in the list to resume
 abbrev pub entry_in : Standing → Option UnsettledMessage
 entry_in s = option_or s.own (option_and_then entry_of s.listed)
 
--- what is to be sent of it, if its entry is handed out
+-- the bytes to send of it, if its entry is handed out
 abbrev pub rest_in : Standing → Option (List ℕ)
 rest_in s = option_and_then rest_of s.listed
 
@@ -138,6 +139,6 @@ abbrev pub IsGoodIn : Bool → Standing → Type 0
 IsGoodIn together s = IsSomeAnd (entry_in s) (λ entry. IsSomeAnd s.progress (λ p.
     IsGood entry.payload p (is_out together s.own p) s.reported s.frames (rest_in s)))
 
--- each delivery whose registration is not over is good
+-- each delivery whose latest registration is pending or handed out is good
 abbrev pub Good : World → Type 0
 Good w = (tag : Tag) → IsOpen (latest (fates_of tag w.ledger.records)) → IsGoodIn (is_together w.phase) (standing w tag)

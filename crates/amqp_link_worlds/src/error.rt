@@ -14,7 +14,7 @@ pub enum PairError {
     /// The endpoints have begun to attach at another limit. Attach again with that one.
     #[error("the endpoints are attaching at another frame limit")]
     LimitChanged,
-    /// The frame limit leaves no room for a transfer that resumes, or for an attach. Try a greater one.
+    /// The frame limit leaves no room for a transfer that resumes, or for an attach. Try a larger one.
     #[error("the frame limit is too small")]
     LimitTooSmall,
     /// The endpoints are not attached. Attach them first.
@@ -35,13 +35,13 @@ pub enum PairError {
     /// No transfer is under way.
     #[error("no transfer is under way")]
     WireEmpty,
-    /// Entries of the last exchange are still handed out.
+    /// Deliveries of the last exchange are still to be resumed or put back.
     #[error("deliveries are still handed out")]
     StillHandedOut,
     /// No delivery is left to resume.
     #[error("nothing is to be resumed")]
     NothingToResume,
-    /// The receiver holds nothing of this tag.
+    /// The receiver holds nothing of the delivery with this tag.
     #[error("nothing is held of this delivery")]
     UnknownTag,
     /// The last transfer of the delivery has not arrived.
@@ -59,7 +59,7 @@ pub enum PairError {
     /// A transfer of this delivery is still under way.
     #[error("a transfer of this delivery is under way")]
     OnWire,
-    /// There was no memory. The same call may be made again.
+    /// Out of memory. The same call may be made again.
     #[error("out of memory")]
     OutOfMemory,
 }

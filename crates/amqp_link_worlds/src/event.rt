@@ -28,9 +28,9 @@ pub enum Event {
 /// What a call of a pair returns that was not refused, if messages have bodies of this type.
 #[derive(Debug, PartialEq, Eq, Drop)]
 pub enum AnswerOf<B> {
-    /// So many deliveries are to be resumed.
+    /// This many deliveries are to be resumed.
     Attached(usize),
-    /// The sender has this credit.
+    /// The sender has this link-credit.
     Granted(u32),
     /// A delivery was sent.
     Sent {
@@ -43,9 +43,9 @@ pub enum AnswerOf<B> {
     Arrived {
         /// The tag of its delivery.
         tag: DeliveryTag,
-        /// The section in which what is held of the delivery ends, counted from 0.
+        /// The section in which what the receiver holds of the delivery ends, counted from 0.
         section_number: u32,
-        /// The bytes that are held since that section's start.
+        /// The bytes that it holds since that section's start.
         section_offset: u64,
         /// Whether the delivery's last transfer has arrived.
         whole: bool,
@@ -58,7 +58,8 @@ pub enum AnswerOf<B> {
         tag: DeliveryTag,
         /// The number of transfers.
         frames: usize,
-        /// Whether the delivery is resumed: the receiver has something of it. Otherwise it is sent again.
+        /// Whether the delivery is resumed, since the receiver holds something of it. Otherwise it is sent
+        /// again.
         resume: bool,
     },
     /// The entry of the delivery with this tag was registered again.
@@ -69,5 +70,5 @@ pub enum AnswerOf<B> {
     Settled,
 }
 
-/// What a call of a pair returns, if bodies are kept as their bytes.
+/// What a call of a pair returns, if the body of a message is all its bytes.
 pub type Answer = AnswerOf<Whole>;

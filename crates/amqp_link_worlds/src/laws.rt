@@ -1,4 +1,5 @@
-//! What holds of a pair by its definitions alone. A pair's calls are proved by the same lemmas.
+//! What follows from the definitions of a pair, without any call. A pair's calls are proved by the same
+//! lemmas.
 //!
 //! Each function here does nothing: its contract is the law.
 ghost use Rattle.std.specs.Prelude.{◌≡◌, ◌⊎◌, [], ◌∷◌, ℕ, Bool, true, false, List, None, Some, Option, Ok, Result, IsSomeAnd, slice_get};
@@ -21,7 +22,7 @@ ghost use Rattle.amqp_link_worlds.specs.Attachable.{CanAsk, CanTakeAsked, CanAns
 ghost use Rattle.amqp_link_worlds.specs.Callable.{CanSend, IsFree, CanGrant, CanCut, CanResume, CanComplete, CanSettle};
 ghost use Rattle.amqp_link_worlds.specs.Invariants.{IsWorld};
 ghost use Rattle.amqp_link_worlds.specs.Receiving.{CanReceive};
-ghost use Rattle.amqp_link_worlds.specs.PairRuns.{Does, HoldsWhatArrived, IsRun, Moment, RunsEvents, Step, is_out_after, is_send_of, tests_of};
+ghost use Rattle.amqp_link_worlds.specs.PairRuns.{Does, FatesMoveOnce, HoldsWhatArrived, IsRun, Moment, RunsEvents, Step, is_out_after, is_send_of, tests_of};
 ghost use Rattle.amqp_link_worlds.specs.Steps.{new_world, list_to_resume, later, sender_asking, receiver_at_limit, receiver_half_attached, receiver_together, Attaches, AttachStop, StopsAt, Grants, Sends, Arrives, Cuts, Resumes, PutsBack, HandsOutDelivery, Settles, after_hand_out, attach_tests, send_tests, arrive_tests, cut_tests, next_tests, hand_out_tests, settle_tests};
 ghost use Rattle.amqp_link_worlds.specs.Wires.{OnWire};
 ghost use Rattle.amqp_link_worlds.specs.Worlds.{World, is_out_at, Apart, Halfway, Good, IsOpen, is_together, standing, entry_in, held_at, bytes_in, receiver_entry};
@@ -31,18 +32,19 @@ ghost use Rattle.amqp_link_worlds.specs.declared.event.Event.{Event};
 ghost use Rattle.amqp_link_worlds.specs.declared.event.Event.TheVariants.{Settle};
 ghost use Rattle.amqp_link_worlds.specs.declared.progress.Progress.{Progress as TheProgress};
 
-/// A new pair has the invariant.
+/// A new pair has the invariant (`IsWorld`).
 pub fn a_new_pair_is_kept()
     ensures { (count : ℕ) → IsWorld (new_world count) }
 {}
 
-/// The invariant makes each delivery good, and the pending registrations those of the sender's map.
+/// By the invariant each delivery is good, and the pending registrations are those of the sender's unsettled
+/// map.
 pub fn a_kept_pair_is_good()
     ensures good { (w : World) → IsWorld w → Good w }
     ensures ledger { (w : World) → IsWorld w → IsRecorded w.ledger.link.unsettled w.ledger.records }
 {}
 
-/// Each call that no test refuses keeps the invariant, and so does an attach that stops half-way.
+/// Each call that no test refuses keeps the invariant, and so does an attach that stops between its steps.
 pub fn each_call_keeps_a_pair()
     ensures attach { (old new : World) (limit count : ℕ) → IsWorld old → refusal (attach_tests old limit) ≡ None
         → Attaches old limit count new → IsWorld new }
@@ -63,7 +65,7 @@ pub fn each_call_keeps_a_pair()
         → Settles old tag new → IsWorld new }
 {}
 
-/// If no test of a call holds, the endpoints below have no reason to refuse it but memory. The receiver
+/// If no test of a call holds, the endpoints below refuse it only if they are out of memory. The receiver
 /// reports whatever it holds, so that a further arrival adds no entry to its map.
 pub fn endpoints_refuse_only_for_memory()
     ensures send { (w : World) (payload : List ℕ) → IsWorld w → refusal (send_tests w payload) ≡ None → CanSend w.ledger.link }
@@ -83,8 +85,8 @@ pub fn endpoints_refuse_only_for_memory()
         → CanSettle w tag }
 {}
 
-/// An attach of both endpoints goes in four steps, and no endpoint has a reason to refuse its step but
-/// memory; an attach that stopped goes on from where it did.
+/// An attach of both endpoints has four steps, and each endpoint refuses its step only if it is out of
+/// memory; an attach that has stopped continues from the step that it has reached.
 pub fn an_attach_goes_in_four_steps()
     ensures ask { (w : World) (limit : ℕ) → IsWorld w → w.phase ≡ Apart → refusal (attach_tests w limit) ≡ None
         → CanAsk limit w.ledger.link }
@@ -108,7 +110,8 @@ pub fn an_attach_goes_in_four_steps()
         → Attaches mid limit count new → Attaches old limit count new }
 {}
 
-/// An attach returns no outcome, and hands out each pending delivery once, in the order of the sender's map.
+/// An attach resolves no delivery, and hands out each pending delivery once, in the order of the sender's
+/// map.
 pub fn an_attach_hands_out_each_delivery_once()
     ensures outcomes { (w : World) → IsWorld w → is_together w.phase ≡ false
         → outcomes_returned w.ledger.link.unsettled w.receiver.unsettled ≡ [] }
@@ -116,7 +119,7 @@ pub fn an_attach_hands_out_each_delivery_once()
         → keys_of (list_to_resume w) ≡ keys_of w.ledger.link.unsettled }
 {}
 
-/// Every step and every run keeps the invariant.
+/// Each step and each run keeps the invariant.
 pub fn each_run_keeps_a_pair<B>()
     ensures step { (decoded : List ℕ → Result (TheMessage B) DecodeError) (old new : World) (e : Event)
         (r : Result (AnswerOf B) Refusal) → IsWorld old → Step decoded old e r new → IsWorld new }
@@ -127,14 +130,18 @@ pub fn each_run_keeps_a_pair<B>()
         → RunsEvents decoded old events answers finished new → IsWorld new }
 {}
 
-/// Over a run each registration keeps its number and its tag, and a fate that has moved stays.
+/// Over a run each registration keeps its number and its tag, and a fate that has moved stays: of a registration that
+/// was there before (`there`), and of one that was made in the run (`made`).
 pub fn fates_move_once_in_a_run<B>()
-    ensures { (decoded : List ℕ → Result (TheMessage B) DecodeError) (old new : World)
+    ensures there { (decoded : List ℕ → Result (TheMessage B) DecodeError) (old new : World)
         (moments : List (Moment decoded)) → IsRun decoded old moments new
         → MovesOnce old.ledger.records new.ledger.records }
+    ensures made { (decoded : List ℕ → Result (TheMessage B) DecodeError) (old new : World)
+        (moments : List (Moment decoded)) → IsRun decoded old moments new
+        → FatesMoveOnce decoded moments new }
 {}
 
-/// Only a settlement resolves a registration: one of its own tag, and with the outcome accepted.
+/// Only a settlement resolves a registration: one of its own tag, with the outcome accepted.
 pub fn only_a_settlement_resolves<B>()
     ensures { (decoded : List ℕ → Result (TheMessage B) DecodeError) (old new : World) (e : Event) (r : Result (AnswerOf B) Refusal)
         → IsWorld old → Step decoded old e r new
@@ -143,22 +150,22 @@ pub fn only_a_settlement_resolves<B>()
         → (e ≡ Settle tag) × (outcome ≡ Ok (Some Accepted)) }
 {}
 
-/// No step changes the payload of a delivery, unless it sends the tag anew.
+/// No step changes the payload of a delivery, unless it sends a new delivery with the tag.
 pub fn no_payload_changes<B>()
     ensures { (decoded : List ℕ → Result (TheMessage B) DecodeError) (tag : Tag) (old new : World) (e : Event)
         (r : Result (AnswerOf B) Refusal) → IsWorld old → Step decoded old e r new → is_send_of tag r ≡ false
         → IsOpen (latest (fates_of tag new.ledger.records)) → entry_in (standing new tag) ≡ entry_in (standing old tag) }
 {}
 
-/// After a run the receiver holds of each delivery exactly what arrived of it.
+/// After a run the receiver holds of each delivery exactly the bytes that arrived.
 pub fn held_is_what_arrived<B>()
     ensures { (decoded : List ℕ → Result (TheMessage B) DecodeError) (old new : World)
         (moments : List (Moment decoded)) → IsWorld old → IsRun decoded old moments new
         → HoldsWhatArrived decoded old moments new }
 {}
 
-/// A delivery is out from its send or its resumption on, until a cut, an attach or its settlement: no other
-/// call changes that.
+/// A delivery is out from its send or its resumption until a cut, an attach or its settlement: no other call
+/// changes that.
 pub fn out_from_send_or_resumption_on<B>()
     ensures answered { (decoded : List ℕ → Result (TheMessage B) DecodeError) (tag : Tag) (old new : World) (e : Event)
         (answer : AnswerOf B) → IsWorld old → refusal (tests_of decoded old e) ≡ None → Does decoded old e answer new

@@ -8,11 +8,11 @@ use amqp_link_core::incomplete_transfer::IncompleteTransfer;
 /// pair's phase (`is_out` in specs/Worlds.antt), so that a cut changes no delivery.
 #[derive(Debug, Drop)]
 pub struct Progress {
-    /// What the receiver holds of it, once a transfer has arrived.
+    /// What the receiver holds of it: none before its first transfer has arrived.
     pub held: Option<IncompleteTransfer>,
     /// Whether its last transfer has arrived.
     pub whole: bool,
-    /// Whether its entry was last put back unsent, and neither sent nor resumed.
+    /// Whether its entry was put back without being sent, and was neither sent nor resumed since.
     pub put_back: bool,
     /// Whether the receiver has handed it out.
     pub taken: bool,

@@ -3,12 +3,12 @@ use Rattle.std.specs.Prelude.{◌≡◌, ℕ, ◌+◌, ◌*◌, ◌%◌, ◌⊎�
 use Rattle.std.specs.Char.{digit_value}
 use Rattle.std.specs.Str.Parse.{IsNumeral}
 
--- the bytes that pairs of digits write
+-- the bytes of pairs of digits
 abbrev pub hex_bytes : List ℕ → List ℕ
 hex_bytes [] = []
 hex_bytes (digit ∷ []) = []
 hex_bytes (high ∷ low ∷ rest) = (digit_value high * 16 + digit_value low) ∷ hex_bytes rest
 
--- the text writes bytes: pairs of digits of either case, one pair or more, or `-` for no byte
+-- the text states bytes: pairs of digits of either case, one pair or more, or `-` for no byte
 abbrev pub IsHexText : List ℕ → Type 0
 IsHexText text = (text ≡ codes "-") ⊎ (IsNumeral 16 text × (length text % 2 ≡ 0))

@@ -6,9 +6,9 @@ ghost use Rattle.line_text.specs.Hex.{IsHexText, hex_bytes};
 use crate::digits::{are_digits, hex_value};
 use std::alloc::{AllocError, Global};
 
-/// The bytes that `text` writes in digits of either case, or `None` where it writes none.
+/// The bytes that `text` states in digits of either case, or `None` if it states none.
 ///
-/// Memory is asked for only once it is known that `text` writes bytes.
+/// Allocates only if `text` states bytes.
 pub fn parse_bytes(alloc: Global, text: &[u8]) -> Result<Option<Vec<u8>>, AllocError>
     ensures ok { IfOk result (λ found.
         MatchOption found (¬ IsHexText text.now)

@@ -1,4 +1,4 @@
-//! Lines of text and what their words write: numbers in decimal digits, bytes in hexadecimal ones.
+//! Lines of text and the values of their words: numbers in decimal digits, bytes in hexadecimal ones.
 #![tactic(auto)]
 
 mod digits;

@@ -5,11 +5,11 @@ ghost use Rattle.std.specs.Io.BufRead.{DropsThrough, first_line};
 use std::io;
 use std::io::BufRead;
 
-/// Reads the next line without its end, a line feed and a carriage return before it, and answers
+/// Reads the next line without its end, which is a line feed and a carriage return before it, and returns
 /// whether there was one.
 ///
-/// What `line` held is dropped; after an error it may hold a part of the line. The error is a
-/// failed read, or memory that the line has not.
+/// The old content of `line` is dropped; after an error it may hold a part of the line. The error is a failed
+/// read, or out of memory.
 pub fn read_line<R: BufRead>(input: &mut R, line: &mut Vec<u8>) -> io::Result<bool>
     ensures line { OnOk result (IfSome (R.remaining input.old) (λ bytes. line.new.items ≡ first_line bytes)) }
     ensures rest { OnOk result (DropsThrough (R.remaining input.old) (R.remaining input.new) 10) }

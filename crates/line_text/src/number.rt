@@ -6,14 +6,14 @@ ghost use Rattle.line_text.specs.Number.{IsSignedNumeral};
 
 use crate::digits::are_digits;
 
-/// The number that `text` writes in decimal digits, one or more and nothing beside them, where it
-/// fits a `u64`. Leading zeros count for nothing. Takes no memory.
+/// The number that `text` states in decimal digits, one or more and nothing else, if a `u64` holds it.
+/// Leading zeros are allowed. Does not allocate.
 pub fn parse_unsigned(text: &[u8]) -> Option<u64>
     ensures { SomeIff result
         (IsNumeral 10 text.now × (digits_value 10 text.now < 2 ^ 64))
         (digits_value 10 text.now) }
 {
-    // `parse` takes a plus too, which is no digit.
+    // `parse` accepts a plus too, which is no digit.
     if !are_digits(text, 10) {
         return None;
     }
@@ -23,7 +23,7 @@ pub fn parse_unsigned(text: &[u8]) -> Option<u64>
     digits.parse().ok()
 }
 
-/// The same of an `i64`, where a minus may stand before the digits.
+/// The same of an `i64`, with an optional minus before the digits.
 pub fn parse_signed(text: &[u8]) -> Option<i64>
     ensures { SomeIff result (IsSignedNumeral text.now) (signed_digits_value 10 text.now) }
 {

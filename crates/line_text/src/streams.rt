@@ -8,7 +8,7 @@ use std::io::{self, BufReader, BufWriter, ErrorKind, Read, Write};
 
 /// A buffered reader and a buffered writer over these streams.
 ///
-/// Refused only if there is no memory for their buffers; the streams are dropped then.
+/// Refused only if it is out of memory; the streams are dropped then.
 pub fn buffered<R: Read + Drop, W: Write + Drop>(
     alloc: Global,
     input: R,

@@ -1,4 +1,4 @@
-//! What lines and words say, at values from outside.
+//! The values of lines and words that come from elsewhere.
 use line_text::hex::parse_bytes;
 use line_text::line::read_line;
 use line_text::number::{parse_signed, parse_unsigned};

@@ -4,15 +4,15 @@ use Rattle.std.specs.Str.Parse.{IsNumeral, digits_value}
 use Rattle.line_text.specs.Hex.{IsHexText, hex_bytes}
 use Rattle.linkrun.specs.declared.event.Event.{Event}
 use Rattle.linkrun.specs.declared.event.Event.TheVariants.{Call, Show, Fate}
-use Rattle.amqp_link_worlds.specs.declared.event.Event.TheVariants as call
+use Rattle.amqp_link.specs.Events as call
 
--- the text writes n, in decimal digits and nothing else
+-- the text is the number n, in decimal digits and nothing else
 pub record IsNumber (text : List ℕ) (n : ℕ) : Type 0 where
   pub digits : IsNumeral 10 text
   pub value : digits_value 10 text ≡ n
   pub fits : n < 2 ^ 32
 
--- the text writes these bytes
+-- the text states these bytes
 pub record IsBytes (text bytes : List ℕ) : Type 0 where
   pub digits : IsHexText text
   pub value : bytes ≡ hex_bytes text
@@ -21,7 +21,7 @@ pub record IsBytes (text bytes : List ℕ) : Type 0 where
 abbrev pub Begins : List ℕ → (List ℕ → Type 0) → List ℕ → Type 0
 Begins word P line = (rest : List ℕ) × (line ≡ word ++ rest) × P rest
 
--- the line says the event
+-- the line states the event
 abbrev pub Says : List ℕ → Event → Type 0
 Says line (Call (call.Attach limit)) = Begins (codes "attach ") (λ text. IsNumber text limit) line
 Says line (Call (call.Grant credit)) = Begins (codes "grant ") (λ text. IsNumber text credit) line
@@ -35,14 +35,14 @@ Says line (Call (call.Settle tag)) = Begins (codes "settle ") (λ text. IsBytes 
 Says line (Show tag) = Begins (codes "show ") (λ text. IsBytes text tag) line
 Says line (Fate number) = Begins (codes "fate ") (λ text. IsNumber text number) line
 
--- the line says no event that is a word alone
+-- the line states no event that is a word alone
 abbrev pub SaysNoWord : List ℕ → Type 0
 SaysNoWord line = (¬ (Says line (Call call.Cut))) × (¬ (Says line (Call call.ResumeNext))) × (¬ (Says line (Call call.PutBackNext)))
 
--- the line says no event with a number
+-- the line states no event with a number
 abbrev pub SaysNoNumber : List ℕ → Type 0
 SaysNoNumber line = (n : ℕ) → (¬ (Says line (Call (call.Attach n)))) × (¬ (Says line (Call (call.Grant n)))) × (¬ (Says line (Call (call.Arrive n)))) × (¬ (Says line (Fate n)))
 
--- the line says no event with bytes
+-- the line states no event with bytes
 abbrev pub SaysNoBytes : List ℕ → Type 0
 SaysNoBytes line = (bytes : List ℕ) → (¬ (Says line (Call (call.Send bytes)))) × (¬ (Says line (Call (call.HandOut bytes)))) × (¬ (Says line (Call (call.Settle bytes)))) × (¬ (Says line (Show bytes)))

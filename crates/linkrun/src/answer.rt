@@ -1,4 +1,4 @@
-//! What the pair answers to an event, as it is printed.
+//! The answer of the pair to an event, as it is printed.
 use crate::event::Event;
 use crate::hex::{Hex, HexPieces};
 use amqp_link::{
@@ -10,7 +10,7 @@ use std::{array, fmt};
 /// The answer to an event.
 #[derive(Drop)]
 pub enum Answer<'a> {
-    /// What a call has returned.
+    /// The answer of a call.
     Called(Returned),
     /// The tag of the delivery that was settled.
     Settled(&'a DeliveryTag),
@@ -22,7 +22,7 @@ pub enum Answer<'a> {
     Unknown,
 }
 
-/// Does on the pair what the event asks for. A refusal is the pair's own.
+/// Performs an event on the pair. A refusal is the pair's own.
 pub fn perform<'a>(pair: &'a mut Pair, event: &'a Event) -> Result<Answer<'a>, PairError> {
     Ok(match event {
         Event::Call(call) => {
@@ -43,7 +43,7 @@ pub fn perform<'a>(pair: &'a mut Pair, event: &'a Event) -> Result<Answer<'a>, P
     })
 }
 
-// Runs one call. If there is no room for its answer, it was not made.
+// Runs one call. Without room for its answer the call is not made.
 fn run_one(pair: &mut Pair, call: &Call) -> Result<Returned, PairError> {
     let (mut answers, _) = pair.run(array::from_ref(call));
     answers.pop().unwrap_or(Err(PairError::OutOfMemory))
@@ -64,7 +64,7 @@ impl fmt::Display for Answer<'_> {
     }
 }
 
-// What a call has returned. A settlement returns no tag.
+// The answer of a call. A settlement's has no tag.
 fn write_returned<W: fmt::Write>(f: &mut fmt::Formatter<W>, returned: &Returned) -> fmt::Result {
     match returned {
         Returned::Attached(count) => write!(f, "attached {count}"),

@@ -1,4 +1,4 @@
-//! The events of a script, and the lines that say them.
+//! The events of a script, and the lines that state them.
 ghost use Rattle.std.specs.Prelude.{◌≡◌, ◌≢◌, ◌++◌, ℕ, List, IfOk, OnErr, MatchOption};
 ghost use Rattle.linkrun.specs.declared.event.Event.{Event};
 ghost use Rattle.linkrun.specs.Line.{IsNumber, IsBytes, Begins, Says, SaysNoWord, SaysNoNumber, SaysNoBytes};
@@ -20,10 +20,10 @@ pub enum Event {
     Fate(u32),
 }
 
-/// The event that `line` says, without its line end, or `None` where it says none.
+/// The event that `line`, without its line end, states, or `None` if it states none.
 ///
-/// A word and what follows it are parted by exactly one space, so an empty word says no event.
-/// Allocates only if the line says an event.
+/// A word and its argument are separated by exactly one space, so an empty word is no event. Allocates only
+/// if the line states an event.
 pub fn parse_event(alloc: Global, line: &[u8]) -> Result<Option<Event>, AllocError>
     ensures ok { IfOk result (λ found.
         MatchOption found ((event : Event) → ¬ (Says line.now event)) (Says line.now)) }
@@ -38,7 +38,7 @@ pub fn parse_event(alloc: Global, line: &[u8]) -> Result<Option<Event>, AllocErr
     event_with_bytes(alloc, line)
 }
 
-// The event without an argument that a line says.
+// The event of a line that is a word alone.
 fn event_of_a_word(line: &[u8]) -> Option<Event>
     ensures { MatchOption result (SaysNoWord line.now) (Says line.now) }
 {
@@ -50,7 +50,7 @@ fn event_of_a_word(line: &[u8]) -> Option<Event>
     }
 }
 
-// The event with a number that a line says.
+// The event of a line with a number.
 fn event_with_number(line: &[u8]) -> Option<Event>
     ensures { MatchOption result (SaysNoNumber line.now) (Says line.now) }
 {
@@ -66,7 +66,7 @@ fn event_with_number(line: &[u8]) -> Option<Event>
     number_after(b"fate ", line).map(Event::Fate)
 }
 
-// The event with bytes that a line says. Allocates only if it says one.
+// The event of a line with bytes. Allocates only if there is one.
 fn event_with_bytes(alloc: Global, line: &[u8]) -> Result<Option<Event>, AllocError>
     ensures ok { IfOk result (λ found.
         MatchOption found (SaysNoBytes line.now) (Says line.now)) }
@@ -87,7 +87,7 @@ fn event_with_bytes(alloc: Global, line: &[u8]) -> Result<Option<Event>, AllocEr
     Ok(None)
 }
 
-// The number that follows the word and its space.
+// The number after the word and its space.
 fn number_after(word: &[u8], line: &[u8]) -> Option<u32>
     ensures { MatchOption result
         ((n : ℕ) → ¬ (Begins word.now (λ text. IsNumber text n) line.now))
@@ -96,7 +96,7 @@ fn number_after(word: &[u8], line: &[u8]) -> Option<u32>
     parse_number(text_after(word, line)?)
 }
 
-// The bytes that follow the word and its space. Allocates only if some do.
+// The bytes after the word and its space. Allocates only if there are some.
 fn bytes_after(alloc: Global, word: &[u8], line: &[u8]) -> Result<Option<Vec<u8>>, AllocError>
     ensures ok { IfOk result (λ found. MatchOption found
         ((bytes : List ℕ) → ¬ (Begins word.now (λ text. IsBytes text bytes) line.now))
@@ -110,7 +110,7 @@ fn bytes_after(alloc: Global, word: &[u8], line: &[u8]) -> Result<Option<Vec<u8>
     }
 }
 
-// What follows the word and its space.
+// The text after the word and its space.
 fn text_after<'a>(word: &[u8], line: &'a [u8]) -> Option<&'a [u8]>
     ensures { MatchOption result
         ((rest : List ℕ) → line.now ≢ word.now ++ rest)

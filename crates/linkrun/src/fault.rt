@@ -1,4 +1,4 @@
-//! What ends a run before its script does, as it is told.
+//! What ends a run before the end of its script, as it is printed.
 ghost use Rattle.std.specs.Prelude.{◌≡◌};
 
 use std::fmt;
@@ -6,9 +6,9 @@ use std::fmt;
 /// Why a run ended early.
 #[derive(Clone, Copy, Debug, PartialEq, Eq)]
 pub enum Fault {
-    /// This line, counted from 1, says no event.
+    /// This line, counted from 1, states no event.
     NotAnEvent(u64),
-    /// A read failed, or there is no memory for a line.
+    /// A read failed, or the run is out of memory for a line.
     InputFailed,
 }
 

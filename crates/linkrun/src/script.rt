@@ -13,13 +13,12 @@ use std::io::{BufRead, Write};
 #[cfg(test)]
 mod tests;
 
-/// Runs the script that `input` holds on a new pair: an answer a line goes to `output`, what ends
-/// the run early to `faults`, both flushed. What the pair refuses is answered too, and the run goes
-/// on.
+/// Runs the script in `input` on a new pair: writes an answer a line to `output`, and what ends the run early
+/// to `faults`; flushes both. A refusal of the pair is an answer too, and the run continues.
 ///
-/// Answers 0 at the end of the script; 2 at a line that is no event, after which nothing is read;
-/// 1 where a read fails or there is no memory for a line; and 1, with nothing said, where a write
-/// fails or there is no memory for the pair.
+/// Returns 0 at the end of the script; 2 at a line that is no event, after which nothing is read; 1 if a read
+/// fails or it is out of memory for a line; and 1, with nothing written to `faults`, if a write fails or it
+/// is out of memory for the pair.
 pub fn run_script<R: BufRead, O: Write, F: Write>(
     alloc: Global,
     input: &mut R,
@@ -36,7 +35,7 @@ pub fn run_script<R: BufRead, O: Write, F: Write>(
     status
 }
 
-// Runs the script and tells how it ended. The error is a failed write.
+// Runs the script, and returns its exit status. The error is a failed write.
 fn run_to_end<R: BufRead, O: Write, F: Write>(
     alloc: Global,
     pair: &mut Pair,
@@ -47,7 +46,7 @@ fn run_to_end<R: BufRead, O: Write, F: Write>(
     ensures { IfOk result (λ status. status ≤ 2) }
 {
     let ended = run_lines(alloc, pair, input, output)?;
-    // What was answered is out before anything is said of how the run ended.
+    // All answers are written before the fault that ended the run.
     output.flush()?;
     let Some(fault) = ended else {
         return Ok(0);
@@ -57,7 +56,7 @@ fn run_to_end<R: BufRead, O: Write, F: Write>(
     Ok(fault.status())
 }
 
-// Answers the lines in order, up to the end or to the first that is at fault. The error is a
+// Answers the lines in order, up to the end or to the first one that ends the run early. The error is a
 // failed write.
 fn run_lines<R: BufRead, O: Write>(
     alloc: Global,
@@ -84,7 +83,7 @@ fn run_lines<R: BufRead, O: Write>(
     Ok(Some(Fault::InputFailed))
 }
 
-// Does what a line says, and tells what came of it. The error is a failed write.
+// Performs the event of a line, and writes the answer. The error is a failed write.
 fn answer_to<O: Write>(pair: &mut Pair, event: &Event, output: &mut O) -> io::Result<()> {
     match perform(pair, event) {
         Ok(answer) => writeln!(output, "{answer}"),

@@ -3,7 +3,7 @@ use Rattle.std.specs.Prelude.{◌≡◌, ℕ, ◌+◌, ◌-◌, ◌^◌, ◌<◌
 use Rattle.replay_lengths.specs.declared.row.Compared.{Compared}
 use Rattle.replay_lengths.specs.declared.tally.Tally.{Tally}
 
--- one more, up to the largest number that is counted
+-- one more, up to the largest number that can be counted
 abbrev pub one_more : ℕ → ℕ
 one_more n = min (n + 1) (2 ^ 64 - 1)
 

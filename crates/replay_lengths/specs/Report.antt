@@ -1,4 +1,4 @@
--- What is told of a replay.
+-- The output of a replay.
 use Rattle.std.specs.Prelude.{ℕ, ◌++◌, List, codes}
 use Rattle.std.specs.Fmt.{decimal}
 use Rattle.replay_lengths.specs.declared.replay.Verdict.{Verdict}
@@ -19,7 +19,7 @@ word_of kind.Target = codes "target"
 word_of kind.Transfer = codes "transfer"
 word_of kind.Attach = codes "attach"
 
--- what is told of the rows of a type, without the line end
+-- the line about the rows of a type, without the line end
 abbrev pub tally_text : Tally → List ℕ
 tally_text tally = word_of tally.kind ++ codes " " ++ decimal tally.agreed ++ codes " of " ++ decimal tally.rows ++ codes " agree"
 

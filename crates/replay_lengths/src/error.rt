@@ -1,12 +1,12 @@
-//! Why a row is not read.
+//! Why a row cannot be read.
 use std::alloc::{AllocError, AllocFailed};
 
-/// Why a row is not read.
+/// Why a row cannot be read.
 #[derive(Clone, Copy)]
 pub enum RowError {
     /// The line is no row.
     NotARow,
-    /// There was no memory for what it says.
+    /// Out of memory for the values of the row.
     OutOfMemory,
 }
 

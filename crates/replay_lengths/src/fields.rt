@@ -2,7 +2,7 @@
 use crate::error::RowError;
 use crate::reader::{ReadFrom, Reader};
 
-/// The fields that are still to be read. Those past the ones that a row gives are absent.
+/// The fields that are still to be read. Fields after those that a row has are absent.
 #[derive(Drop)]
 pub struct FieldReader<'r, 'a> {
     reader: &'r mut Reader<'a>,
@@ -10,7 +10,7 @@ pub struct FieldReader<'r, 'a> {
 }
 
 impl<'r, 'a> FieldReader<'r, 'a> {
-    /// The fields behind the name of their type and their number, which are passed.
+    /// The fields of a row, after the name of their type and their number, which are read here.
     pub fn new(reader: &'r mut Reader<'a>, name: &[u8]) -> Result<FieldReader<'r, 'a>, RowError> {
         reader.expect(name)?;
         let left = reader.unsigned()?;
@@ -46,7 +46,7 @@ impl<'r, 'a> FieldReader<'r, 'a> {
     }
 }
 
-/// The value, where its fields were read well.
+/// The value, if its fields could be read.
 pub fn if_read<T: Drop>(value: T, fields: Result<(), RowError>) -> Result<T, RowError> {
     match fields {
         Ok(()) => Ok(value),
@@ -57,7 +57,7 @@ pub fn if_read<T: Drop>(value: T, fields: Result<(), RowError>) -> Result<T, Row
     }
 }
 
-/// Refused where something stood in this place.
+/// Refused if there was a value in this place.
 pub fn none_before<T: Drop>(before: Option<T>) -> Result<(), RowError> {
     let is_free = before.is_none();
     drop(before);

@@ -1,9 +1,9 @@
-//! Replays lengths that encoders of AMQP 1.0 gave, or that were worked by hand: builds the value of
-//! each row and compares the length that is computed for it with the one that the row states.
+//! Replays lengths that encoders of AMQP 1.0 gave, or that were worked by hand: builds the value of each row,
+//! and compares its computed length with the one that the row states.
 //!
-//! The rows come from standard input; the rows that do not agree, and how many of each type do, go
-//! to standard output. The exit status is 0 where all agree, 1 where some do not, 2 at a line that
-//! is no row, and 3 where reading, writing or memory fails.
+//! The rows are read from standard input; the rows that do not agree, and how many of each type do, are
+//! written to standard output. The exit status is 0 if all agree, 1 if some do not, 2 at a line that is no
+//! row, and 3 if reading or writing fails, or if it is out of memory.
 #![tactic(auto)]
 
 mod error;

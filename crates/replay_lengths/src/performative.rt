@@ -48,7 +48,7 @@ impl ReadFrom for ReceiverSettleMode {
 }
 
 impl ReadFrom for UnsettledMap<Option<DeliveryState>> {
-    // A tag may stand once.
+    // A tag that occurs twice is refused.
     fn read(reader: &mut Reader) -> Result<UnsettledMap<Option<DeliveryState>>, RowError> {
         reader.expect(b"map")?;
         let mut unsettled = UnsettledMap::new(reader.alloc());
@@ -124,7 +124,7 @@ impl ReadFrom for Attach {
     }
 }
 
-// An attach that says no more than a name.
+// An attach that has a name alone.
 fn bare_attach(name: Text) -> Attach {
     Attach {
         name,

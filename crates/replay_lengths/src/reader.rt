@@ -4,13 +4,13 @@ use line_text::hex::parse_bytes;
 use line_text::number::{parse_signed, parse_unsigned};
 use std::alloc::Global;
 
-/// What a row says by words of its own.
+/// A type whose values a row states in words.
 pub trait ReadFrom: Sized {
-    /// The value that the next words say; these are passed.
+    /// The value of the next words, which are read.
     fn read(reader: &mut Reader) -> Result<Self, RowError>;
 }
 
-/// The words that are still to be read, parted by one blank each, and the memory for what they say.
+/// The words that are still to be read, separated by one blank each, and the allocator of their values.
 #[derive(Clone, Copy)]
 pub struct Reader<'a> {
     alloc: Global,
@@ -26,12 +26,12 @@ impl<'a> Reader<'a> {
         }
     }
 
-    /// The memory for what the words say.
+    /// The allocator of the values.
     pub fn alloc(&self) -> Global {
         self.alloc
     }
 
-    /// The next word, which is passed.
+    /// The next word, which is read.
     pub fn word(&mut self) -> Result<&'a [u8], RowError> {
         let Some(text) = self.rest else {
             return Err(RowError::NotARow);
@@ -41,7 +41,7 @@ impl<'a> Reader<'a> {
         Ok(word)
     }
 
-    /// Passes the next word, which has to be this one.
+    /// Reads the next word, which has to be this one.
     pub fn expect(&mut self, word: &[u8]) -> Result<(), RowError> {
         if self.word()? == word {
             Ok(())
@@ -50,13 +50,13 @@ impl<'a> Reader<'a> {
         }
     }
 
-    /// Whether the next word is this one. It is not passed.
+    /// Whether the next word is this one. It is not read.
     pub fn is_at(&self, word: &[u8]) -> bool {
         let mut ahead = *self;
         ahead.expect(word).is_ok()
     }
 
-    /// Nothing may follow.
+    /// Refused if a word follows.
     pub fn end(&self) -> Result<(), RowError> {
         match self.rest {
             None => Ok(()),
@@ -64,7 +64,7 @@ impl<'a> Reader<'a> {
         }
     }
 
-    /// A value, or none where a mark stands in its place.
+    /// A value, or none if a mark stands in its place.
     pub fn optional<T: ReadFrom>(&mut self) -> Result<Option<T>, RowError> {
         if self.is_at(b"_") {
             self.expect(b"_")?;
@@ -89,7 +89,7 @@ impl<'a> Reader<'a> {
         parse_bytes(self.alloc, word)?.ok_or(RowError::NotARow)
     }
 
-    /// A text, of which the bytes are given.
+    /// A text, from its bytes.
     pub fn text(&mut self) -> Result<String, RowError> {
         match String::from_utf8(self.bytes()?) {
             Ok(text) => Ok(text),
@@ -98,7 +98,7 @@ impl<'a> Reader<'a> {
     }
 }
 
-// The word up to the first blank, and what stands behind the blank.
+// The word up to the first blank, and the text after the blank.
 fn split_word(text: &[u8]) -> (&[u8], Option<&[u8]>) {
     match text.iter().position(|byte| *byte == b' ') {
         Some(at) => (&text[..at], Some(&text[at + 1..])),

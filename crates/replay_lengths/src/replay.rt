@@ -1,4 +1,4 @@
-//! A replay: the lines in order, and what is told of them.
+//! A replay: the lines in order, and its output.
 ghost use Rattle.std.specs.Prelude.{◌≡◌, ◌≤◌};
 
 use crate::error::RowError;
@@ -21,7 +21,7 @@ pub enum Verdict {
     Disagreed,
     /// A line is no row.
     NotARow,
-    /// Reading, writing or memory failed.
+    /// Reading or writing failed, or it was out of memory.
     Failed,
 }
 
@@ -41,12 +41,11 @@ impl Verdict {
     }
 }
 
-/// Replays the rows that `input` holds. Empty lines and those that begin with `#` are passed over.
+/// Replays the rows in `input`. Empty lines and those that begin with `#` are skipped.
 ///
-/// Each row that does not agree is told of in `output`, and at the end how many rows of each type
-/// do; a line that is no row ends the replay and is told of instead. Answers 0 where all rows
-/// agree, 1 where some do not, 2 at a line that is no row, and 3 where reading, writing or memory
-/// fails.
+/// Writes each row that does not agree to `output`, and at the end how many rows of each type do. A line that
+/// is no row ends the replay, and is written instead. Returns 0 if all rows agree, 1 if some do not, 2 at a
+/// line that is no row, and 3 if reading or writing fails, or if it is out of memory.
 pub fn replay<R: BufRead, W: Write>(alloc: Global, input: &mut R, output: &mut W) -> u8
     ensures { result ≤ 3 }
 {
@@ -54,7 +53,7 @@ pub fn replay<R: BufRead, W: Write>(alloc: Global, input: &mut R, output: &mut W
     verdict.status()
 }
 
-// The error is a failed read or write, or memory that a line has not.
+// The error is a failed read or write, or out of memory for a line.
 fn replay_lines<R: BufRead, W: Write>(
     alloc: Global,
     input: &mut R,
@@ -81,7 +80,7 @@ fn replay_lines<R: BufRead, W: Write>(
     Ok(Verdict::Failed)
 }
 
-// Tells of a row that does not agree.
+// Writes a row that does not agree.
 fn tell<W: Write>(number: u64, compared: &Compared, output: &mut W) -> io::Result<()> {
     if compared.agrees() {
         return Ok(());
@@ -96,14 +95,14 @@ fn tell<W: Write>(number: u64, compared: &Compared, output: &mut W) -> io::Resul
     }
 }
 
-// Tells of a line that is no row.
+// Writes a line that is no row.
 fn refuse<W: Write>(number: u64, output: &mut W) -> io::Result<Verdict> {
     writeln!(output, "line {number}: not a row")?;
     output.flush()?;
     Ok(Verdict::NotARow)
 }
 
-// Tells how many rows of each type agree.
+// Writes how many rows of each type agree.
 fn conclude<W: Write>(tallies: &Tallies, output: &mut W) -> io::Result<Verdict> {
     for tally in tallies.as_slice() {
         writeln!(output, "{tally}")?;

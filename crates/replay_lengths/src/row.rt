@@ -13,17 +13,17 @@ use std::fmt;
 pub enum Kind {
     /// A value of any plain type.
     Value,
-    /// How far a delivery has come.
+    /// The state received.
     Received,
-    /// An outcome that was changed.
+    /// The outcome modified.
     Modified,
-    /// An outcome that was refused.
+    /// The outcome rejected.
     Rejected,
     /// An error.
     Error,
-    /// Where messages come from.
+    /// A source.
     Source,
-    /// Where messages go.
+    /// A target.
     Target,
     /// A transfer.
     Transfer,
@@ -31,7 +31,7 @@ pub enum Kind {
     Attach,
 }
 
-/// All types, in the order in which they are told of.
+/// All types, in the order in which they are written.
 pub const KINDS: [Kind; 9] = [
     Kind::Value,
     Kind::Received,
@@ -76,19 +76,19 @@ impl fmt::Display for Kind {
     }
 }
 
-/// A row's length beside the computed one.
+/// A row's length and the computed one.
 #[derive(Clone, Copy)]
 pub struct Compared {
     /// The type of the value.
     pub kind: Kind,
-    /// What the row states.
+    /// The length that the row states.
     pub stated: u64,
-    /// What is computed; none where that passes u64.
+    /// The computed length; none if a u64 does not hold it.
     pub computed: Option<u64>,
 }
 
 impl Compared {
-    /// Whether the two lengths are one.
+    /// Whether the two lengths are equal.
     pub fn agrees(&self) -> bool
         ensures { IsTrue result ↔ (self.now.computed ≡ Some self.now.stated) }
     {
@@ -96,14 +96,14 @@ impl Compared {
     }
 }
 
-/// What a line says, or that it is no row.
+/// The row of a line, compared, or that the line is no row.
 pub fn compare(alloc: Global, line: &[u8]) -> Result<Compared, RowError> {
     let mut reader = Reader::new(alloc, line);
     let kind = read_kind(&mut reader)?;
     let stated = reader.unsigned()?;
     read_encoder(&mut reader)?;
     reader.expect(b"|")?;
-    // What is not of a plain type says its type again.
+    // A value that is not of a plain type begins with its type again.
     if kind != Kind::Value && !reader.is_at(kind.word().as_bytes()) {
         return Err(RowError::NotARow);
     }
@@ -126,7 +126,7 @@ fn read_kind(reader: &mut Reader) -> Result<Kind, RowError> {
     Err(RowError::NotARow)
 }
 
-// Who gave the length is not asked again, so the name is only checked.
+// The encoder's name is only checked.
 fn read_encoder(reader: &mut Reader) -> Result<(), RowError> {
     match reader.word()? {
         b"proton" | b"uamqp" | b"proton+uamqp" | b"hand" => Ok(()),

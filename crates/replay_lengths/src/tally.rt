@@ -30,7 +30,7 @@ impl fmt::Display for Tally {
 impl Tally {
     ghost use Rattle.replay_lengths.specs.Counting.{IsCounted};
 
-    // The tally with a row more. It counts those of its type alone.
+    // The tally after one more row. It counts only those of its type.
     fn with_row(self, row: &Compared) -> Tally
         ensures { IsCounted row.now self result }
     {

@@ -57,7 +57,7 @@ fn fill_source(source: &mut Source, fields: &mut FieldReader) -> Result<(), RowE
     fields.end()
 }
 
-// The fields that a target has as well.
+// The fields that a source and a target have in common.
 fn fill_source_node(source: &mut Source, fields: &mut FieldReader) -> Result<(), RowError> {
     source.address = fields.optional()?;
     source.durable = fields.or_default()?;

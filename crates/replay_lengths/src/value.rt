@@ -4,7 +4,7 @@ use crate::fields::{if_read, none_before};
 use crate::reader::{ReadFrom, Reader};
 use amqp_link_types::types::{DeliveryTag, Descriptor, Fields, Symbol, Symbols, Text, Value};
 
-// How deep values may lie in one another.
+// How deep values may be nested.
 const MOST_NESTED: u32 = 16;
 
 impl ReadFrom for bool {
@@ -60,7 +60,7 @@ impl ReadFrom for Symbols {
 }
 
 impl ReadFrom for Fields {
-    // A name may stand once.
+    // A name that occurs twice is refused.
     fn read(reader: &mut Reader) -> Result<Fields, RowError> {
         reader.expect(b"map")?;
         let mut fields = Fields::new(reader.alloc());
@@ -147,7 +147,7 @@ fn read_described(reader: &mut Reader, depth: u32) -> Result<Value, RowError> {
     Ok(Value::Described(descriptor, value))
 }
 
-// The value behind the word that names its type, where it holds no other value.
+// The value after the word that names its type, if that type contains no other value.
 fn read_plain(reader: &mut Reader, word: &[u8]) -> Result<Option<Value>, RowError> {
     match word {
         b"_" => Ok(Some(Value::Null)),
@@ -188,7 +188,7 @@ fn read_signed(reader: &mut Reader, word: &[u8]) -> Result<Option<Value>, RowErr
     }
 }
 
-// Names, and before them how many there are.
+// Names, after their number.
 fn read_names(reader: &mut Reader) -> Result<Vec<Symbol>, RowError> {
     let mut names = Vec::new(reader.alloc());
     for _ in 0..reader.unsigned()? {

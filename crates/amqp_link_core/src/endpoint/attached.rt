@@ -19,8 +19,7 @@ pub fn sent_limit(max_message_size: u64) -> Option<u64>
     }
 }
 
-/// The smaller of two limits of a message's bytes, where 0 and none are no limit (2.7.3). Does not
-/// allocate.
+/// The smaller of two max-message-sizes, where 0 and none are no limit (2.7.3). Does not allocate.
 pub fn get_max_message_size(local: u64, remote: Option<u64>) -> u64
     ensures { result ≡ smaller_limit local remote }
 {
@@ -31,7 +30,7 @@ pub fn get_max_message_size(local: u64, remote: Option<u64>) -> u64
     }
 }
 
-/// What is sent for a target. Only a target that is there allocates.
+/// What is sent for a target. Allocates only if there is one.
 pub fn archetype_of<T: LinkTarget>(
     target: &Option<T>,
 ) -> Result<Option<TargetArchetype>, AllocError>
@@ -48,7 +47,7 @@ pub fn archetype_of<T: LinkTarget>(
     }
 }
 
-/// What is sent for the two termini. Only those that are there allocate.
+/// What is sent for the two termini. Allocates only for those that are there.
 pub fn termini_of<T: LinkTarget>(
     source: &Option<Source>,
     target: &Option<T>,
@@ -80,11 +79,11 @@ pub fn name_and_properties_of(
     Ok((name, copy_of(properties)?))
 }
 
-/// What is to take the place of the own properties once those of the peer's attach arrived (2.7.3): the
-/// own ones with the peer's put one by one, or the peer's where there are no own ones. None if the own
-/// ones stay, since the attach has none.
+/// The properties that replace the endpoint's own after the peer's attach (2.7.3): the own ones with the
+/// peer's put one by one, or the peer's if there are no own ones. None if the own ones stay, since the attach
+/// has none.
 ///
-/// Allocates only where both have properties, and neither map is empty.
+/// Allocates only if both have properties, and neither map is empty.
 pub fn merged_with(
     own: &Option<Fields>,
     theirs: Option<Fields>,

@@ -1,4 +1,4 @@
-//! The detach that an end sends, and what the ones that come say (2.7.7). Nothing here takes memory.
+//! The detach that an endpoint sends, and the results of those that it takes (2.7.7). Nothing here allocates.
 ghost use Rattle.std.specs.Prelude.{◌≡◌};
 ghost use Rattle.amqp_link_core.specs.Detaching.{recorded, reply_error, remote_error};
 ghost use Rattle.amqp_link_core.specs.Detaching.{detach_frame as frame_of_detach};
@@ -17,7 +17,7 @@ pub fn detach_frame(handle: OutputHandle, closed: bool, error: Option<Error>) ->
     })
 }
 
-/// What a detach says that came in answer to an own one.
+/// The result of taking the peer's reply to a detach of this endpoint.
 pub fn result_of_reply(detach: Detach) -> Result<(), DetachError>
     ensures { result ≡ recorded reply_error detach.closed detach.error }
 {
@@ -28,8 +28,8 @@ pub fn result_of_reply(detach: Detach) -> Result<(), DetachError>
     }
 }
 
-/// What a detach states that the peer initiated.
-pub fn outcome_of(detach: Detach) -> Result<(), ApplyRemoteDetachError>
+/// The result of taking a detach that the peer initiated.
+pub fn result_of_remote_detach(detach: Detach) -> Result<(), ApplyRemoteDetachError>
     ensures { result ≡ recorded remote_error detach.closed detach.error }
 {
     match detach.error {

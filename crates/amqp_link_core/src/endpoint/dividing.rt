@@ -1,16 +1,15 @@
 //! The attach that is sent carries as many of its unsettled deliveries as fit in a frame (2.6.3 and
 //! 2.7.3).
 //!
-//! Their number is halved until the attach fits, and the map is marked as incomplete where it is
-//! halved at all.
+//! Their number is halved until the attach fits, and the map is marked as incomplete if it is halved at all.
 ghost use Rattle.std.specs.Prelude.{◌≡◌, ◌↔◌, true, IsTrue, IfSome, IfNone, take, option_map};
 ghost use Rattle.amqp_link_core.specs.Attaching.{with_entries, FitsFrame, NeverFitsFrame, IsDivided};
 
 use amqp_link_types::types::{Attach, DeliveryState, UnsettledMap};
 use amqp_link_values::length::EncodedLen;
 
-/// Whether the attach fits in a frame of at most `max_frame_size` bytes, of which four are the
-/// frame's header. Takes no memory.
+/// Whether the attach fits a frame of at most `max_frame_size` bytes, of which four are the frame's header.
+/// Does not allocate.
 pub fn fits(attach: &Attach, max_frame_size: u32) -> bool
     ensures { IsTrue result ↔ FitsFrame attach.now max_frame_size }
 {
@@ -21,9 +20,8 @@ pub fn fits(attach: &Attach, max_frame_size: u32) -> bool
     }
 }
 
-/// Whether the attach fits in a frame of at most `max_frame_size` bytes with all of these entries,
-/// and so unmarked. What the attach itself says of unsettled deliveries does not count. Takes no
-/// memory.
+/// Whether the attach, with all of these entries and not marked incomplete, fits a frame of at most
+/// `max_frame_size` bytes. The unsettled map that the attach has already is ignored. Does not allocate.
 pub fn fits_whole(
     attach: Attach,
     entries: UnsettledMap<Option<DeliveryState>>,
@@ -37,13 +35,12 @@ pub fn fits_whole(
     is_within
 }
 
-/// The attach with the first of the entries: their number is halved, rounded down, as few times as
-/// let the attach fit in a frame of at most `max_frame_size` bytes. None where no number of halvings
-/// does.
+/// The attach with the first of the entries: their number is halved, rounded down, as few times as needed for
+/// the attach to fit a frame of at most `max_frame_size` bytes. None if no number of halvings is enough.
 ///
-/// The attach is marked incomplete where the entries are halved at all. Its map is null where there
-/// are no entries to begin with, and empty where none is left. What the attach said of unsettled
-/// deliveries before does not count. Takes no memory.
+/// The attach is marked incomplete if the entries are halved at all. Its map is null if there were no entries
+/// to begin with, and empty if none is left. The unsettled map that the attach has already is ignored. Does
+/// not allocate.
 pub fn divided(
     attach: Attach,
     entries: UnsettledMap<Option<DeliveryState>>,
@@ -65,7 +62,7 @@ pub fn divided(
     Some(sent)
 }
 
-// With all entries, unmarked; where there are none, with no map.
+// With all entries and unmarked; without a map if there are none.
 fn with_all(attach: Attach, entries: UnsettledMap<Option<DeliveryState>>) -> Attach
     ensures { result ≡ with_entries attach entries 0 }
 {

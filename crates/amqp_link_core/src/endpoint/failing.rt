@@ -1,4 +1,4 @@
-//! What follows once an attach has failed (2.6.3): the link is closed, the session is ended, or neither.
+//! What to do after an attach has failed (2.6.3): close the link, end the session, or nothing.
 ghost use Rattle.std.specs.Prelude.{◌≡◌, true, None, IfOk, OnErr, MatchOption, is_some};
 ghost use Rattle.amqp_link_core.specs.Failing.{condition_text, handle_in_use, can_close as does_close, error_sent, handled, state_after};
 ghost use Rattle.amqp_link_core.specs.Failing.{sender_remedy as remedy_at_sender, receiver_remedy as remedy_at_receiver};
@@ -12,44 +12,44 @@ use amqp_link_types::types::{
 };
 use std::alloc::{AllocError, Global};
 
-/// What is to be done once an attach has failed.
+/// What the caller of `handle_attach_error` has to do after an attach has failed.
 #[derive(Debug, PartialEq, Eq, Drop)]
 pub enum Action {
     /// Nothing.
     Nothing,
-    /// This detach is to be sent: it closes the link.
+    /// Send this detach, which closes the link.
     Detach(LinkFrame),
-    /// The session is to be ended with this error.
+    /// End the session with this error.
     EndSession(Error),
 }
 
 /// The condition of an error that an endpoint sends as it closes a link (2.8.15).
 #[derive(Clone, Copy, Debug, PartialEq, Eq)]
 pub enum Condition {
-    /// What the peer asks for is not implemented.
+    /// What the peer's attach asks for is not implemented.
     NotImplemented,
-    /// A field of the peer's attach is not as it has to be.
+    /// A field of the peer's attach is not valid.
     InvalidField,
 }
 
-/// What an error of an attach asks for.
+/// What follows from an error of an attach.
 #[derive(Clone, Copy, Debug, PartialEq, Eq)]
 pub enum Remedy {
     /// Nothing.
     Nothing,
-    /// The link is to be closed, without an error or with one of this condition.
+    /// Close the link, without an error or with an error of this condition.
     Close(Option<Condition>),
-    /// The session is to be ended, since the name of the link is in use (2.5.8).
+    /// End the session, since the name of the link is in use (2.5.8).
     EndSession,
 }
 
-// The link is closed, since a field of the peer's attach is not as it has to be, or since what it asks for is
+// The link is closed, since a field of the peer's attach is not valid, or since what the attach asks for is
 // not implemented.
 const INVALID: Remedy = Remedy::Close(Some(Condition::InvalidField));
 
 const UNKNOWN: Remedy = Remedy::Close(Some(Condition::NotImplemented));
 
-/// What an error of a sender's attach asks for. Does not allocate.
+/// What follows from an error of a sender's attach. Does not allocate.
 pub fn sender_remedy(error: &SenderAttachError) -> Remedy
     ensures { result ≡ remedy_at_sender error.now }
 {
@@ -66,7 +66,7 @@ pub fn sender_remedy(error: &SenderAttachError) -> Remedy
     }
 }
 
-/// What an error of a receiver's attach asks for. Does not allocate.
+/// What follows from an error of a receiver's attach. Does not allocate.
 pub fn receiver_remedy(error: &ReceiverAttachError) -> Remedy
     ensures { result ≡ remedy_at_receiver error.now }
 {
@@ -82,8 +82,8 @@ pub fn receiver_remedy(error: &ReceiverAttachError) -> Remedy
     }
 }
 
-/// The error that is sent for a remedy in this state and at this output handle: none if the link is to be
-/// closed and cannot be. Only its text allocates.
+/// The error to send for a remedy in this state and with this output handle: none if the link is to be closed
+/// and cannot be. Allocates only the text of the error.
 pub fn error_to_send(
     alloc: Global,
     remedy: Remedy,
@@ -104,7 +104,7 @@ pub fn error_to_send(
     }
 }
 
-// Whether a closing detach can be sent in this state and at this output handle.
+// Whether a closing detach can be sent in this state and with this output handle.
 fn can_close(state: LinkState, handle: Option<OutputHandle>) -> bool
     ensures { result ≡ does_close state handle }
 {
@@ -120,7 +120,7 @@ fn text_of(condition: Condition) -> &'static str
     }
 }
 
-// The error with which a session ends in which a link's name is in use.
+// The error with which a session ends because the name of a link is in use.
 fn error_in_use(alloc: Global) -> Result<Error, AllocError>
     ensures { IfOk result (λ error. error ≡ handle_in_use) }
 {
@@ -139,8 +139,8 @@ fn symbol(alloc: Global, text: &str) -> Result<Symbol, AllocError>
     Ok(Symbol::from(String::from_str(alloc, text)?))
 }
 
-/// Carries a remedy out, with the error that is sent for it: what `handle_attach_error` of a link returns
-/// and leaves, `illegal` being its error if the link is to be closed and cannot be. Does not allocate.
+/// Carries a remedy out, with the error to send for it: this is what `handle_attach_error` of a link returns
+/// and leaves. `illegal` is the error to return if the link is to be closed and cannot be. Does not allocate.
 pub fn carry_out<L: LinkDetach, E: Drop>(
     link: &mut L,
     error: E,

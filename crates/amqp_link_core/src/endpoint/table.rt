@@ -1,5 +1,5 @@
-//! The state after each call that attaches or detaches a link, by the table of link states (2.6.3 to
-//! 2.6.6). A call in a state without a row moves nothing. Nothing here takes memory.
+//! The state after each call that attaches or detaches a link, by the table of link states (2.6.3 to 2.6.6):
+//! none if there is no transition. Nothing here allocates.
 ghost use Rattle.std.specs.Prelude.{◌≡◌, MatchOption, false, true, None, Some};
 ghost use Rattle.amqp_link_core.specs.LinkStates.{Call, next_state};
 
@@ -30,7 +30,7 @@ pub fn after_sent_attach(state: LinkState) -> Option<(LinkState, LinkState)>
     }
 }
 
-/// The state after an attach came.
+/// The state after an attach has arrived.
 pub fn after_incoming_attach(state: LinkState, incomplete: bool) -> Option<LinkState>
     ensures { result ≡ next_state Call.IncomingAttach incomplete state }
 {
@@ -58,7 +58,7 @@ pub fn after_sent_detach(state: LinkState, closed: bool) -> Option<LinkState>
     }
 }
 
-/// The state after a detach came in answer to an own one.
+/// The state after the peer's reply to a detach of this endpoint.
 pub fn after_detach_reply(state: LinkState, closed: bool) -> Option<LinkState>
     ensures { result ≡ next_state Call.DetachReply closed state }
 {

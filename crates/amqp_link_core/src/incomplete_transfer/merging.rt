@@ -1,11 +1,11 @@
-//! The fields that the transfers of one delivery make together (2.7.5).
+//! The merged fields of the transfers of one delivery (2.7.5).
 ghost use Rattle.std.specs.Prelude.{◌≡◌, ◌++◌, [], ◌∷◌, List, Option, Bool};
 ghost use Rattle.amqp_link_types.specs.declared.types.delivery_state.DeliveryState.{DeliveryState as State};
 ghost use Rattle.amqp_link_core.specs.Merging.{Came, Merged, present, settled_by, state_by};
 
 use amqp_link_types::types::{DeliveryState, Transfer, has_ended};
 
-// The flag of a delivery, once a transfer has told of it.
+// The settled flag of a delivery after merging one transfer.
 #[tactic(auto, using(crate::proofs::MergeLemmas::settled_steps))]
 fn settled_with(known: Option<bool>, told: Option<bool>) -> Option<bool>
     ensures { (flags : List (Option Bool)) → known ≡ settled_by (present flags)
@@ -18,7 +18,7 @@ fn settled_with(known: Option<bool>, told: Option<bool>) -> Option<bool>
     }
 }
 
-// The state of a delivery, once a transfer has told of it.
+// The state of a delivery after merging one transfer.
 #[tactic(auto, using(crate::proofs::MergeLemmas::state_steps))]
 fn state_with(known: Option<DeliveryState>, told: Option<DeliveryState>) -> Option<DeliveryState>
     ensures { (states : List (Option State)) → known ≡ state_by (present states)
@@ -31,8 +31,7 @@ fn state_with(known: Option<DeliveryState>, told: Option<DeliveryState>) -> Opti
     }
 }
 
-// Merges one more transfer into those of a delivery; one that opens it again gives it its id. Takes
-// no memory.
+// Merges one more transfer into those of a delivery; one that resumes it gives it its id. Does not allocate.
 pub(crate) fn merge(held: &mut Transfer, transfer: Transfer, opens: bool)
     ensures { (came : List Came) → Merged came held.old
         → Merged (came ++ record { opens = opens; transfer = transfer } ∷ []) held.new }

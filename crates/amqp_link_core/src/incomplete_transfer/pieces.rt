@@ -10,8 +10,8 @@ use amqp_link_payloads::position::position_with;
 use amqp_link_types::types::{Payload, ReceiverTransferError};
 use std::alloc::AllocError;
 
-// Adds a piece to pieces of that size, and answers the size of all. Where it is refused they stay
-// as they are.
+// Adds a piece to pieces of this total size, and returns the new size. If it is refused the pieces stay as
+// they are.
 pub(crate) fn push_piece(
     pieces: &mut Vec<Payload>,
     size: u64,
@@ -32,8 +32,8 @@ pub(crate) fn push_piece(
     Ok(size)
 }
 
-// The size of pieces of that size and one more, if their bytes and sections can be counted. Each
-// section has a byte, so that under 2^32 bytes none need be read.
+// The size of pieces of this total size and one more, if their bytes and sections can be counted. Each
+// section has at least one byte, so that less than 2^32 bytes need not be read.
 fn counted_size(pieces: &[Payload], size: u64, next: &Payload) -> Option<u64>
     requires size { size ≡ length (concat pieces.now) }
     ensures some { IfSome result (λ size. IsCountable (concat pieces.now ++ next.now) size) }
@@ -47,8 +47,8 @@ fn counted_size(pieces: &[Payload], size: u64, next: &Payload) -> Option<u64>
     Some(size)
 }
 
-// Keeps that many bytes of the pieces: some of them whole, and of the next a front. Where memory for
-// it is refused they stay as they are.
+// Keeps the first `size` bytes of the pieces: some pieces whole, and a front of the next one. If it is out of
+// memory the pieces stay as they are.
 pub(crate) fn cut_pieces(pieces: &mut Vec<Payload>, size: u64) -> Result<(), AllocError>
     requires { size ≤ length (concat pieces.old.items) }
     ensures kept { OnOk result (concat pieces.new.items ≡ take size (concat pieces.old.items)) }
@@ -57,7 +57,7 @@ pub(crate) fn cut_pieces(pieces: &mut Vec<Payload>, size: u64) -> Result<(), All
     let (whole, rest) = cut_at(pieces.as_slice(), size);
     if rest > 0 {
         let front = pieces[whole].slice(..rest)?;
-        // All memory is taken.
+        // All allocations are done.
         pieces[whole] = front;
         pieces.truncate(whole + 1);
     } else {
@@ -66,7 +66,7 @@ pub(crate) fn cut_pieces(pieces: &mut Vec<Payload>, size: u64) -> Result<(), All
     Ok(())
 }
 
-// How many pieces lie within that many bytes, and how many bytes of the next one.
+// How many pieces lie whole within this many bytes, and how many bytes of the next one do.
 fn cut_at(pieces: &[Payload], size: u64) -> (usize, usize)
     requires { size ≤ length (concat pieces.now) }
     ensures size { length (concat (take result.0 pieces.now)) + result.1 ≡ size }

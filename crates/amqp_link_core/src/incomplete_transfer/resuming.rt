@@ -1,4 +1,4 @@
-//! A delivery that was cut off, as it is taken up again (2.6.13).
+//! A delivery that was cut off, when it is resumed (2.6.13).
 ghost use Rattle.std.specs.Prelude.{◌≡◌, ◌++◌, [], ◌∷◌, List, IsSome, OnOk, OnErr, MatchOption};
 ghost use Rattle.std.specs.Option.{option_or};
 ghost use Rattle.amqp_link_payloads.specs.Position.{place};
@@ -14,24 +14,24 @@ use amqp_link_types::types::{Payload, ReceiverTransferError, Transfer};
 use std::alloc::AllocError;
 
 impl IncompleteTransfer {
-    /// Takes the delivery up again with the first transfer of its resumption, whose id is the
-    /// delivery's from now on. The payload is what follows the bytes that are held.
+    /// Resumes the delivery with the first transfer of its resumption, whose id replaces the delivery's. The
+    /// payload follows the bytes that are held.
     ///
     /// Refused in this order, with nothing changed: `DeliveryIdIsNone`, `DeliveryTagIsNone`,
-    /// `InconsistentFieldInMultiFrameDelivery` (another tag or format), `PayloadTooLong`, and only
-    /// then `OutOfMemory`. While the delivery has less than 2^32 bytes none are read.
+    /// `InconsistentFieldInMultiFrameDelivery` (another tag or format), `PayloadTooLong`, and only then
+    /// `OutOfMemory`. Reads no bytes while the delivery has less than 2^32.
     pub fn try_resume(
         &mut self,
         transfer: Transfer,
         payload: Payload,
     ) -> Result<(), ReceiverTransferError>
-        // Whatever came before, the fields are those of all of it and this transfer.
+        // Whatever transfers arrived before, the fields are those of all of them and this one.
         ensures merged { OnOk result ((came : List Came) → Merged came self.old.performative
             → Merged (came ++ opening transfer ∷ []) self.new.performative) }
         ensures pieces { OnOk result (self.new.pieces ≡ self.old.pieces ++ payload ∷ []) }
         ensures bytes { OnOk result (held_bytes self.new ≡ held_bytes self.old ++ payload) }
 
-        // What of it a caller needs most.
+        // The part of it that a caller needs most.
         ensures tag { OnOk result
             (self.new.performative.delivery_tag ≡ self.old.performative.delivery_tag) }
         ensures id { OnOk result
@@ -61,7 +61,7 @@ impl IncompleteTransfer {
         self.add(transfer, payload, true)
     }
 
-    // Whether a transfer names another tag or format than the delivery's.
+    // Whether a transfer carries another tag or format than the delivery's.
     fn is_another_than_of(&self, transfer: &Transfer) -> bool
         ensures { result ≡ is_of_another self.now.performative transfer.now }
     {
@@ -69,12 +69,12 @@ impl IncompleteTransfer {
             || differs(self.performative.message_format, transfer.message_format)
     }
 
-    /// Keeps the bytes up to the place of this offset in the section of this number, and tells the
-    /// position and the size of that front from now on. Where there is no such place nothing
-    /// changes. Reads all bytes and copies none.
+    /// Keeps the bytes up to this offset in this section, and drops the rest; position and size are those of
+    /// the front that is kept. If the bytes have no such place nothing changes. Reads all bytes and copies
+    /// none.
     ///
-    /// Takes memory for the piece in which the front ends, and none where there is no such place.
-    /// Where it is refused nothing changes.
+    /// Refused if it is out of memory, with nothing changed. Allocates for the piece in which the front ends,
+    /// and nothing if there is no such place.
     pub fn keep_buffer_till_section_number_and_offset( // up to a position (3.4.1)
         &mut self,
         number: u32,

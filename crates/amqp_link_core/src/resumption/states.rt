@@ -1,4 +1,4 @@
-//! What a sender asks of the states of a delivery before it resumes it (2.6.13, 3.4).
+//! Questions about a delivery's states, before a sender resumes it (2.6.13, 3.4).
 ghost use Rattle.std.specs.Prelude.{◌≡◌, false, IfOk};
 ghost use Rattle.std.specs.Option.{option_map_or};
 ghost use Rattle.amqp_link_core.specs.Resuming.{sender_report, rest_from, is_past, is_same_outcome};
@@ -7,7 +7,7 @@ use amqp_link_payloads::position::place_of;
 use amqp_link_types::types::{DeliveryState, Payload};
 use std::alloc::AllocError;
 
-// Whether it has ended, or a front of it came that ends beyond this offset in this section.
+// Whether the state is terminal, or a front that ends after this offset in this section.
 pub(crate) fn is_past(
     state: &Option<DeliveryState>,
     section_number: u32,
@@ -29,7 +29,7 @@ pub(crate) fn is_past(
     }
 }
 
-// Whether it has ended in the same way. What the state tells besides is not compared.
+// Whether both states are terminal and of one kind. Their other fields are not compared.
 pub(crate) fn has_ended_as(state: &Option<DeliveryState>, other: &DeliveryState) -> bool
     ensures { result ≡ option_map_or (λ own. is_same_outcome own other.now) state.now false }
 {
@@ -51,7 +51,7 @@ fn is_same_outcome(state: &DeliveryState, other: &DeliveryState) -> bool
     }
 }
 
-// What of the payload stands behind that place, or all of it where there is no such place.
+// The bytes of the payload from that place on, or all of them if there is no such place.
 pub(crate) fn rest_of(
     payload: &Payload,
     section_number: u32,

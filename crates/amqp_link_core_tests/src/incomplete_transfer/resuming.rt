@@ -1,4 +1,4 @@
-//! Deliveries that are cut off and taken up again, and their fronts.
+//! Deliveries that are cut off and resumed, and their fronts.
 use crate::incomplete_transfer::{BARE, FIRST, Row, append, seen, start, transfer_of};
 use amqp_link_core::incomplete_transfer::IncompleteTransfer;
 use amqp_link_types::types::ReceiverTransferError as Refused;
@@ -6,7 +6,7 @@ use bytes::Bytes;
 use std::alloc::{AllocError, Global};
 use std::test::Fail;
 
-// How a transfer was answered.
+// The result of adding a transfer.
 #[derive(Clone, Copy, Debug, PartialEq, Eq)]
 enum Answer {
     Taken,

@@ -1,6 +1,7 @@
-//! A ledger is attached (2.6.3, 2.6.4), and its unsettled deliveries are exchanged (2.6.13).
+//! How a ledger is attached (2.6.3, 2.6.4), and how its unsettled deliveries are exchanged (2.6.13).
 //!
-//! A delivery that the exchange gives to the user is handed out, one that has ended is resolved.
+//! A registration whose delivery the exchange returns to the user is handed out; one whose delivery has ended
+//! is resolved.
 ghost use Rattle.std.specs.Prelude.{◌≡◌, ◌≢◌, [], IfOk, OnOk, OnErr};
 ghost use Rattle.amqp_link_types.specs.declared.types.attach.Attach.{Attach as TheAttach};
 ghost use Rattle.amqp_link_core.specs.AttachFields.{remote_entries};
@@ -21,7 +22,7 @@ use amqp_link_types::frame::LinkFrame;
 use amqp_link_types::types::{Attach, DeliveryTag, SenderAttachError};
 use std::alloc::AllocError;
 
-// The deliveries that an exchange gives to the user.
+// The deliveries that an exchange returns to the user.
 fn deliveries_of(exchange: &SenderAttachExchange) -> &[(DeliveryTag, ResumingDelivery)]
     ensures { result.now ≡ deliveries_in exchange.now }
 {
@@ -33,7 +34,7 @@ fn deliveries_of(exchange: &SenderAttachExchange) -> &[(DeliveryTag, ResumingDel
 }
 
 impl<T: LinkTarget> OutcomeLedger<T> {
-    // Takes an attach as planned, and records what becomes of each registration.
+    // Takes an attach as planned, and changes the fates of the registrations.
     fn take_planned(
         &mut self,
         plan: AttachPlan<T>,
@@ -70,7 +71,7 @@ impl<T: LinkTarget> LinkAttach for OutcomeLedger<T> {
     ghost use Rattle.std.specs.Prelude.{◌≡◌, false, [], refl};
     ghost use Rattle.amqp_link_types.specs.declared.types.errors.SenderAttachError.TheVariants.{IllegalState, AttachTooLarge, OutOfMemory};
     ghost use Rattle.amqp_link_exchange.specs.Exchanges.{outcomes_returned};
-    ghost use Rattle.amqp_link_sender.specs.SenderAttaches.{sender_attached, sender_refusal, sender_left, does_taking_allocate, exchange_in};
+    ghost use Rattle.amqp_link_sender.specs.SenderAttaches.{sender_attached, sender_refusal, sender_left, sender_taking_allocates, exchange_in};
     ghost use Rattle.amqp_link_sender.specs.SenderAttaches.{sender_target_taken, sender_shown_after_refusal};
     ghost use Rattle.amqp_link_ledger.specs.Exchanging.{given_up, ledger_taken};
 
@@ -103,7 +104,7 @@ impl<T: LinkTarget> LinkAttach for OutcomeLedger<T> {
 
     ghost is_listing = { λ error. false };
 
-    ghost allocates = { λ ledger. does_taking_allocate ledger.link };
+    ghost allocates = { λ ledger. sender_taking_allocates ledger.link };
 
     ghost left = { λ error ledger attach.
         record ledger { link = sender_left T.admitted T.refused_by_sender error ledger.link attach } };
@@ -121,7 +122,7 @@ impl<T: LinkTarget> LinkAttach for OutcomeLedger<T> {
 
     ghost left_by_memory = { λ ledger a. refl };
 
-    /// The attach to send, as that of the endpoint. If the link attaches anew, each pending registration is
+    /// Sends the attach, as the endpoint does. If the link is reattached, each pending registration is
     /// resolved with `LinkStateError::IllegalState`.
     fn send_attach(
         &mut self,
@@ -132,12 +133,12 @@ impl<T: LinkTarget> LinkAttach for OutcomeLedger<T> {
         Ok((frame, outcomes))
     }
 
-    /// Takes the receiver's attach, as the endpoint does. The registrations of the deliveries that have
-    /// ended are resolved with the outcomes that are returned, and those of the deliveries in the list are
-    /// handed out.
+    /// Takes the receiver's attach, as the endpoint does. The registrations of the deliveries that have ended
+    /// are resolved with the outcomes that are returned, and those of the deliveries in the list are handed
+    /// out.
     ///
-    /// Each outcome is copied for its registration, after all tests: `OutOfMemory` leaves all as it was, and comes
-    /// only if there are deliveries to exchange or properties of both endpoints.
+    /// Each outcome is copied for its registration, after all tests: `OutOfMemory`, with nothing changed,
+    /// comes only if there are deliveries to exchange or both endpoints have properties.
     fn on_incoming_attach(
         &mut self,
         attach: Attach,

@@ -1,4 +1,4 @@
-//! Detaches that arrive at a ledger, and what becomes of its deliveries as the link is closed (2.6.6).
+//! Detaches that arrive at a ledger, and the outcomes of its deliveries when the link is closed (2.6.6).
 ghost use Rattle.std.specs.Prelude.{◌≡◌, ◌⊎◌, ◌↔◌, ◌&&◌, ◌||◌, [], true, map, None, Err, IfOk, IfErr, IsErrOf, OnOk, OnErr, is_some, if◌then◌else◌};
 ghost use Rattle.std.specs.Option.{option_map};
 ghost use Rattle.amqp_link_dispositions.specs.Ending.{closed_for, all_closed, reply_of};
@@ -18,7 +18,7 @@ fn is_closing(remote_initiated: bool, closed: bool) -> bool
     remote_initiated && closed
 }
 
-// Why a delivery ends whose link is closed.
+// The outcome of a delivery whose link is closed by a detach with this error, if any.
 fn closed_outcome(error: &Option<Error>) -> Result<DeliveryOutcome, AllocError>
     ensures { IfOk result (λ outcome. outcome ≡ Err (closed_for error.now)) }
 {
@@ -28,8 +28,8 @@ fn closed_outcome(error: &Option<Error>) -> Result<DeliveryOutcome, AllocError>
     }
 }
 
-// The outcome of each of these deliveries as the link is closed, by a detach with this error: one copy
-// each, in their order.
+// The outcomes of these deliveries when the link is closed by a detach with this error: one copy each, in
+// their order.
 fn closed_outcomes(
     alloc: Global,
     error: &Option<Error>,
@@ -46,7 +46,7 @@ fn closed_outcomes(
 }
 
 impl<T: LinkTarget> OutcomeLedger<T> {
-    /// Ends each pending delivery, in the order of the map, since this detach closes the link, as
+    /// Resolves each pending delivery, in the order of the map, since this detach closes the link, as
     /// `SenderLink::fail_pending_unsettled` does. Its registration is resolved with the outcome that is
     /// returned.
     ///
@@ -73,13 +73,13 @@ impl<T: LinkTarget> OutcomeLedger<T> {
         }
     }
 
-    /// Takes a detach off the session, as `SenderLink::on_incoming_detach` does, and returns the detach to
-    /// reply with, if there is one. If the peer initiated it and it closes the link, each pending delivery
-    /// ends as by `fail_pending_unsettled`; else the registrations stay.
+    /// Takes a detach from the session, as `SenderLink::on_incoming_detach` does, and returns the detach to
+    /// reply with, if there is one. If the peer initiated it and it closes the link, each pending delivery is
+    /// resolved as by `fail_pending_unsettled`; otherwise the registrations stay.
     ///
-    /// Refused with nothing changed, in this order: `UnattachedHandle` if the peer initiated it and there is
-    /// no output handle; `OutOfMemory`, only if the peer initiated it and it closes the link or carries an
-    /// error.
+    /// Refused in this order, with nothing changed, and only if the peer initiated the detach:
+    /// `UnattachedHandle` without output handle; `OutOfMemory`, only if the detach closes the link or carries
+    /// an error.
     pub fn on_incoming_detach(
         &mut self,
         detach: &Detach,

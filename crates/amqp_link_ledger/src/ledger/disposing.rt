@@ -26,9 +26,9 @@ use amqp_link_values::copy::copy_of;
 use std::alloc::{AllocError, Global};
 
 impl<T: LinkTarget> OutcomeLedger<T> {
-    /// States of one delivery that it has this state, and is settled or not, as `SenderLink::dispose` does.
-    /// If a pending delivery is settled by that, its registration is resolved with the outcome that is
-    /// returned. In mode `Settled` nothing is stated and nothing ends.
+    /// The disposition of one delivery, with this state, settled or not, as by `SenderLink::dispose`. If it
+    /// settles a pending delivery, the registration is resolved with the outcome that is returned. In mode
+    /// `Settled` there is no disposition, and nothing is resolved.
     ///
     /// Refused only if it is out of memory, with nothing changed; in mode `Settled` it does not allocate.
     pub fn dispose(
@@ -72,14 +72,15 @@ impl<T: LinkTarget> OutcomeLedger<T> {
         }
     }
 
-    /// States of several deliveries that they have this state, and are settled or not, as
-    /// `SenderLink::batch_dispose` does. The registrations of those that are settled by that are resolved
-    /// with the outcomes that are returned. In mode `Settled` nothing is stated and nothing ends.
+    /// The dispositions of several deliveries, with this state, settled or not, as by
+    /// `SenderLink::batch_dispose`. The registrations of the pending deliveries that they settle are resolved
+    /// with the outcomes that are returned. In mode `Settled` there is no disposition, and nothing is
+    /// resolved.
     ///
     /// Refused only if it is out of memory, with nothing changed; in mode `Settled` it does not allocate.
     ///
-    /// A delivery that is settled is looked up in the unsettled map once for the copy of its outcome and
-    /// once as it leaves.
+    /// A delivery that is settled is looked up in the unsettled map twice: once for the copy of its outcome,
+    /// and once to remove it.
     pub fn batch_dispose(
         &mut self,
         ids_and_tags: &[(DeliveryNumber, DeliveryTag)],
@@ -120,8 +121,8 @@ impl<T: LinkTarget> OutcomeLedger<T> {
         }
     }
 
-    // Copies of the outcomes with which the listed deliveries end, in the order of the list: nothing for one
-    // that does not end, and an empty list if none is settled.
+    // Copies of the outcomes of the listed deliveries, in the order of the list: nothing for one that does
+    // not end, and an empty list if none is settled.
     fn copies_of_settled(
         &self,
         settled: bool,
@@ -138,7 +139,7 @@ impl<T: LinkTarget> OutcomeLedger<T> {
         Ok(copies)
     }
 
-    // A copy of the outcome with which a delivery ends that its sender settles, if it ends.
+    // A copy of the outcome of a delivery that its sender settles: none if it is not pending.
     fn copy_of_settled(
         &self,
         settled: bool,
@@ -162,7 +163,7 @@ impl<T: LinkTarget> OutcomeLedger<T> {
     }
 }
 
-// A copy of the outcome with which a delivery of this map ends that its sender settles, if it is there.
+// A copy of the outcome of a delivery of this map that its sender settles: none if it is not there.
 fn copy_of_settled_in(
     unsettled: &UnsettledMap<UnsettledMessage>,
     tag: &DeliveryTag,

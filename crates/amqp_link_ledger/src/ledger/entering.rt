@@ -1,13 +1,10 @@
-//! Deliveries that are sent again or registered again, and such as are withdrawn (2.6.13).
+//! Deliveries that are sent again, registered again without being sent, or withdrawn (2.6.13).
 ghost use Rattle.std.specs.Prelude.{◌≡◌, ◌∷◌, [], IfOk, OnOk, OnErr, length};
 ghost use Rattle.amqp_link_types.specs.Entries.{entry_at, with_entry, without_entry};
-ghost use Rattle.amqp_link_types.specs.Refusals.{refusal};
 ghost use Rattle.amqp_link_split.specs.Room.{payload_limit as limit_of_payload};
 ghost use Rattle.amqp_link_split.specs.Split.{IsFewestPieces};
 ghost use Rattle.amqp_link_sender.specs.Senders.{IsSent, is_pending, unsettled_transfer_tests, HandsBackThenOutOfMemory};
 ghost use Rattle.amqp_link_ledger.specs.Fates.{Change, after};
-ghost use Rattle.amqp_link_ledger.specs.Ledgers.{HandsBackWithMemoryAfter};
-ghost use Rattle.amqp_link_ledger.specs.Sends.{entry_tests};
 
 use crate::ledger::OutcomeLedger;
 use amqp_link_core::endpoint::target::LinkTarget;
@@ -16,8 +13,8 @@ use amqp_link_types::frame::LinkFrame;
 use amqp_link_types::types::{DeliveryTag, LinkStateError, Payload, Transfer};
 
 impl<T: LinkTarget> OutcomeLedger<T> {
-    /// Takes the entry of a delivery back, if it is pending, as `SenderLink::withdraw` does. Its
-    /// registration is then withdrawn. Does not allocate.
+    /// Removes the entry of a delivery and returns it, if the delivery is pending, as `SenderLink::withdraw`
+    /// does. Its registration is withdrawn. Does not allocate.
     pub fn withdraw(&mut self, tag: &DeliveryTag) -> Option<UnsettledMessage>
         ensures entry { result ≡ entry_at self.old.link.unsettled tag.now }
         ensures link { self.new.link ≡ record self.old.link {
@@ -31,9 +28,9 @@ impl<T: LinkTarget> OutcomeLedger<T> {
     }
 
     /// Registers the entry of a delivery again without sending it, as `SenderLink::put_back` does, so that
-    /// the next exchange resolves it. It is a registration with the next number.
+    /// the next exchange resolves it. This makes a registration with the next number.
     ///
-    /// Refused in this order, with nothing changed and the entry handed back: `TagPending`; `OutOfMemory`.
+    /// Refused in this order, with nothing changed and the entry returned: `TagPending`; `OutOfMemory`.
     pub fn put_back(
         &mut self,
         tag: DeliveryTag,
@@ -68,13 +65,13 @@ impl<T: LinkTarget> OutcomeLedger<T> {
     }
 
     /// Sends the rest of a delivery with this transfer, and registers its entry, as
-    /// `SenderLink::send_unsettled_transfer` does. It is a registration with the next number.
+    /// `SenderLink::send_unsettled_transfer` does. This makes a registration with the next number.
     ///
-    /// Refused with nothing changed and the entry handed back, in this order: `IllegalState` without input
-    /// handle; `TagPending`; `NoRoom`; `OutOfMemory`, which may come before `NoRoom`.
+    /// Refused in this order, with nothing changed and the entry returned: `IllegalState` without input
+    /// handle; `TagPending`; `NoRoom`; `OutOfMemory`.
     pub fn send_unsettled_transfer(
         &mut self,
-        transfer: Transfer,
+        mut transfer: Transfer,
         rest: &Payload,
         tag: DeliveryTag,
         entry: UnsettledMessage,
@@ -86,17 +83,15 @@ impl<T: LinkTarget> OutcomeLedger<T> {
           unsettled = with_entry self.old.link.unsettled tag entry;
         }) }
         ensures records { OnOk result (self.new.records ≡ after (Change.Enters tag) self.old.records) }
-        ensures refused { HandsBackWithMemoryAfter (entry_tests self.old.link tag) result entry
+        ensures refused { HandsBackThenOutOfMemory result entry
             (unsettled_transfer_tests self.old.link transfer tag rest.now) }
         ensures left { OnErr result (self.new ≡ self.old) }
     {
-        if let Some(refused) = self.entry_refusal(&tag) {
-            drop((transfer, tag));
-            return Err((refused, entry));
-        }
         let Ok(reserved) = self.registrations.reserve(self.alloc, tag.as_bytes()) else {
+            // Out of memory, unless the endpoint refuses it.
+            let admitted = self.link.can_send_unsettled(&mut transfer, &tag, rest);
             drop((transfer, tag));
-            return Err((LinkStateError::OutOfMemory, entry));
+            return Err((admitted.err().unwrap_or(LinkStateError::OutOfMemory), entry));
         };
         match self
             .link
@@ -111,18 +106,5 @@ impl<T: LinkTarget> OutcomeLedger<T> {
                 Err(refused)
             }
         }
-    }
-
-    // Why an entry is not sent again, as far as that is known before its transfer is measured.
-    fn entry_refusal(&self, tag: &DeliveryTag) -> Option<LinkStateError>
-        ensures { result ≡ refusal (entry_tests self.now.link tag.now) }
-    {
-        if self.link.input_handle().is_none() {
-            return Some(LinkStateError::IllegalState);
-        }
-        if self.is_pending(tag) {
-            return Some(LinkStateError::TagPending);
-        }
-        None
     }
 }

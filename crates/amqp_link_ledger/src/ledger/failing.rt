@@ -10,8 +10,8 @@ use amqp_link_types::types::SenderAttachError;
 use std::alloc::AllocError;
 
 impl<T: LinkTarget> OutcomeLedger<T> {
-    /// What is to be done once the attach of this link has failed with `error`, as at the endpoint. The
-    /// registrations stay.
+    /// What to do after the attach of this link has failed with `error`, as `SenderLink::handle_attach_error`
+    /// does. The registrations stay.
     pub fn handle_attach_error(
         &mut self,
         error: SenderAttachError,

@@ -9,6 +9,7 @@ ghost use Rattle.amqp_link_ledger.specs.Fates.{Change, after};
 use crate::ledger::OutcomeLedger;
 use crate::registrations::Registrations;
 use amqp_link_core::endpoint::target::LinkTarget;
+use amqp_link_sender::sender_link::DispositionAnswer;
 use amqp_link_types::delivery::DeliveryOutcome;
 use amqp_link_types::frame::LinkFrame;
 use amqp_link_types::types::{
@@ -34,8 +35,8 @@ pub(super) fn resolve_if_ended(
 }
 
 impl<T: LinkTarget> OutcomeLedger<T> {
-    /// Takes a receiver's flow, as `SenderLink::on_incoming_flow` does, and returns the flow to send, if
-    /// there is one. The registrations stay.
+    /// Takes the receiver's flow, as `SenderLink::on_incoming_flow` does, and returns the flow to reply with,
+    /// if there is one. The registrations stay.
     ///
     /// Refused with `UnattachedHandle`, and nothing changed, without output handle. Does not allocate.
     pub fn on_incoming_flow(&mut self, flow: LinkFlow) -> Result<Option<LinkFlow>, LinkRelayError>
@@ -52,8 +53,8 @@ impl<T: LinkTarget> OutcomeLedger<T> {
         self.link.on_incoming_flow(flow)
     }
 
-    /// A transfer that arrives at a sender is always refused with `TransferFrameToSender`, since only a
-    /// sender sends transfers (2.7.5). Does not allocate.
+    /// Always refused with `TransferFrameToSender`: a transfer has arrived at a sender, and only a sender
+    /// sends transfers (2.7.5). Does not allocate.
     pub fn on_incoming_transfer(
         &self,
         transfer: Transfer,
@@ -64,20 +65,21 @@ impl<T: LinkTarget> OutcomeLedger<T> {
         self.link.on_incoming_transfer(transfer, payload)
     }
 
-    /// Takes what the receiver states of a delivery, as `SenderLink::on_incoming_disposition` does. If that
-    /// ends the delivery, its registration is resolved with the outcome that is returned.
+    /// Takes the receiver's disposition of one delivery, as `SenderLink::on_incoming_disposition` does. If that
+    /// resolves the delivery, its registration is resolved with the same outcome. If `echo` is set, the caller
+    /// answers by this ledger's `dispose`.
     ///
-    /// Refused with `OutOfMemory`, and nothing changed, only if it ends a pending delivery with a state,
+    /// Refused with `OutOfMemory`, and nothing changed, only if it resolves a pending delivery with a state,
     /// which is copied.
     pub fn on_incoming_disposition(
         &mut self,
         settled: bool,
         state: Option<DeliveryState>,
         delivery_tag: &DeliveryTag,
-    ) -> Result<(bool, Option<(DeliveryTag, DeliveryOutcome)>), DispositionError>
-        ensures echo { IfOk result (λ answer. answer.0 ≡ is_echoed settled self.old.link.rcv_settle_mode) }
+    ) -> Result<DispositionAnswer, DispositionError>
+        ensures echo { IfOk result (λ answer. answer.echo ≡ is_echoed settled self.old.link.rcv_settle_mode) }
         ensures ended { IfOk result (λ answer.
-            answer.1 ≡ ended_by settled state delivery_tag.now self.old.link.unsettled) }
+            answer.outcome ≡ ended_by settled state delivery_tag.now self.old.link.unsettled) }
         ensures link { OnOk result (self.new.link ≡ record self.old.link {
           unsettled = map_after_receiver_disposition settled state delivery_tag.now self.old.link.unsettled;
         }) }

@@ -1,11 +1,12 @@
-//! Payloads that a ledger sends as new deliveries (2.7.5). One that awaits its outcome is a registration.
+//! Payloads that a ledger sends as new deliveries (2.7.5). An unsettled one makes a registration.
 ghost use Rattle.std.specs.Prelude.{◌≡◌, Ok, Err, Some, IfOk, IfSome, IsSome, IsSomeAnd, IsTrue, OnOk, OnErr, MatchOption, length};
 ghost use Rattle.amqp_link_split.specs.Room.{payload_limit as limit_of_payload};
 ghost use Rattle.amqp_link_split.specs.Split.{IsFewestPieces};
-ghost use Rattle.amqp_link_sender.specs.Senders.{SendsOrLacksCredit, SendsTransfer, SendsFewest, delivery_of, payload_tests, tagged_transfer_tests};
+ghost use Rattle.amqp_link_sender.specs.Senders.{SendsOrLacksCredit, SendsTransfer, SendsFewest, SendAnswersThenOutOfMemory, delivery_of, payload_tests, tagged_transfer_tests};
 ghost use Rattle.amqp_link_sender.specs.Waits.{waiting_error, after_waiting};
-ghost use Rattle.amqp_link_ledger.specs.Ledgers.{AnswersWithMemoryAfter};
-ghost use Rattle.amqp_link_ledger.specs.Sends.{tag_to_register, tag_of_unsettled, endpoint_tests, named_tests, records_after_sending, after_settlement, does_await, SendAnswersWithMemoryAfter, IsRoomFor};
+ghost use Rattle.amqp_link_types.specs.Refusals.{AnswersThenOutOfMemory};
+ghost use Rattle.amqp_link_ledger.specs.Sends.{tag_to_register, tag_of_unsettled, records_after_sending, after_settlement, does_await, IsRoomFor};
+ghost use Rattle.amqp_link_sender.specs.declared.sender_link.Sending.TheVariants.{CreditMissing};
 
 use crate::ledger::OutcomeLedger;
 use crate::registrations::{Registrations, Reserved};
@@ -21,11 +22,10 @@ use std::alloc::{AllocError, Global};
 
 impl<T: LinkTarget> OutcomeLedger<T> {
     /// Sends a payload as a new delivery, for one credit, as `SenderLink::send_payload` does. An unsettled
-    /// delivery is a registration with the next number.
+    /// delivery makes a registration with the next number.
     ///
-    /// A detach that waits is recorded, and the refusals come in their order, as there. `OutOfMemory` comes
-    /// only if nothing waits, both handles are there and there is credit; it may come before `TagPending`
-    /// and `NoRoom`. Nothing has changed then.
+    /// A pending detach is recorded, and the refusals have their order, as there: `OutOfMemory`, with nothing
+    /// changed, comes only if none of the others does.
     pub fn send_payload(
         &mut self,
         waiting: Waiting,
@@ -41,7 +41,7 @@ impl<T: LinkTarget> OutcomeLedger<T> {
             (delivery_of message_format settled state batchable) payload.now sending) }
         ensures records { IfOk result (λ sending. self.new.records ≡ records_after_sending sending self.old.records) }
         ensures refused { MatchOption (waiting_error self.old.link.local_state waiting)
-            (SendAnswersWithMemoryAfter (endpoint_tests self.old.link) result (payload_tests self.old.link
+            (SendAnswersThenOutOfMemory result (payload_tests self.old.link
             (delivery_of message_format settled state batchable) payload.now))
             (λ error. result ≡ Err error) }
         ensures left { OnErr result (self.new
@@ -56,9 +56,9 @@ impl<T: LinkTarget> OutcomeLedger<T> {
         );
         let reserved = match room {
             Ok(reserved) => reserved,
-            Err(refused) => {
-                drop((waiting, state));
-                return Err(refused.into());
+            Err(AllocError) => {
+                drop(waiting);
+                return self.without_room(payload, message_format, settled, state, batchable);
             }
         };
         let sending = self.link.send_payload(
@@ -85,15 +85,39 @@ impl<T: LinkTarget> OutcomeLedger<T> {
         }
     }
 
+    // What `send_payload` returns if there is no memory for the registration: `OutOfMemory`, unless the
+    // endpoint refuses the payload or has no credit.
+    fn without_room(
+        &self,
+        payload: &Payload,
+        message_format: MessageFormat,
+        settled: Option<bool>,
+        state: Option<DeliveryState>,
+        batchable: bool,
+    ) -> Result<Sending, LinkStateError>
+        ensures unsent { IfOk result (λ sending. sending ≡ CreditMissing) }
+        ensures refused { SendAnswersThenOutOfMemory result (payload_tests self.now.link
+            (delivery_of message_format settled state batchable) payload.now) }
+    {
+        match self
+            .link
+            .can_send_payload(payload, message_format, settled, state, batchable)
+        {
+            Ok(true) => Err(LinkStateError::OutOfMemory),
+            Ok(false) => Ok(Sending::CreditMissing),
+            Err(refused) => Err(refused),
+        }
+    }
+
     /// Sends a payload with this transfer, as `SenderLink::send_payload_with_transfer` does. An unsettled
-    /// delivery is a registration with the next number.
+    /// delivery makes a registration with the next number.
     ///
-    /// Refused in this order, with nothing changed: `IllegalState` without tag, then without input handle;
-    /// `TagPending` for an unsettled delivery; `NoRoom`; `OutOfMemory`, which may come before the last two.
+    /// Refused in this order, with nothing changed: `IllegalState` if the transfer has no tag, then without
+    /// input handle; `TagPending` for an unsettled delivery; `NoRoom`; `OutOfMemory`.
     pub fn send_payload_with_transfer(
         &mut self,
         message_format: MessageFormat,
-        transfer: Transfer,
+        mut transfer: Transfer,
         payload: &Payload,
     ) -> Result<(Settlement, Vec<LinkFrame>), LinkStateError>
         ensures sent { IfOk result (λ sent. IsSomeAnd transfer.delivery_tag (λ tag.
@@ -101,7 +125,7 @@ impl<T: LinkTarget> OutcomeLedger<T> {
         ensures fewest { IfOk result (λ sent. IsFewestPieces payload.now
             (limit_of_payload transfer self.old.link.max_frame_size) (length sent.1.items)) }
         ensures records { IfOk result (λ sent. self.new.records ≡ after_settlement sent.0 self.old.records) }
-        ensures refused { AnswersWithMemoryAfter LinkStateError.OutOfMemory (named_tests self.old.link transfer) result
+        ensures refused { AnswersThenOutOfMemory LinkStateError.OutOfMemory result
             (tagged_transfer_tests self.old.link transfer payload.now) }
         ensures left { OnErr result (self.new ≡ self.old) }
     {
@@ -109,7 +133,10 @@ impl<T: LinkTarget> OutcomeLedger<T> {
         let reserved = match room {
             Ok(reserved) => reserved,
             Err(refused) => {
+                // Out of memory, unless the endpoint refuses it.
+                let admitted = self.link.can_send_with_transfer(&mut transfer, payload);
                 drop(transfer);
+                admitted?;
                 return Err(refused.into());
             }
         };

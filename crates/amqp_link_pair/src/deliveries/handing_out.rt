@@ -1,11 +1,11 @@
-//! The receiver hands out a delivery that is whole (2.6.7, 2.6.12).
+//! The receiver hands out a complete delivery (2.6.7, 2.6.12).
 ghost use Rattle.std.specs.Prelude.{◌≡◌, ◌<◌, None, Some, IfOk, IfErr, IfSome, IsErrOf};
 ghost use Rattle.amqp_link_types.specs.Entries.{entry_at};
 ghost use Rattle.amqp_link_types.specs.Refusals.{AnswersOrOutOfMemory, refusal};
 ghost use Rattle.amqp_link_core.specs.Held.{held_bytes};
 ghost use Rattle.amqp_link_receiver.specs.Completing.{IsDelivery, spent};
 ghost use Rattle.amqp_link_worlds.specs.Callable.{CanComplete};
-ghost use Rattle.amqp_link_pair.specs.HandingOut.{refusal_by, held_in, delivery_tests, credit_tests, IsGiven, IsGivenAt, IsNotGiven, LeftByKept, LeftByDeliveries};
+ghost use Rattle.amqp_link_pair.specs.HandingOut.{refusal_by, held_in, handing_out_tests, credit_tests, IsGiven, IsGivenAt, IsNotGiven, LeftByKept, LeftByDeliveries};
 
 use crate::deliveries::{Deliveries, Kept};
 use amqp_link_core::endpoint::LinkExt;
@@ -25,7 +25,7 @@ fn refusal_of(error: &ReceiverTransferError) -> PairError
     }
 }
 
-// The receiver takes the last transfer of what is held.
+// Completes at the receiver the delivery that is held.
 fn complete<B: FromBody>(
     receiver: &mut ReceiverLink<Target>,
     held: &IncompleteTransfer,
@@ -49,7 +49,7 @@ fn complete<B: FromBody>(
 }
 
 impl Kept {
-    // Hands the delivery out, if it is whole and was not handed out, and there is credit.
+    // Hands the delivery out, if it is complete, was not handed out before, and there is credit.
     fn hand_out<B: FromBody>(
         &mut self,
         receiver: &mut ReceiverLink<Target>,
@@ -58,7 +58,7 @@ impl Kept {
         ensures done { IfOk result (λ delivery.
             IsGiven B.decoded self.old receiver.old delivery self.new receiver.new) }
         ensures refused { AnswersOrOutOfMemory PairError.OutOfMemory result
-            (delivery_tests B.decoded (Some self.old) receiver.old) }
+            (handing_out_tests B.decoded (Some self.old) receiver.old) }
         ensures memory { IsErrOf result PairError.OutOfMemory
             → refusal (credit_tests (Some self.old) receiver.old) ≡ None }
         ensures left { IfErr result (λ error.
@@ -93,7 +93,7 @@ impl Deliveries {
         ensures done { IfOk result (λ delivery.
             IsGivenAt B.decoded tag.now self.old receiver.old delivery self.new receiver.new) }
         ensures refused { AnswersOrOutOfMemory PairError.OutOfMemory result
-            (delivery_tests B.decoded (entry_at self.old tag.now) receiver.old) }
+            (handing_out_tests B.decoded (entry_at self.old tag.now) receiver.old) }
         ensures memory { IsErrOf result PairError.OutOfMemory
             → refusal (credit_tests (entry_at self.old tag.now) receiver.old) ≡ None }
         ensures left { IfErr result (λ error.

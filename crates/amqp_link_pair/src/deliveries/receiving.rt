@@ -17,7 +17,7 @@ use amqp_link_types::frame::{LinkFrame, LinkTransfer};
 use amqp_link_types::types::{DeliveryNumber, DeliveryTag, ReceiverTransferError, Target};
 use std::alloc::{AllocError, Global};
 
-// An arrival that is out of memory. There is no other reason to refuse it.
+// The error of an arrival, which is refused only if it is out of memory.
 fn out_of_memory(error: ReceiverTransferError) -> AllocError
     requires { error ≡ ReceiverTransferError.OutOfMemory }
 {
@@ -25,7 +25,7 @@ fn out_of_memory(error: ReceiverTransferError) -> AllocError
     AllocError
 }
 
-// A delivery begins with its first transfer, which has this id.
+// Begins a delivery with its first transfer, which has this id.
 fn begin(
     alloc: Global,
     frame: &LinkFrame,
@@ -43,7 +43,7 @@ fn begin(
     IncompleteTransfer::start(alloc, transfer, payload).map_err(out_of_memory)
 }
 
-// A delivery goes on, or is resumed by a first transfer, which has this id.
+// Adds a further transfer to a delivery, or resumes it by a first transfer, which has this id.
 fn go_on(
     held: &mut IncompleteTransfer,
     frame: &LinkFrame,
@@ -60,7 +60,7 @@ fn go_on(
     }
 }
 
-// A first transfer resumes a delivery, and gives it this id.
+// Resumes a delivery by a first transfer, which gives it this id.
 fn resume(
     held: &mut IncompleteTransfer,
     first: &LinkTransfer,
@@ -77,7 +77,7 @@ fn resume(
     held.try_resume(transfer, payload).map_err(out_of_memory)
 }
 
-// A further transfer of a delivery.
+// Adds a further transfer to a delivery.
 fn append(held: &mut IncompleteTransfer, next: &LinkTransfer) -> Result<(), AllocError>
     requires { CanReceive (Some held.old) 0 (LinkFrame.TransferContinuation next.now) }
     ensures ok { OnOk result
@@ -89,7 +89,7 @@ fn append(held: &mut IncompleteTransfer, next: &LinkTransfer) -> Result<(), Allo
     held.try_append(transfer, payload).map_err(out_of_memory)
 }
 
-// The receiver reports that a front of a delivery has arrived. Does not allocate if it reports one already.
+// Makes the receiver report a front of a delivery. Allocates only if there was no report of it.
 fn report(
     receiver: &mut ReceiverLink<Target>,
     tag: &DeliveryTag,
@@ -102,7 +102,8 @@ fn report(
     receiver.on_incomplete_transfer(tag, place.0, place.1)
 }
 
-// What is held once a transfer arrived, and the receiver's report of it. The position of what is held.
+// What is held once a transfer has arrived, and the receiver's report of it. Returns the position of what is
+// held.
 fn hold(
     held: &mut Option<IncompleteTransfer>,
     receiver: &mut ReceiverLink<Target>,
@@ -139,7 +140,8 @@ fn hold(
 }
 
 impl Kept {
-    // The next transfer of the delivery arrives. The position of what is held, and whether it was the last.
+    // The next transfer of the delivery arrives. Returns the position of what is held, and whether it was the
+    // last.
     fn receive(
         &mut self,
         receiver: &mut ReceiverLink<Target>,
@@ -168,8 +170,9 @@ impl Kept {
 }
 
 impl Deliveries {
-    // The next transfer of a delivery arrives, with this id if it is a first one. The position of what is held,
-    // and whether the last has arrived. Refused only if it is out of memory, with nothing changed.
+    // The next transfer of a delivery arrives, with this id if it is a first one. Returns the position of
+    // what is held, and whether the last transfer has arrived. Refused only if it is out of memory, with
+    // nothing changed.
     pub(crate) fn receive(
         &mut self,
         receiver: &mut ReceiverLink<Target>,

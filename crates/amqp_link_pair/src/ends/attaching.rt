@@ -1,7 +1,8 @@
 //! The endpoints of a pair are attached (2.6.3).
 //!
-//! The sender's attach goes first, then the receiver's. Each of four steps allocates, so an attach may stop
-//! between them; the attach on its way is kept, and handed in as a copy.
+//! The sender's attach is sent first, then the receiver's. Each of four steps allocates, so an attach may
+//! stop between them. The attach that was sent and has not arrived is kept, and the endpoint that takes it
+//! gets a copy.
 ghost use Rattle.std.specs.Prelude.{◌≡◌, ℕ, false, None, Some, IfOk, OnOk, OnErr};
 ghost use Rattle.amqp_link_types.specs.declared.types.definitions.OutputHandle.{OutputHandle as TheHandle};
 ghost use Rattle.amqp_link_state.specs.declared.state.LinkState.{LinkState as TheState};
@@ -24,7 +25,7 @@ use amqp_link_types::types::{Attach, OutputHandle, Target};
 use std::alloc::{AllocError, Global};
 use std::mem;
 
-// An endpoint is out of memory. There is no other reason to refuse what is asked of it.
+// The error of an endpoint that refuses its step only if it is out of memory.
 fn out_of_memory<L: LinkAttach>(error: L::AttachError) -> AllocError
     requires { error ≡ L.out_of_memory }
 {
@@ -54,7 +55,7 @@ fn send_whole<L: LinkAttach>(end: &mut L) -> Result<Attach, AllocError>
     Ok(attach)
 }
 
-// An attach arrives at an endpoint that does not refuse it: what follows from the exchange.
+// An attach arrives at an endpoint that does not refuse it. Returns what follows from the exchange.
 fn take<L: LinkAttach>(end: &mut L, attach: &Attach) -> Result<L::AttachExchange, AllocError>
     requires { L.refusal_of end.old attach.now ≡ None }
     ensures done { OnOk result (end.new ≡ L.taken end.old attach.now) }
@@ -76,14 +77,14 @@ fn set_handle<L: LinkExt>(end: &mut L, handle: Option<OutputHandle>)
     *end.output_handle_mut() = handle;
 }
 
-// Sets what an attach has on its way.
+// Replaces the attach that was sent and has not arrived.
 fn set(place: &mut Option<Attach>, attach: Option<Attach>)
     ensures { place.new ≡ attach }
 {
     drop(mem::replace(place, attach));
 }
 
-// The sender at its handle, with this frame limit.
+// Sets the sender's output handle and frame limit.
 fn prepare(ledger: &mut OutcomeLedger<Target>, handle: Option<OutputHandle>, limit: u32)
     ensures { ledger.new ≡ ledger_at handle limit ledger.old }
 {
@@ -91,7 +92,7 @@ fn prepare(ledger: &mut OutcomeLedger<Target>, handle: Option<OutputHandle>, lim
     ledger.set_max_frame_size(limit);
 }
 
-// The receiver at its handle, with this frame limit.
+// Sets the receiver's output handle to 0, and its frame limit.
 fn prepare_receiver(receiver: &mut ReceiverLink<Target>, limit: u32)
     ensures { receiver.new ≡ receiver_at_limit limit receiver.old }
 {
@@ -99,8 +100,8 @@ fn prepare_receiver(receiver: &mut ReceiverLink<Target>, limit: u32)
     receiver.set_max_frame_size(limit);
 }
 
-// The sender sends its attach at handle 0 and at this frame limit, which is refused only if it is out of memory:
-// then it has the handle and the limit that it had.
+// The sender sends its attach at handle 0 and at this frame limit. Refused only if it is out of memory; then
+// its handle and its limit are as before.
 fn ask(
     ledger: &mut OutcomeLedger<Target>,
     limit: u32,
@@ -125,8 +126,9 @@ fn ask(
 }
 
 impl Ends {
-    /// Goes on from where the endpoints are until both are attached at this frame limit: what is to be resumed
-    /// then. Refused only if it is out of memory; the endpoints stay where they have come to then.
+    /// Continues from the stage of the endpoints until both are attached at this frame limit, and returns
+    /// what is to be resumed. Refused only if it is out of memory; then the endpoints stay at the stage that
+    /// they have reached.
     pub(crate) fn attach(&mut self, alloc: Global, limit: u32) -> Result<Resuming, AllocError>
         requires { (w : World) × MayAttach limit w self.old }
         ensures done { (w : World) → MayAttach limit w self.old → IfOk result (λ resuming.
@@ -143,7 +145,7 @@ impl Ends {
         }
     }
 
-    // The sender sends its attach, and on.
+    // The sender sends its attach; then the steps that follow.
     fn go_on_apart(&mut self, alloc: Global, limit: u32) -> Result<Resuming, AllocError>
         requires may { (w : World) × MayAttach limit w self.old }
         requires stage { self.old.stage ≡ Stage.Apart }
@@ -160,7 +162,7 @@ impl Ends {
         self.go_on_asked(alloc)
     }
 
-    // The receiver takes the sender's attach, and on.
+    // The receiver takes the sender's attach; then the steps that follow.
     fn go_on_asked(&mut self, alloc: Global) -> Result<Resuming, AllocError>
         requires may { (limit : ℕ) × (w : World) × MayAttach limit w self.old }
         requires stage { self.old.stage ≡ Stage.Asked }
@@ -178,7 +180,7 @@ impl Ends {
         self.go_on_taken(alloc)
     }
 
-    // The receiver sends its attach, and on.
+    // The receiver sends its attach; then the step that follows.
     fn go_on_taken(&mut self, alloc: Global) -> Result<Resuming, AllocError>
         requires may { (limit : ℕ) × (w : World) × MayAttach limit w self.old }
         requires stage { self.old.stage ≡ Stage.Taken }

@@ -1,5 +1,5 @@
-//! What goes to and fro between endpoints that are attached, without the wire: flows, detaches and dispositions
-//! (2.6.5, 2.6.7, 2.6.12).
+//! Flows, detaches and dispositions between attached endpoints, which do not go over the wire (2.6.5, 2.6.7,
+//! 2.6.12).
 ghost use Rattle.std.specs.Prelude.{◌≡◌, ◌∷◌, [], false, None, Some, Ok, IsSome, OnOk, OnErr};
 ghost use Rattle.amqp_link_types.specs.Entries.{entry_at, without_entry};
 ghost use Rattle.amqp_link_types.specs.declared.types.delivery_state.DeliveryState.TheVariants.{Accepted};
@@ -31,7 +31,7 @@ fn flow_in(frame: LinkFrame) -> LinkFlow
     flow
 }
 
-// The receiver states its credit.
+// The receiver's flow with this credit.
 fn state_credit(receiver: &mut ReceiverLink<Target>, credit: u32) -> LinkFlow
     requires { receiver.old.output_handle ≡ Some (record { 0 = 0 }) }
     ensures flow { result ≡ stated_flow (with_credit receiver.old.flow_state credit) (record { 0 = 0 }) false false }
@@ -67,7 +67,7 @@ fn reply() -> Detach
     }
 }
 
-// A disposition is out of memory. There is no other reason to refuse it.
+// The error of a disposition, which is refused only if it is out of memory.
 fn out_of_memory(error: DispositionError) -> AllocError
     requires { error ≡ DispositionError.OutOfMemory }
 {
@@ -76,7 +76,7 @@ fn out_of_memory(error: DispositionError) -> AllocError
 }
 
 impl Ends {
-    /// The receiver's flow with this credit arrives at the sender: the sender's credit then.
+    /// The receiver's flow with this credit arrives at the sender. Returns the sender's link-credit then.
     pub(crate) fn grant(&mut self, credit: u32) -> u32
         requires { CanGrant self.old.ledger.link self.old.receiver }
         ensures credit { result ≡ granted self.old.receiver.flow_state.delivery_count credit
@@ -108,8 +108,8 @@ impl Ends {
         self.stage = Stage::Apart;
     }
 
-    /// The receiver accepts and settles a delivery, and the sender takes that. Refused only if it is out of
-    /// memory, with nothing changed.
+    /// Both endpoints settle a delivery as accepted. Refused only if it is out of memory, with nothing
+    /// changed.
     pub(crate) fn settle(&mut self, info: &DeliveryInfo) -> Result<(), AllocError>
         requires { IsSome (entry_at self.old.ledger.link.unsettled info.now.delivery_tag) }
         ensures done { OnOk result (self.new ≡ record self.old {

@@ -3,7 +3,7 @@ ghost use Rattle.std.specs.Prelude.{◌≡◌};
 ghost use Rattle.amqp_link_payloads.specs.Bodies.{whole_message};
 ghost use Rattle.amqp_link_ledger.specs.Fates.{MovesOnce};
 ghost use Rattle.amqp_link_worlds.specs.Invariants.{IsWorld};
-ghost use Rattle.amqp_link_worlds.specs.PairRuns.{HoldsWhatArrived, RunsEvents, Step, is_out_of_memory as is_memory};
+ghost use Rattle.amqp_link_worlds.specs.PairRuns.{FatesMoveOnce, HoldsWhatArrived, RunsEvents, Step, is_answer_out_of_memory as is_memory};
 ghost use Rattle.amqp_link_worlds.specs.Worlds.{Good};
 ghost use Rattle.amqp_link_worlds.specs.declared.event.Event.TheVariants as event;
 
@@ -14,25 +14,29 @@ use amqp_link_worlds::event::{Answer, Event};
 use std::alloc::Global;
 
 impl Pair {
-    /// Makes these calls in order: what each has returned, and whether all were made.
+    /// Makes these calls in order. Returns the answer of each, and whether all were made.
     ///
-    /// Room for an answer is made before its call. The run stops, with false, before a call for whose answer there
-    /// is no room, and after a call that is out of memory, whose refusal is then the last answer. Any other refused
-    /// call has changed nothing but what its own clauses say, and the run goes on. To go on after it stopped, run
-    /// the events from the one that was out of memory, or from the first without an answer.
+    /// Room for an answer is made before its call. The run stops, and returns false, before a call for whose
+    /// answer there is no room, and after a call that is out of memory, whose refusal is then the last
+    /// answer. Any other refused call leaves what its own contract says, and the next call is made. To
+    /// continue a run that has stopped, run the events from the one that was out of memory, or from the first
+    /// without an answer.
     ///
-    /// What holds after any list of sends, grants, arrivals, cuts and new attachments: of each delivery whose
-    /// registration is not over, the receiver holds exactly the bytes that arrived over all attachments (`arrived`),
-    /// a front of its payload; what it reports gives the sender exactly the rest; the last transfer completes the
-    /// payload (all three `good`); and each registration is pending, withdrawn, handed out, or resolved once
-    /// (`fates`).
+    /// After any list of sends, grants, arrivals, cuts and new attachments, for each delivery whose latest
+    /// registration is pending or handed out: the receiver holds exactly the bytes that arrived over all
+    /// attachments (`arrived`); they are a front of its payload, the position that the receiver reports gives
+    /// the sender exactly the rest, and the last transfer completes the payload (all three `good`). And each
+    /// registration is pending, withdrawn, handed out, or resolved once (`fates`, and `made` for those that the run
+    /// itself makes).
     ///
-    /// It costs what the calls cost one by one.
+    /// Its cost is that of the single calls.
     pub fn run(&mut self, events: &[Event]) -> (Vec<Result<Answer, PairError>>, bool)
         ensures run { RunsEvents whole_message self.old events.now result.0.items result.1 self.new }
         ensures arrived { (run : RunsEvents whole_message self.old events.now result.0.items result.1 self.new)
             → HoldsWhatArrived whole_message self.old run.moments self.new }
         ensures fates { MovesOnce self.old.ledger.records self.new.ledger.records }
+        ensures made { (run : RunsEvents whole_message self.old events.now result.0.items result.1 self.new)
+            → FatesMoveOnce whole_message run.moments self.new }
         ensures good { Good self.new }
         ensures kept { IsWorld self.new }
     {
@@ -42,7 +46,7 @@ impl Pair {
                 return (answers, false);
             }
             let answer = self.answer_to(event);
-            let stops = is_out_of_memory(&answer);
+            let stops = is_answer_out_of_memory(&answer);
             answers.push_reserved(answer);
             if stops {
                 return (answers, false);
@@ -51,7 +55,7 @@ impl Pair {
         (answers, true)
     }
 
-    // Where answers are kept.
+    // The allocator of the answers.
     fn global(&self) -> Global
         ensures { IsWorld self.now }
     {
@@ -158,7 +162,7 @@ impl Pair {
 }
 
 // Whether a call was out of memory.
-fn is_out_of_memory(answer: &Result<Answer, PairError>) -> bool
+fn is_answer_out_of_memory(answer: &Result<Answer, PairError>) -> bool
     ensures { result ≡ is_memory answer.now }
 {
     match answer {

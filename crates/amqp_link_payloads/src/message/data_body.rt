@@ -15,8 +15,8 @@ use crate::payload::Payload;
 use bytes::Bytes;
 use std::alloc::Global;
 
-/// The data of a payload that is exactly one data section, in any of its forms (3.2.6). All else is
-/// refused as `NotOneDataSection`.
+/// The data of a payload that is exactly one data section, in any of its forms (3.2.6). All other payloads
+/// are refused with `NotOneDataSection`.
 #[derive(Debug, PartialEq, Eq, Drop)]
 pub struct DataBody(pub Payload);
 
@@ -25,8 +25,8 @@ impl FromBody for DataBody {
 
     ghost memory_aside = { λ bytes e. Prim.search rules };
 
-    // Bytes that stand in one piece are tested before they are shared, so they are refused for what
-    // they are, and never as out of memory.
+    // Bytes in one piece are tested before they are shared, so that wrong ones are refused by their name and
+    // never as out of memory.
     fn decode_from_pieces(
         alloc: Global,
         pieces: &[Payload],

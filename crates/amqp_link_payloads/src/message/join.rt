@@ -7,7 +7,7 @@ use crate::payload::{Payload, joined_len};
 use bytes::Bytes;
 use std::alloc::{AllocError, Global};
 
-// The one piece that holds bytes: none where no piece does, and where more than one does.
+// The only piece that holds bytes: none if no piece does, or if more than one does.
 pub(crate) fn only_full(pieces: &[Payload]) -> Option<&Payload>
     ensures joined { IfSome result (λ piece. piece.now ≡ concat pieces.now) }
     ensures full { IfSome result (λ piece. 0 < length piece.now) }
@@ -26,7 +26,7 @@ pub(crate) fn only_full(pieces: &[Payload]) -> Option<&Payload>
     only
 }
 
-// The pieces as one payload, whose bytes are copied. One growth holds them all.
+// The pieces as one payload, whose bytes are copied in one allocation.
 #[tactic(auto, using(std::proofs::lemmas::List::Concat::concat_is))]
 pub(crate) fn copy_all(alloc: Global, pieces: &[Payload]) -> Result<Payload, AllocError>
     ensures joined { IfOk result (λ whole. whole ≡ concat pieces.now) }
@@ -43,7 +43,7 @@ pub(crate) fn copy_all(alloc: Global, pieces: &[Payload]) -> Result<Payload, All
     Ok(Bytes::from_vec(bytes)?)
 }
 
-// The pieces as one payload: one that alone holds bytes is shared, more are copied.
+// The pieces as one payload: the only piece with bytes is shared, several are copied.
 pub(crate) fn join(alloc: Global, pieces: &[Payload]) -> Result<Payload, AllocError>
     ensures joined { IfOk result (λ whole. whole ≡ concat pieces.now) }
     ensures memory { OnErr result (0 < length (concat pieces.now)) }

@@ -1,4 +1,4 @@
-//! A body that is all bytes.
+//! A body that is all bytes of a payload.
 ghost use Rattle.std.specs.Prelude.{◌≡◌, ◌⊎◌, ◌<◌, length, Ok, Err, OnErr, MatchResult};
 ghost use Rattle.std.specs.List.{concat};
 ghost use Rattle.amqp_link_payloads.specs.Bodies.{whole_message};
@@ -20,7 +20,7 @@ impl FromBody for Whole {
 
     ghost memory_aside = { λ bytes e. Prim.cc };
 
-    // Bytes that stand in one piece are shared, and no bytes allocate nothing.
+    // Bytes in one piece are shared; without bytes nothing is allocated.
     fn decode_from_pieces(alloc: Global, pieces: &[Payload]) -> Result<Message<Whole>, DecodeError>
         ensures decoded { MatchResult result
             (λ message. whole_message (concat pieces.now) ≡ Ok message)

@@ -1,12 +1,12 @@
-//! Section headers: the one module that reads their bytes (3.2).
+//! Section headers: the only module that reads their bytes (3.2).
 ghost use Rattle.std.specs.Prelude.{◌≡◌, ◌≤◌, ℕ, List, [], ◌∷◌, ◌++◌, length};
 ghost use Rattle.amqp_link_payloads.specs.Header.{header_len};
 ghost use Rattle.amqp_link_payloads.specs.Tail.{IsTailOf, EndsIn};
 
-// A byte that stands in no header.
+// A byte that no header contains.
 const BLANK: u8 = 0xff;
 
-// The length of the header with which the bytes begin, 0 where they begin with none.
+// The length of the header with which the bytes begin: 0 if they begin with none.
 #[tactic(auto, using(crate::proofs::HeaderLemmas::header_tests))]
 pub(crate) fn header_len(bytes: &[u8]) -> usize
     ensures value { result ≡ header_len bytes.now }
@@ -18,7 +18,7 @@ pub(crate) fn header_len(bytes: &[u8]) -> usize
     }
 }
 
-// The last bytes read, as many as may begin a header, with blanks before the first byte.
+// The last bytes that were read, as many as may begin a header, with blanks before the first byte.
 #[derive(Clone, Copy)]
 pub(crate) struct Tail {
     last: [u8; 2],
@@ -33,7 +33,7 @@ impl Tail {
         }
     }
 
-    // Reads one more byte, and gives the length of the header that ends in it, 0 where none does.
+    // Reads one more byte, and returns the length of the header that ends in it: 0 if none does.
     pub(crate) fn read(&mut self, byte: u8) -> u64
         ensures { (F : List ℕ) → IsTailOf self.old F
             → IsTailOf self.new (F ++ byte ∷ []) × EndsIn (F ++ byte ∷ []) result }

@@ -1,18 +1,18 @@
-//! A search for a place in bytes that come in pieces (3.4.1).
+//! A search for a place in a payload that is cut into pieces (3.4.1).
 ghost use Rattle.std.specs.Prelude.{◌≡◌, ◌+◌, ◌^◌, ◌<◌, ◌≤◌, [], ◌∷◌, ◌++◌};
 ghost use Rattle.std.specs.Prelude.{ℕ, List, Some, length, nat_eq, nat_lt, ◌&&◌, if◌then◌else◌};
 ghost use Rattle.amqp_link_payloads.specs.Places.{place_by};
 
 use crate::position::header::Tail;
 
-// What a search for a place in a section keeps of the bytes that it has seen.
+// What a search for a place in a section keeps of the bytes that it has read.
 #[derive(Clone, Copy)]
 pub(crate) struct Seek {
-    // the number of the section in which the place is sought
+    // the number of the section that is searched for
     number: u64,
-    // the starts past the first byte
+    // the starts past the first byte so far
     seen: u64,
-    // the bytes
+    // the bytes so far
     length: u64,
     // the section's start
     start: Option<u64>,
@@ -27,7 +27,7 @@ impl Seek {
     ghost use Rattle.amqp_link_payloads.specs.Position.{place};
     ghost use Rattle.amqp_link_payloads.specs.Seek.{HasSought};
 
-    // Nothing was seen: the first section starts before the first byte.
+    // No byte was read: the first section starts before the first byte.
     pub(crate) fn new(number: u32) -> Seek
         ensures number { result.number ≡ number }
         ensures length { result.length ≡ 0 }
@@ -43,7 +43,7 @@ impl Seek {
         }
     }
 
-    // A header that ends in this byte is a start, unless it begins with the first byte of all.
+    // A header that ends in this byte is a start, unless it begins with the very first byte.
     fn feed(&mut self, byte: u8)
         requires { self.old.length + 1 < 2 ^ 64 }
         ensures number { self.new.number ≡ self.old.number }
@@ -77,7 +77,7 @@ impl Seek {
         }
     }
 
-    // The place of that offset in the section, once all bytes were seen.
+    // The place of that offset in the section, after all bytes were read.
     pub(crate) fn place(&self, offset: u64) -> Option<u64>
         ensures { (F : List ℕ) → HasSought self.now F → result ≡ place F self.now.number offset }
     {
@@ -85,7 +85,7 @@ impl Seek {
     }
 }
 
-// Whether a header that ends where this many bytes end is a start: it does not begin with the first.
+// Whether a header that ends at this length is a start: it does not begin with the first byte.
 fn is_start(header: u64, length: u64) -> bool
     ensures { result ≡ (nat_lt 0 header && nat_lt header length) }
 {
@@ -99,14 +99,14 @@ fn counted(seen: u64, is_start: bool) -> u64
     if is_start { seen + 1 } else { seen }
 }
 
-// Whether a start was seen, and of this number.
+// Whether this is a start, and the one of this number.
 fn is_number(is_start: bool, seen: u64, number: u64) -> bool
     ensures { result ≡ (is_start && nat_eq seen number) }
 {
     is_start && seen == number
 }
 
-// The place, if it is told now, else the one that is known.
+// This place if the flag is set, otherwise the one that is known.
 fn told(known: Option<u64>, is_it: bool, place: u64) -> Option<u64>
     ensures { result ≡ (if is_it then Some place else known) }
 {

@@ -1,4 +1,4 @@
-//! A receiver's end is attached (2.6.3, 2.6.4).
+//! How a receiver's link endpoint is attached (2.6.3, 2.6.4).
 ghost use Rattle.std.specs.Prelude.{◌≡◌, ◌↔◌, ◌⊎◌, true, false, ℕ, List, [], if◌then◌else◌};
 ghost use Rattle.std.specs.Prelude.{None, Some, Ok, Err, IfOk, IfErr, IsErrOf, IsTrue, MatchResult, is_none, unwrap_or};
 ghost use Rattle.std.specs.Option.{option_or};
@@ -9,7 +9,7 @@ ghost use Rattle.amqp_link_core.specs.Shown.{counted_attach};
 ghost use Rattle.amqp_link_core.specs.Attaching.{FitsFrame, with_entries};
 ghost use Rattle.amqp_link_core.specs.LinkStates.{Call, next_state};
 ghost use Rattle.amqp_link_receiver.specs.ReceiverAttaches.{has_entries as names_any, receiver_exchange_in as exchanged_in};
-ghost use Rattle.amqp_link_receiver.specs.ReceiverAttaches.{receiver_shown, receiver_target_refusal, source_verdict, is_out_of_memory};
+ghost use Rattle.amqp_link_receiver.specs.ReceiverAttaches.{receiver_shown, receiver_target_refusal, receiver_source_verdict, is_receiver_out_of_memory};
 ghost use Rattle.amqp_link_core.specs.AttachTests.{verified};
 ghost use Rattle.amqp_link_verification.specs.Termini.{verdict};
 
@@ -34,12 +34,13 @@ use amqp_link_values::copy::copies_of;
 use amqp_link_verification::VerifySource;
 use std::alloc::{AllocError, Global};
 
-/// What follows once a receiver's end has exchanged attaches.
+/// What follows once a receiver has exchanged attaches.
 #[derive(Clone, Copy, Debug, PartialEq, Eq)]
 pub enum ReceiverAttachExchange {
-    /// The sender has named no delivery: there is nothing to resume.
+    /// The sender's attach states no unsettled delivery: there is nothing to resume.
     Complete,
-    /// One of the ends has not named all its deliveries. Those that it has named are resumed first.
+    /// An attach did not state all unsettled deliveries. Those that the sender's attach states are resumed
+    /// first.
     IncompleteUnsettled,
     /// The sender resumes deliveries.
     Resume,
@@ -48,7 +49,7 @@ pub enum ReceiverAttachExchange {
 impl ReceiverAttachExchange {
     ghost use Rattle.amqp_link_receiver.specs.declared.receiver_link.attach.ReceiverAttachExchange.TheVariants.{Complete};
 
-    /// Whether all is complete: else this error.
+    /// `Ok` if the exchange is `Complete`, otherwise this error.
     pub fn complete_or<E: Drop>(self, error: E) -> Result<(), E>
         ensures complete { self ≡ Complete → result ≡ Ok tt }
         ensures incomplete { (self ≡ Complete → ⊥) → result ≡ Err error }
@@ -60,7 +61,7 @@ impl ReceiverAttachExchange {
     }
 }
 
-// What an attach says of the deliveries: nothing where the link is attached anew.
+// The unsettled deliveries that an attach states: none if the link is reattached.
 fn entries_to_send(
     alloc: Global,
     is_reattaching: bool,
@@ -76,7 +77,7 @@ fn entries_to_send(
 }
 
 impl<T: LinkTarget> ReceiverLink<T> {
-    // What the link says at an output handle with this count, without its deliveries.
+    // The link's attach at an output handle with this delivery-count, without its unsettled deliveries.
     fn whole_attach(&self, handle: OutputHandle, count: SequenceNo) -> Result<Attach, AllocError>
         requires { (t c : T) → T.is_clone t c → c ≡ t }
         ensures { IfOk result (λ attach. attach ≡ counted_attach (receiver_shown T.sent_as self.now) count handle) }
@@ -109,10 +110,10 @@ impl<T: LinkTarget> ReceiverLink<T> {
         })
     }
 
-    /// Whether an attach that says all deliveries and states this count fits such a frame (a header of
-    /// four bytes, and the body). Without an output handle it is measured with handle 0.
+    /// Whether an attach that states all unsettled deliveries and this delivery-count fits a frame of that
+    /// size (a header of four bytes, and the body). Without an output handle it is measured with handle 0.
     ///
-    /// Refused if it is out of memory.
+    /// Refused only if it is out of memory.
     pub fn complete_attach_fits(
         &self,
         max_frame_size: u32,
@@ -128,7 +129,7 @@ impl<T: LinkTarget> ReceiverLink<T> {
         Ok(fits_whole(attach, entries, max_frame_size))
     }
 
-    // The attach that is sent, and the state after it: all tests, and all that takes memory.
+    // The attach to send, and the state after it: all tests and all allocations.
     fn plan_attach(&self, is_reattaching: bool) -> Result<(Attach, LinkState), ReceiverAttachError>
         requires { (t c : T) → T.is_clone t c → c ≡ t }
         ensures sent { IfOk result (λ plan. SendsAttach (receiver_shown T.sent_as self.now)
@@ -235,14 +236,14 @@ impl<T: LinkTarget> ReceiverLink<T> {
         self.more = false;
     }
 
-    // Verifies the peer's source beside the own one, if this is asked for. Only the list of the filters that are
-    // missing allocates.
+    // Verifies the peer's source beside the link's own, if the link verifies sources. Allocates only the list
+    // of the missing filters.
     fn verify_source(&self, theirs: &Source) -> Result<(), ReceiverAttachError>
         ensures refused { MatchResult result
-            (λ _. source_verdict self.now theirs.now ≡ None)
-            (λ error. (error ≡ ReceiverAttachError.OutOfMemory) ⊎ (source_verdict self.now theirs.now ≡ Some error)) }
+            (λ _. receiver_source_verdict self.now theirs.now ≡ None)
+            (λ error. (error ≡ ReceiverAttachError.OutOfMemory) ⊎ (receiver_source_verdict self.now theirs.now ≡ Some error)) }
         ensures memory { IsErrOf result ReceiverAttachError.OutOfMemory → (names : List (List ℕ))
-            × (source_verdict self.now theirs.now ≡ Some (ReceiverAttachError.DesiredFilterNotSupported names)) }
+            × (receiver_source_verdict self.now theirs.now ≡ Some (ReceiverAttachError.DesiredFilterNotSupported names)) }
     {
         if !self.verify_incoming_source {
             return Ok(());
@@ -253,7 +254,7 @@ impl<T: LinkTarget> ReceiverLink<T> {
         }
     }
 
-    // Verifies the peer's target beside the own one, if this is asked for. Does not allocate.
+    // Verifies the peer's target beside the link's own, if the link verifies targets. Does not allocate.
     fn verify_target(&self, theirs: &T) -> Result<(), ReceiverAttachError>
         ensures refused { result ≡ verdict (verified self.now.verify_incoming_target
             T.refused_by_receiver self.now.target (Some theirs.now)) }
@@ -268,8 +269,8 @@ impl<T: LinkTarget> ReceiverLink<T> {
         }
     }
 
-    // The count at which the sender begins, if the link takes an attach with this count and this target. Does
-    // not allocate.
+    // The sender's initial delivery-count, if the link takes an attach with this count and this target, or
+    // why it is refused. Does not allocate.
     fn count_to_take(
         &self,
         count: Option<SequenceNo>,
@@ -302,7 +303,7 @@ impl<T: LinkTarget> ReceiverLink<T> {
         self.snd_settle_mode = mode;
     }
 
-    // An attach is refused for its source: it has moved the link unless the verification was out of memory.
+    // Refuses an attach for its source: the state has moved, unless the verification is out of memory.
     fn without_source(
         &mut self,
         handle: Handle,
@@ -310,7 +311,7 @@ impl<T: LinkTarget> ReceiverLink<T> {
         refused: ReceiverAttachError,
     ) -> ReceiverAttachError
         ensures error { result ≡ refused }
-        ensures left { self.new ≡ (if is_out_of_memory refused then self.old else record self.old {
+        ensures left { self.new ≡ (if is_receiver_out_of_memory refused then self.old else record self.old {
           local_state = next;
           input_handle = Some (record { 0 = handle.0 });
           more = false;
@@ -322,8 +323,8 @@ impl<T: LinkTarget> ReceiverLink<T> {
         refused
     }
 
-    // The link counts from where the sender begins, and other properties take the place of the own ones,
-    // if there are any.
+    // Sets both delivery-counts to the sender's initial one, and replaces the link's properties, if there are
+    // new ones.
     fn take_flow(&mut self, count: SequenceNo, properties: Option<Fields>)
         ensures { self.new ≡ record self.old {
           flow_state = record self.old.flow_state {
@@ -344,7 +345,7 @@ impl<T: LinkTarget> ReceiverLink<T> {
 impl<T: LinkTarget> LinkAttach for ReceiverLink<T> {
     ghost use Rattle.std.specs.Prelude.{◌≡◌, [], option_map, refl};
     ghost use Rattle.amqp_link_types.specs.declared.types.errors.ReceiverAttachError.TheVariants.{IllegalState, AttachTooLarge, OutOfMemory};
-    ghost use Rattle.amqp_link_receiver.specs.ReceiverAttaches.{receiver_refusal, receiver_taken, receiver_left, is_listing, does_taking_allocate, has_entries, receiver_exchange_in};
+    ghost use Rattle.amqp_link_receiver.specs.ReceiverAttaches.{receiver_refusal, receiver_taken, receiver_left, is_listing, receiver_taking_allocates, has_entries, receiver_exchange_in};
     ghost use Rattle.amqp_link_receiver.specs.ReceiverAttaches.{receiver_shown_after_refusal};
 
     type AttachExchange = ReceiverAttachExchange;
@@ -375,7 +376,7 @@ impl<T: LinkTarget> LinkAttach for ReceiverLink<T> {
 
     ghost is_listing = { is_listing };
 
-    ghost allocates = { does_taking_allocate T.admitted T.refused_by_receiver };
+    ghost allocates = { receiver_taking_allocates T.admitted T.refused_by_receiver };
 
     ghost left = { receiver_left T.admitted T.refused_by_receiver };
 
@@ -396,7 +397,7 @@ impl<T: LinkTarget> LinkAttach for ReceiverLink<T> {
         is_reattaching: bool,
     ) -> Result<(LinkFrame, Outcomes), ReceiverAttachError> {
         let (attach, next) = self.plan_attach(is_reattaching)?;
-        // All tests are behind, and all growths: from here on nothing can fail.
+        // All tests and all allocations are done: from here on nothing can fail.
         self.local_state = next;
         if is_reattaching {
             drop(self.unsettled.take_all());
@@ -404,19 +405,20 @@ impl<T: LinkTarget> LinkAttach for ReceiverLink<T> {
         Ok((LinkFrame::Attach(attach), Vec::new(self.alloc)))
     }
 
-    /// Takes the sender's attach.
+    /// Takes the sender's attach. The link's unsettled map stays as it is.
     ///
     /// Refused in this order: `IllegalState`, with nothing changed, if there is no transition from this
-    /// state. In the refusals below the state has moved, the peer's handle is known, and no delivery is under
-    /// way: `IncomingSourceIsNone`; those of the source's verification as a receiver, if the link verifies
-    /// sources and has one. Then the source and the sender's settle mode are taken:
+    /// state. In the refusals below the state has moved, the input handle is set, and no delivery is under
+    /// way: `IncomingSourceIsNone`; the errors of the source's verification as a receiver, if the link
+    /// verifies sources and has one. Then the link takes the source and the sender's settle mode:
     /// `InitialDeliveryCountIsNone`; `CoordinatorIsNotImplemented` if the target is not of the link's kind;
-    /// those of the target's verification, if the link verifies targets and both endpoints have one. So what
-    /// `DynamicNodePropertiesIsSomeWhenDynamicIsFalse` leaves depends on the terminus that it is about.
+    /// the errors of the target's verification, if the link verifies targets and both endpoints have one. So
+    /// `DynamicNodePropertiesIsSomeWhenDynamicIsFalse` of the source leaves another link than the same error
+    /// of the target.
     ///
     /// `OutOfMemory`, with nothing changed, comes after all of these, or in place of
-    /// `DesiredFilterNotSupported`, whose list of names allocates. `handle_attach_error` says what follows a
-    /// refusal.
+    /// `DesiredFilterNotSupported`, whose list of names is allocated. `handle_attach_error` returns what to
+    /// do after a refusal.
     fn on_incoming_attach(
         &mut self,
         attach: Attach,

@@ -1,4 +1,4 @@
-//! The last transfer of a delivery at a receiver's end (2.6.7, 2.6.12, 2.7.5).
+//! The last transfer of a delivery at a receiver (2.6.7, 2.6.12, 2.7.5).
 ghost use Rattle.std.specs.Prelude.{◌≡◌, ◌⊎◌, ◌≢◌, ◌<◌, ℕ, true, Some, None};
 ghost use Rattle.std.specs.Prelude.{IfOk, IsErrOf, IsSome, IsSomeAnd, OnOk, OnErr, MatchResult, option_copied};
 ghost use Rattle.std.specs.List.{concat};
@@ -19,7 +19,7 @@ use amqp_link_types::types::{
 };
 use std::alloc::AllocError;
 
-// What the last transfer of a delivery enters and answers, made before anything is changed.
+// The entry and the result of a delivery's last transfer, made before anything is changed.
 #[derive(Drop)]
 struct Completion<'a, B> {
     key: Option<&'a DeliveryTag>,
@@ -27,22 +27,21 @@ struct Completion<'a, B> {
 }
 
 impl<T: LinkTarget> ReceiverLink<T> {
-    /// Takes the last transfer of a delivery whose payload came in these pieces, up to this place
-    /// (3.4.1), and answers the delivery with its message. It takes one credit (2.6.7). An
-    /// unsettled delivery is kept as received up to that place until it is settled; a settled one
-    /// is not kept, and is given without a settle mode.
+    /// Takes the last transfer of a delivery, whose payload arrived in these pieces and ends at this position
+    /// (3.4.1), and returns the delivery with its message. It takes one credit (2.6.7). An unsettled delivery
+    /// gets an entry in the unsettled map, as received up to that position, until it is settled; a settled
+    /// one gets none, and its info has no settle mode.
     ///
-    /// Refused in this order. With nothing changed: `IllegalState` unless both attaches were
-    /// exchanged; `TransferLimitExceeded` without credit. With the credit spent:
-    /// `DeliveryIdIsNone`; `DeliveryTagIsNone`; `IllegalRcvSettleModeInTransfer` where an
-    /// unsettled transfer asks for mode `Second` on a link of mode `First`. With the credit spent
-    /// and an unsettled delivery kept: `MessageDecode`, where the body refuses the bytes;
-    /// `IllegalState` without output handle. `OutOfMemory` comes only where none of the first five
-    /// does, and has changed nothing.
+    /// Refused in this order. With nothing changed: `IllegalState` unless both attaches were exchanged;
+    /// `TransferLimitExceeded` without credit. With the credit spent: `DeliveryIdIsNone`;
+    /// `DeliveryTagIsNone`; `IllegalRcvSettleModeInTransfer` if an unsettled transfer has mode `Second` on a
+    /// link of mode `First`. With the credit spent, and the entry of an unsettled delivery in the map:
+    /// `MessageDecode` if the body refuses the bytes; `IllegalState` without output handle. `OutOfMemory`,
+    /// with nothing changed, comes only if none of the first five holds.
     ///
-    /// Its cost grows with the pieces' bytes, as the body reads them, and for an unsettled delivery
-    /// with the number of those that are kept, whose tags are compared. The tag is copied into the
-    /// answer, and into the map only where nothing was kept of the delivery.
+    /// Its cost grows with the bytes of the pieces, which the body reads, and for an unsettled delivery with
+    /// the number of entries in the unsettled map, whose tags are compared. The tag is copied into the
+    /// result, and into the map only if it has no entry there.
     pub fn on_complete_transfer<B: FromBody>(
         &mut self,
         transfer: &Transfer,
@@ -80,7 +79,7 @@ impl<T: LinkTarget> ReceiverLink<T> {
         answer
     }
 
-    // Keeps the place of the delivery with this tag, if there is one, and spends one credit.
+    // Puts the entry of the delivery with this tag, if there is a tag, and spends one credit.
     fn enter(
         &mut self,
         key: Option<&DeliveryTag>,
@@ -105,7 +104,7 @@ impl<T: LinkTarget> ReceiverLink<T> {
         Ok(())
     }
 
-    // What a transfer enters and answers once the state and the credit admit it.
+    // The entry and the result of a last transfer, once the state and the credit admit it.
     fn complete<'a, B: FromBody>(
         &self,
         transfer: &'a Transfer,
@@ -140,7 +139,7 @@ impl<T: LinkTarget> ReceiverLink<T> {
         }
     }
 
-    // The delivery, or why it is not given.
+    // The delivery, or why it is not returned.
     fn deliver<B: FromBody>(
         &self,
         transfer: &Transfer,
@@ -172,7 +171,7 @@ impl<T: LinkTarget> ReceiverLink<T> {
         Ok(Ok(delivery))
     }
 
-    // The number and the tag of a transfer that may complete a delivery here. Takes no memory.
+    // The delivery id and tag of a transfer that may complete a delivery here. Does not allocate.
     fn identify<'a>(
         &self,
         transfer: &'a Transfer,
@@ -210,7 +209,7 @@ fn may_receive(state: LinkState) -> bool
     )
 }
 
-// The tag under which the delivery is kept, if it is.
+// The tag under which the delivery gets an entry: none if it is settled.
 fn key_of<'a>(transfer: &Transfer, tag: &'a DeliveryTag) -> Option<&'a DeliveryTag>
     requires { transfer.now.delivery_tag ≡ Some tag.now }
     ensures { option_copied result ≡ unsettled_tag transfer.now }
@@ -222,7 +221,7 @@ fn key_of<'a>(transfer: &Transfer, tag: &'a DeliveryTag) -> Option<&'a DeliveryT
     }
 }
 
-// The fields of the delivery.
+// The info of the delivery.
 fn info_of(
     transfer: &Transfer,
     delivery_id: DeliveryNumber,

@@ -1,4 +1,4 @@
-//! Transfers that come to a receiver's end, and what it keeps of their deliveries (2.6.12, 2.7.5).
+//! Transfers that arrive at a receiver, and the entries of their deliveries (2.6.12, 2.7.5).
 ghost use Rattle.std.specs.Prelude.{◌≡◌, false, None, Some, IfOk, IfErr, IsSome, IsSomeAnd};
 ghost use Rattle.std.specs.Prelude.{⊤, OnOk, OnErr, MatchOption, unwrap_or};
 ghost use Rattle.amqp_link_types.specs.Entries.{entry_at, with_entry};
@@ -17,12 +17,12 @@ use amqp_link_types::types::{
 use std::alloc::AllocError;
 
 impl<T: LinkTarget> ReceiverLink<T> {
-    /// Takes a transfer off the session, and returns the frame to hand to the link's user. Beside it
-    /// stand the transfer's delivery id and tag, if the link is in mode `Second`, the transfer is not
-    /// settled, and the transfer before it was the last of its delivery: the session hands the sender's
-    /// disposition, which names the id, on with this tag (2.7.6).
+    /// Takes a transfer from the session, and returns the frame to hand to the link's user. Beside it stand
+    /// the transfer's delivery id and tag, if the link is in mode `Second`, the transfer is not settled, and
+    /// the transfer before it was the last of its delivery. A disposition of the sender names the id: the
+    /// session passes it on with this tag (2.7.6).
     ///
-    /// Refused with `OutOfMemory` and nothing changed; only a tag that is answered takes memory.
+    /// Refused with `OutOfMemory`, and nothing changed; only a tag that is returned is allocated.
     pub fn on_incoming_transfer(
         &mut self,
         transfer: Transfer,
@@ -39,12 +39,12 @@ impl<T: LinkTarget> ReceiverLink<T> {
             drop((transfer, payload));
             return Err(LinkRelayError::OutOfMemory);
         };
-        // All memory is taken: from here on nothing can fail.
+        // All allocations are done: from here on nothing can fail.
         self.more = transfer.more;
         Ok((frame_of(transfer, payload), told))
     }
 
-    // What the session is told of a transfer that comes.
+    // The delivery id and tag that the session gets with a transfer, if any.
     fn told(&self, transfer: &Transfer) -> Result<Option<(DeliveryNumber, DeliveryTag)>, AllocError>
         ensures told { IfOk result (λ told. told ≡ told_of self.now transfer.now) }
         ensures memory { OnErr result (IsSome (told_of self.now transfer.now)) }
@@ -55,12 +55,12 @@ impl<T: LinkTarget> ReceiverLink<T> {
         name_of(transfer)
     }
 
-    /// Takes the state that a transfer tells of its delivery, which is settled with it or not. A
-    /// settled delivery is forgotten; a terminal state stays as it is; else the state is kept,
-    /// also of a delivery of which nothing was kept before.
+    /// Takes the state that a transfer carries for its delivery, and its settled flag. A settled delivery
+    /// leaves the unsettled map; a terminal state stays as it is; otherwise the entry gets this state, and is
+    /// entered if there was none.
     ///
-    /// Refused with nothing changed: `DeliveryTagIsNone`, then `OutOfMemory`. Only a delivery of
-    /// which nothing was kept takes memory.
+    /// Refused in this order, with nothing changed: `DeliveryTagIsNone`; `OutOfMemory`, only if an entry is
+    /// entered.
     pub fn on_transfer_state(
         &mut self,
         delivery_tag: &Option<DeliveryTag>,
@@ -92,10 +92,10 @@ impl<T: LinkTarget> ReceiverLink<T> {
         Ok(self.keep(tag, state)?)
     }
 
-    /// A front of a delivery has come, up to this place (3.4.1): that is kept of it.
+    /// Notes that the delivery has arrived up to this position (3.4.1): its entry in the unsettled map
+    /// becomes `Received` there, and is entered if there was none.
     ///
-    /// Refused if it is out of memory, with nothing changed. Only a delivery of which nothing was
-    /// kept takes memory.
+    /// Refused if it is out of memory, with nothing changed, and only if an entry is entered.
     pub fn on_incomplete_transfer(
         &mut self,
         delivery_tag: &DeliveryTag,
@@ -124,7 +124,7 @@ impl<T: LinkTarget> ReceiverLink<T> {
         }
     }
 
-    // Keeps a state of a delivery. Does not allocate where something is kept of it.
+    // Sets the state of a delivery's entry. Allocates only if there was no entry.
     pub(super) fn keep(&mut self, tag: &DeliveryTag, state: DeliveryState) -> Result<(), AllocError>
         ensures after { OnOk result (self.new ≡ with_kept_state tag.now state self.old) }
         ensures memory { OnErr result (entry_at self.old.unsettled tag.now ≡ None) }
@@ -145,7 +145,7 @@ impl<T: LinkTarget> ReceiverLink<T> {
         }
     }
 
-    // Puts a state under a tag that is handed in; what was kept there before is given up.
+    // Puts a state under a tag that the caller passes; the state that was there before is dropped.
     pub(super) fn put(
         &mut self,
         tag: DeliveryTag,
@@ -162,7 +162,7 @@ impl<T: LinkTarget> ReceiverLink<T> {
     }
 }
 
-// The frame of a transfer that came, with its own handle.
+// The frame to hand to the link's user, with the transfer's own handle.
 fn frame_of(transfer: Transfer, payload: Payload) -> LinkFrame
     ensures { result ≡ frame_come transfer payload }
 {
@@ -180,7 +180,7 @@ pub(super) fn is_settled(transfer: &Transfer) -> bool
     transfer.settled.unwrap_or(false)
 }
 
-// The number and the tag of a transfer, where it has both.
+// The delivery id and the tag of a transfer, if it has both.
 fn name_of(transfer: &Transfer) -> Result<Option<(DeliveryNumber, DeliveryTag)>, AllocError>
     ensures named { IfOk result (λ named.
         named ≡ number_and_tag transfer.now.delivery_id transfer.now.delivery_tag) }

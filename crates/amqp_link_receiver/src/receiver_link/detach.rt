@@ -1,9 +1,9 @@
-//! A receiver's end is detached (2.6.5, 2.6.6).
+//! How a receiver's link endpoint is detached (2.6.5, 2.6.6).
 ghost use Rattle.std.specs.Prelude.{◌≡◌, None};
 
 use crate::receiver_link::ReceiverLink;
 use amqp_link_core::endpoint::LinkDetach;
-use amqp_link_core::endpoint::detached::{detach_frame, outcome_of, result_of_reply};
+use amqp_link_core::endpoint::detached::{detach_frame, result_of_remote_detach, result_of_reply};
 use amqp_link_core::endpoint::table::{after_detach_reply, after_remote_detach, after_sent_detach};
 use amqp_link_core::endpoint::target::LinkTarget;
 use amqp_link_state::state::LinkState;
@@ -12,7 +12,7 @@ use amqp_link_types::types::unsettled_map::UnsettledMap;
 use amqp_link_types::types::{ApplyRemoteDetachError, DeliveryState, Detach, DetachError, Error};
 
 impl<T: LinkTarget> ReceiverLink<T> {
-    // The link is in another state, and its output handle is free again.
+    // Moves the link to another state, and releases its output handle.
     fn let_go(&mut self, next: LinkState)
         ensures { self.new ≡ record self.old { local_state = next; output_handle = None } }
     {
@@ -77,6 +77,6 @@ impl<T: LinkTarget> LinkDetach for ReceiverLink<T> {
             return Err(ApplyRemoteDetachError::IllegalState);
         };
         self.let_go(next);
-        outcome_of(detach)
+        result_of_remote_detach(detach)
     }
 }

@@ -1,5 +1,4 @@
-//! Dispositions that go out from a receiver's end and such as come to it (2.6.12, 2.7.6), and what a
-//! detach is answered (2.6.5, 2.6.6).
+//! Dispositions that a receiver sends and takes (2.6.12, 2.7.6), and its reply to a detach (2.6.5, 2.6.6).
 ghost use Rattle.std.specs.Prelude.{◌≡◌, ◌↔◌, ◌⊎◌, true, false, None, IsSome, is_some};
 ghost use Rattle.std.specs.Prelude.{IfOk, IfErr, IsErrOf, OnOk, OnErr, if◌then◌else◌};
 ghost use Rattle.std.specs.Option.{option_map};
@@ -22,13 +21,13 @@ use amqp_link_types::types::{
 };
 
 impl<T: LinkTarget> ReceiverLink<T> {
-    /// Says of a delivery that it has this state, and is settled or not: as given, else by the
-    /// delivery's own mode, else by the link's, where `First` settles and `Second` does not. A settled
-    /// delivery is forgotten; else the state is kept of it. The disposition names its number without a
-    /// last one. Of a delivery that is not kept nothing is said.
+    /// The disposition of one delivery, with this state: settled or not as the caller passes, otherwise by
+    /// the delivery's own mode, otherwise by the link's; mode `First` settles, and `Second` does not. A
+    /// settled delivery leaves the unsettled map; otherwise its entry gets this state. The disposition has
+    /// `first` alone and no `last`. A delivery without an entry gets none, and nothing changes.
     ///
-    /// Refused if it is out of memory, with nothing changed; only a delivery that is kept on takes
-    /// memory.
+    /// Refused if it is out of memory, with nothing changed, and only for a delivery that has an entry and is
+    /// not settled.
     pub fn dispose(
         &mut self,
         delivery_info: &DeliveryInfo,
@@ -54,12 +53,12 @@ impl<T: LinkTarget> ReceiverLink<T> {
         Ok(receiver::dispose(&mut self.unsettled, delivery_info, how, state)?)
     }
 
-    /// The same of several deliveries, by rising numbers, and those of one number as they are listed.
-    /// What is listed and not kept is left out. A disposition names as many as it can: those whose
-    /// numbers follow each other and which are settled in one mode; its last number always stands. A
-    /// delivery that was settled is not entered again, though it is listed twice.
+    /// The same of several deliveries, sorted by delivery id; those of one id stay in the order in which they
+    /// are listed. Those without an entry are left out. A disposition covers as many as it can: consecutive
+    /// ids that are settled in one mode. It always has `last`. A settled delivery does not get an entry
+    /// again, even if it is listed twice.
     ///
-    /// Refused if it is out of memory, with nothing changed.
+    /// Refused only if it is out of memory, with nothing changed.
     pub fn dispose_all(
         &mut self,
         delivery_infos: &[DeliveryInfo],
@@ -85,11 +84,12 @@ impl<T: LinkTarget> ReceiverLink<T> {
         Ok(frames)
     }
 
-    /// Takes what the sender says of a delivery: a settled one is forgotten; else the state is kept
-    /// of it, or that none is known, where it is kept at all. A terminal state alone ends nothing here.
+    /// Takes the sender's disposition of one delivery. A settled delivery leaves the unsettled map; otherwise
+    /// its entry, if there is one, gets this state, or none. A terminal state alone does not end the delivery
+    /// here.
     ///
-    /// The flag asks that the disposition be answered, and is always false: only a sender answers
-    /// one. Takes no memory.
+    /// The result states whether the disposition is to be answered, and is always false: only a sender
+    /// answers one. Does not allocate.
     pub fn on_incoming_disposition(
         &mut self,
         settled: bool,
@@ -105,12 +105,13 @@ impl<T: LinkTarget> ReceiverLink<T> {
         false
     }
 
-    /// Takes a detach off the session, and answers one that the peer initiated: at the own
-    /// handle, as closed and with the same error. One that answers an own detach is not answered. The
-    /// link is as it was: `apply_remote_detach_outcome`, or `on_detach_reply`, moves its state.
+    /// Takes a detach from the session. If the peer initiated it, this returns the reply, which has the
+    /// link's output handle and the same `closed` and `error`. If it is the peer's reply to a detach of the
+    /// link's own, nothing is returned. The link does not change: `apply_remote_detach_outcome`, or
+    /// `on_detach_reply`, moves its state.
     ///
-    /// Refused: `UnattachedHandle` without output handle, then `OutOfMemory`; neither where the detach
-    /// answers an own one. Only an error takes memory.
+    /// Refused in this order, and only if the peer initiated the detach: `UnattachedHandle` without output
+    /// handle; `OutOfMemory`, only if the detach carries an error.
     pub fn on_incoming_detach(
         &self,
         detach: &Detach,

@@ -1,4 +1,4 @@
-//! Flows that go out from a receiver's end, and those that come to it (2.6.7).
+//! Flows that a receiver sends and takes (2.6.7).
 ghost use Rattle.std.specs.Prelude.{◌≡◌, ◌↔◌, true, None, Ok, Err};
 ghost use Rattle.std.specs.Prelude.{IfOk, IsErrOf, IsSomeAnd, OnOk, OnErr, MatchOption, is_some};
 ghost use Rattle.amqp_link_state.specs.Counts.{receiver_after, receiver_reply};
@@ -10,12 +10,12 @@ use amqp_link_types::frame::LinkFrame;
 use amqp_link_types::types::{FlowError, LinkFlow, LinkRelayError};
 
 impl<T: LinkTarget> ReceiverLink<T> {
-    /// Sets the credit and the drain flag where they are given, and answers the flow that tells the
-    /// sender how this end stands then: its count, credit and drain flag, and its properties where
-    /// they are to be included. What is available is the sender's to tell.
+    /// Sets the link-credit and the drain flag, each if one is passed, and returns the flow to send: the
+    /// delivery-count, the link-credit and the drain flag as they are then, and the properties if they are to
+    /// be included. `available` is left out, since only the sender knows it.
     ///
-    /// Refused with nothing changed: `IllegalState` without output handle, then `OutOfMemory`. Only
-    /// the properties take memory.
+    /// Refused in this order, with nothing changed: `IllegalState` without output handle; `OutOfMemory`, only
+    /// for the copy of the properties.
     pub fn send_flow(
         &mut self,
         credit: Option<u32>,
@@ -40,13 +40,12 @@ impl<T: LinkTarget> ReceiverLink<T> {
         Ok(LinkFrame::Flow(flow))
     }
 
-    /// Takes a sender's flow, and answers the flow that goes back, if it asks for one. The
-    /// sender's count and what is available there become the own ones where they are said; credit
-    /// and drain flag are the receiver's own, and stay. What is answered says how this end stands
-    /// then, without properties, and asks for no answer.
+    /// Takes the sender's flow, and returns the flow to reply with, if the flow asks for an echo. The
+    /// delivery-count and `available` are updated if the flow has them; the link-credit and the drain flag
+    /// are the receiver's own, and stay. The reply has the flow state afterwards, without properties and
+    /// without `echo`.
     ///
-    /// Refused with `UnattachedHandle`, and nothing changed, without output handle. Takes no
-    /// memory.
+    /// Refused with `UnattachedHandle`, and nothing changed, without output handle. Does not allocate.
     pub fn on_incoming_flow(&mut self, flow: LinkFlow) -> Result<Option<LinkFlow>, LinkRelayError>
         ensures answer { MatchOption self.old.output_handle
             (result ≡ Err LinkRelayError.UnattachedHandle)

@@ -1,4 +1,4 @@
-//! A sender's end is attached (2.6.3, 2.6.4).
+//! How a sender's link endpoint is attached (2.6.3, 2.6.4).
 ghost use Rattle.std.specs.Prelude.{◌≡◌, ◌≤◌, ◌++◌, ◌↔◌, ◌⊎◌, ◌+◌, true, false, List, [], if◌then◌else◌};
 ghost use Rattle.std.specs.Prelude.{None, Some, Ok, IfOk, IfErr, IsErrOf, IsTrue, is_none, length, vec_len, vec_capacity, unwrap_or};
 ghost use Rattle.amqp_link_types.specs.declared.frame.LinkFrame.TheVariants as frame;
@@ -41,7 +41,7 @@ fn count_to_state(state: LinkState, initial: SequenceNo, present: SequenceNo) ->
     }
 }
 
-// What an attach says of the deliveries: nothing where the link is attached anew.
+// The unsettled deliveries that an attach states: none if the link is reattached.
 fn entries_to_send(
     alloc: Global,
     is_reattaching: bool,
@@ -56,7 +56,7 @@ fn entries_to_send(
     }
 }
 
-// Room for what becomes of the deliveries where the link is attached anew.
+// Room for the outcomes of the deliveries if the link is reattached.
 fn room_for_outcomes(
     alloc: Global,
     is_reattaching: bool,
@@ -73,7 +73,7 @@ fn room_for_outcomes(
     }
 }
 
-// Ends each delivery, in order, in a list that has the room. Takes no memory.
+// Resolves each delivery with `IllegalState`, in order, in a list that has room for all. Does not allocate.
 fn end_all(unsettled: UnsettledMap<UnsettledMessage>, outcomes: &mut Outcomes)
     requires { vec_len outcomes.old + length unsettled ≤ vec_capacity outcomes.old }
     ensures { outcomes.new.items ≡ outcomes.old.items ++ all_illegal unsettled }
@@ -85,7 +85,7 @@ fn end_all(unsettled: UnsettledMap<UnsettledMessage>, outcomes: &mut Outcomes)
 }
 
 impl<T: LinkTarget> SenderLink<T> {
-    // What the link says at an output handle with this count, without its deliveries.
+    // The link's attach at an output handle with this delivery-count, without its unsettled deliveries.
     fn whole_attach(&self, handle: OutputHandle, count: SequenceNo) -> Result<Attach, AllocError>
         requires { (t c : T) → T.is_clone t c → c ≡ t }
         ensures { IfOk result (λ attach. attach ≡ counted_attach (sender_shown T.sent_as self.now) count handle) }
@@ -118,10 +118,10 @@ impl<T: LinkTarget> SenderLink<T> {
         })
     }
 
-    /// Whether an attach that says all deliveries and states this count fits such a frame (a header of
-    /// four bytes, and the body). Without an output handle it is measured with handle 0.
+    /// Whether an attach that states all unsettled deliveries and this delivery-count fits a frame of that
+    /// size (a header of four bytes, and the body). Without an output handle it is measured with handle 0.
     ///
-    /// Refused if it is out of memory.
+    /// Refused only if it is out of memory.
     pub fn complete_attach_fits(
         &self,
         max_frame_size: u32,
@@ -148,8 +148,8 @@ impl<T: LinkTarget> SenderLink<T> {
         )
     }
 
-    // The attach that is sent, room for what becomes of the deliveries, and the state after it: all
-    // tests, and all that takes memory.
+    // The attach to send, room for the outcomes of the deliveries, and the state after it: all tests and all
+    // allocations.
     fn plan_attach(
         &self,
         is_reattaching: bool,
@@ -184,7 +184,7 @@ impl<T: LinkTarget> SenderLink<T> {
         Ok((attach, outcomes, next))
     }
 
-    // The link has sent its attach and keeps the count that it has stated.
+    // Moves the link to the state after its attach; the delivery-count that it has stated is the initial one.
     fn attach_as(&mut self, next: LinkState)
         ensures { self.new ≡ sender_attached self.old next }
     {
@@ -198,7 +198,7 @@ impl<T: LinkTarget> LinkAttach for SenderLink<T> {
     ghost use Rattle.std.specs.Prelude.{◌≡◌, false, [], refl};
     ghost use Rattle.amqp_link_types.specs.declared.types.errors.SenderAttachError.TheVariants.{IllegalState, AttachTooLarge, OutOfMemory};
     ghost use Rattle.amqp_link_exchange.specs.Exchanges.{outcomes_returned};
-    ghost use Rattle.amqp_link_sender.specs.SenderAttaches.{sender_attached, sender_refusal, sender_taken, sender_left, does_taking_allocate, exchange_in};
+    ghost use Rattle.amqp_link_sender.specs.SenderAttaches.{sender_attached, sender_refusal, sender_taken, sender_left, sender_taking_allocates, exchange_in};
     ghost use Rattle.amqp_link_sender.specs.SenderAttaches.{sender_target_taken, sender_shown_after_refusal};
 
     type AttachExchange = (SenderAttachExchange, Outcomes);
@@ -230,7 +230,7 @@ impl<T: LinkTarget> LinkAttach for SenderLink<T> {
 
     ghost is_listing = { λ error. false };
 
-    ghost allocates = { does_taking_allocate };
+    ghost allocates = { sender_taking_allocates };
 
     ghost left = { sender_left T.admitted T.refused_by_sender };
 
@@ -251,7 +251,7 @@ impl<T: LinkTarget> LinkAttach for SenderLink<T> {
         is_reattaching: bool,
     ) -> Result<(LinkFrame, Outcomes), SenderAttachError> {
         let (attach, mut outcomes, next) = self.plan_attach(is_reattaching)?;
-        // All tests are behind, and all growths: from here on nothing can fail.
+        // All tests and all allocations are done: from here on nothing can fail.
         self.attach_as(next);
         if is_reattaching {
             end_all(self.unsettled.take_all(), &mut outcomes);
@@ -259,18 +259,20 @@ impl<T: LinkTarget> LinkAttach for SenderLink<T> {
         Ok((LinkFrame::Attach(attach), outcomes))
     }
 
-    /// Takes the receiver's attach, and resolves each delivery of both unsettled maps (2.6.13): the list of
-    /// those to be resumed, sent again, aborted or stated once more is in the exchange, the outcomes of those
-    /// that have ended are beside it, and no delivery is left in the link's map.
+    /// Takes the receiver's attach, and resolves each delivery of both unsettled maps (2.6.13). The exchange
+    /// has the list of those that are to be resumed, sent again or aborted, or whose outcome is to be stated
+    /// again; beside it stand the outcomes of those that have ended. The link's unsettled map is empty
+    /// afterwards.
     ///
     /// Refused in this order: `IllegalState`, with nothing changed, if there is no transition from this
-    /// state. In the refusals below the state has moved and the peer's handle is known: those of the source's
-    /// verification as a sender, if the link verifies sources and both endpoints have one;
-    /// `CoordinatorIsNotImplemented` if the target is not of the link's kind; `IncomingTargetIsNone`; those of
-    /// the target's verification, if the link verifies targets and has one. Then the target and the receiver's
-    /// settle mode are taken: `SndSettleModeNotSupported` if one endpoint settles what the other leaves
-    /// unsettled. No refusal resolves a delivery. `OutOfMemory` comes after all of these, with nothing
-    /// changed, and only if there are deliveries to exchange or properties of both endpoints. `handle_attach_error` says what follows a refusal.
+    /// state. In the refusals below the state has moved and the input handle is set: the errors of the
+    /// source's verification as a sender, if the link verifies sources and both endpoints have one;
+    /// `CoordinatorIsNotImplemented` if the target is not of the link's kind; `IncomingTargetIsNone`; the
+    /// errors of the target's verification, if the link verifies targets and has one. Then the link takes the
+    /// target and the receiver's settle mode: `SndSettleModeNotSupported` if one endpoint settles what the
+    /// other leaves unsettled. No refusal resolves a delivery. `OutOfMemory` comes after all of these, with
+    /// nothing changed, and only if there are deliveries to exchange or both endpoints have properties.
+    /// `handle_attach_error` returns what to do after a refusal.
     ///
     /// Each entry of the attach's map is looked up once in the link's.
     fn on_incoming_attach(

@@ -1,5 +1,5 @@
-//! Dispositions that go out from a sender's end and such as come to it (2.6.12, 2.7.6), and what
-//! becomes of its deliveries as the link is closed (2.6.6).
+//! Dispositions that a sender sends and takes (2.6.12, 2.7.6), and the outcomes of its deliveries when the
+//! link is closed (2.6.6).
 ghost use Rattle.std.specs.Prelude.{◌≡◌, ◌∷◌, ◌&&◌, ◌||◌, ◌↔◌, ◌⊎◌, [], map, true, false, None, is_some};
 ghost use Rattle.std.specs.Prelude.{IfOk, IfErr, IfSome, IsSome, IsErrOf, OnOk, OnErr, if◌then◌else◌};
 ghost use Rattle.std.specs.Option.{option_map};
@@ -8,11 +8,11 @@ ghost use Rattle.amqp_link_dispositions.specs.Listed.{tags_in_order};
 ghost use Rattle.amqp_link_sender.specs.Senders.{settles};
 ghost use Rattle.amqp_link_sender.specs.SenderDisposes.{Dispositions, ended_at, after_disposing, is_echoed};
 
-use crate::sender_link::SenderLink;
+use crate::sender_link::{DispositionAnswer, SenderLink};
 use amqp_link_core::endpoint::target::LinkTarget;
 use amqp_link_dispositions::closing::{all_closed, reply_to};
 use amqp_link_dispositions::sender;
-use amqp_link_types::delivery::{DeliveryOutcome, Outcomes};
+use amqp_link_types::delivery::Outcomes;
 use amqp_link_types::frame::LinkFrame;
 use amqp_link_types::types::{
     DeliveryNumber, DeliveryState, DeliveryTag, Detach, DispositionError, LinkRelayError,
@@ -21,12 +21,12 @@ use amqp_link_types::types::{
 use std::alloc::AllocError;
 
 impl<T: LinkTarget> SenderLink<T> {
-    /// Says of one delivery that it has this state, and is settled or not. A settled one that is
-    /// kept is forgotten, and ends with the state that was known of it before; else the state is
-    /// kept of it, where it is kept at all. The disposition names its number without a last one. In
-    /// mode `Settled` nothing is said and nothing ends.
+    /// The disposition of one delivery, with this state, settled or not. If it settles a pending delivery,
+    /// that leaves the unsettled map and is resolved with the state stored in its entry; otherwise the entry,
+    /// if there is one, gets this state. The disposition has `first` alone and no `last`. In mode `Settled`
+    /// there is no disposition, and nothing is resolved.
     ///
-    /// Refused if it is out of memory, with nothing changed; in mode `Settled` it does not allocate.
+    /// Refused only if it is out of memory, with nothing changed; in mode `Settled` it does not allocate.
     pub fn dispose(
         &mut self,
         delivery_id: DeliveryNumber,
@@ -60,11 +60,11 @@ impl<T: LinkTarget> SenderLink<T> {
         Ok(said)
     }
 
-    /// The same of several deliveries, by rising numbers, and those of one number as they are listed;
-    /// their outcomes come in that order. The dispositions name all numbers, each as often as it is
-    /// listed, in the longest runs; a run of one number names no last one.
+    /// The same of several deliveries, sorted by delivery id; those of one id stay in the order in which they
+    /// are listed. The outcomes have this order. The dispositions cover all ids, each as often as it is
+    /// listed, in the longest runs; a run of one id has no `last`.
     ///
-    /// Refused if it is out of memory, with nothing changed; in mode `Settled` it does not allocate.
+    /// Refused only if it is out of memory, with nothing changed; in mode `Settled` it does not allocate.
     pub fn batch_dispose(
         &mut self,
         ids_and_tags: &[(DeliveryNumber, DeliveryTag)],
@@ -96,7 +96,7 @@ impl<T: LinkTarget> SenderLink<T> {
         Ok(said)
     }
 
-    // What is answered in mode `Settled`, in which no delivery awaits its outcome.
+    // The result in mode `Settled`, in which no delivery awaits its outcome: no frames and no outcomes.
     fn nothing_to_say(&self) -> Option<(Vec<LinkFrame>, Outcomes)>
         ensures settled { IsSome result ↔ (settles self.now.snd_settle_mode ≡ true) }
         ensures frames { IfSome result (λ said. said.0.items ≡ []) }
@@ -108,34 +108,39 @@ impl<T: LinkTarget> SenderLink<T> {
         }
     }
 
-    /// Takes what the receiver says of a delivery. One that is kept ends with this state, or with
-    /// none, where it is settled or the state is terminal; else the state is kept of it, or that none
-    /// is known.
+    /// Takes the receiver's disposition of one delivery. A pending delivery is resolved with this state,
+    /// or with none, if the disposition settles it or the state is terminal; it then leaves the unsettled
+    /// map. Otherwise the map holds this state, or none, for it. A tag that is not pending resolves nothing.
     ///
-    /// The flag asks that the disposition be answered: it does not settle, and the receiver settles
-    /// only after the sender has. Takes no memory.
+    /// If `echo` is set, the caller answers with a disposition that settles the delivery: `dispose` with
+    /// the same id, tag and state, and `settled` true. It is set if the disposition does not settle and the
+    /// receiver settles only after the sender (`rcv_settle_mode` is `Second`). Does not allocate.
     pub fn on_incoming_disposition(
         &mut self,
         settled: bool,
         state: Option<DeliveryState>,
         delivery_tag: &DeliveryTag,
-    ) -> (bool, Option<(DeliveryTag, DeliveryOutcome)>)
-        ensures echo { result.0 ≡ is_echoed settled self.old.rcv_settle_mode }
-        ensures ended { result.1 ≡ ended_by settled state delivery_tag.now self.old.unsettled }
+    ) -> DispositionAnswer
+        ensures echo { result.echo ≡ is_echoed settled self.old.rcv_settle_mode }
+        ensures ended { result.outcome ≡ ended_by settled state delivery_tag.now self.old.unsettled }
         ensures after { self.new ≡ record self.old {
           unsettled = map_after_receiver_disposition settled state delivery_tag.now self.old.unsettled;
         } }
     {
         let is_second = matches!(self.rcv_settle_mode, ReceiverSettleMode::Second);
         let unsettled = &mut self.unsettled;
-        let ended = sender::on_incoming_disposition(unsettled, settled, state, delivery_tag);
-        (!settled && is_second, ended)
+        let outcome = sender::on_incoming_disposition(unsettled, settled, state, delivery_tag);
+        DispositionAnswer {
+            echo: !settled && is_second,
+            outcome,
+        }
     }
 
-    /// Ends each delivery that is kept, in order, since this detach closes the link: with its error,
-    /// where it has one.
+    /// Resolves each pending delivery, in the order of the unsettled map, since this detach closes the link:
+    /// with `RemoteClosedWithError` if the detach carries an error, otherwise with `RemoteClosed`. The map is
+    /// empty afterwards.
     ///
-    /// Refused where it is out of memory, with nothing changed.
+    /// Refused only if it is out of memory, with nothing changed.
     pub fn fail_pending_unsettled(&mut self, detach: &Detach) -> Result<Outcomes, AllocError>
         ensures ended { IfOk result (λ outcomes.
             outcomes.items ≡ all_closed_for detach.now.error self.old.unsettled) }
@@ -145,15 +150,16 @@ impl<T: LinkTarget> SenderLink<T> {
         all_closed(self.alloc, &mut self.unsettled, &detach.error)
     }
 
-    /// Takes a detach off the session. One that the peer initiated is answered at the own
-    /// handle, as closed and with the same error; where it closes the link, each delivery ends as by
-    /// `fail_pending_unsettled`. One that answers an own detach is not answered, and ends nothing.
+    /// Takes a detach from the session. If the peer initiated it, this returns the reply, which has the
+    /// link's output handle and the same `closed` and `error`; if it also closes the link, each pending
+    /// delivery is resolved as by `fail_pending_unsettled`. If it is the peer's reply to a detach of the
+    /// link's own, nothing is returned or resolved.
     ///
     /// The state stays as it is: `apply_remote_detach_outcome`, or `on_detach_reply`, moves it.
     ///
-    /// Refused with nothing changed: `UnattachedHandle` without output handle, then `OutOfMemory`;
-    /// neither where the detach answers an own one. Only one that closes the link, or has an error,
-    /// takes memory.
+    /// Refused in this order, with nothing changed, and only if the peer initiated the detach:
+    /// `UnattachedHandle` without output handle; `OutOfMemory`, only if the detach closes the link or carries
+    /// an error.
     pub fn on_incoming_detach(
         &mut self,
         detach: &Detach,

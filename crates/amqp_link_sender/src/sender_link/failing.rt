@@ -10,20 +10,21 @@ use amqp_link_types::types::SenderAttachError;
 use std::alloc::AllocError;
 
 impl<T: LinkTarget> SenderLink<T> {
-    /// What is to be done once the attach of this link has failed with `error`: by a refusal of its own calls,
-    /// or as the session names what arrived in place of the peer's attach. Returns the error with the action:
-    /// the caller sends the detach, or ends the session with the error.
+    /// What to do after the attach of this link has failed with `error`: a refusal by one of the link's own
+    /// calls, or the session's name for what arrived in place of the peer's attach. Returns the error with an
+    /// action: the caller sends the detach, or ends the session with that error.
     ///
-    /// - `DuplicatedLinkName`: the session is to be ended, with condition `amqp:session:handle-in-use`.
-    /// - `SndSettleModeNotSupported`, `IncomingTargetIsNone`: the link is closed without an error.
-    /// - `CoordinatorIsNotImplemented`: it is closed with condition `amqp:not-implemented`.
-    /// - What is wrong of the address or the node properties of a terminus: it is closed with condition `amqp:invalid-field`.
+    /// - `DuplicatedLinkName`: end the session, with condition `amqp:session:handle-in-use`.
+    /// - `SndSettleModeNotSupported`, `IncomingTargetIsNone`: close the link without an error.
+    /// - `CoordinatorIsNotImplemented`: close it with condition `amqp:not-implemented`.
+    /// - `SourceAddressIsSomeWhenDynamicIsTrue`, `TargetAddressIsNoneWhenDynamicIsTrue`,
+    ///   `DynamicNodePropertiesIsSomeWhenDynamicIsFalse`: close it with condition `amqp:invalid-field`.
     /// - All others: nothing.
     ///
-    /// If the link is to be closed, its state and its output handle are what `send_detach` leaves. If that is
-    /// refused, the error is `IllegalState` and nothing is to be done: so a second call closes nothing.
+    /// A link to be closed is left as `send_detach` leaves it. If `send_detach` is refused, the error is
+    /// `IllegalState` and the action is `Nothing`; so a second call closes nothing.
     ///
-    /// Only the text of an error that is sent allocates; out of memory changes nothing.
+    /// Allocates only the text of an error that is sent. If it is out of memory, nothing has changed.
     pub fn handle_attach_error(
         &mut self,
         error: SenderAttachError,

@@ -10,14 +10,14 @@ use amqp_link_types::types::{
 };
 
 impl<T: LinkTarget> SenderLink<T> {
-    /// Takes a receiver's flow, and answers the flow that goes back, if one does. The credit that
-    /// is granted from the receiver's count on becomes the credit from the own count on; a flow
-    /// without count grants from the initial count on. A drain takes all credit to the count, and
-    /// is always answered. What is answered says how this end stands then, without properties, and
-    /// asks for no answer.
+    /// Takes the receiver's flow, and returns the flow to reply with, if there is one. If the flow has a
+    /// link-credit, the sender's becomes the receiver's delivery-count + its link-credit - the own
+    /// delivery-count, by serial-number arithmetic (RFC 1982) and held between 0 and 2^32 - 1; a flow without
+    /// delivery-count counts from the initial one. If the flow drains, all credit is added to the
+    /// delivery-count, and there is always a reply; otherwise there is one if the flow asks for an echo. The
+    /// reply has the flow state afterwards, without properties and without `echo`.
     ///
-    /// Refused with `UnattachedHandle`, and nothing changed, without output handle. Takes no
-    /// memory.
+    /// Refused with `UnattachedHandle`, and nothing changed, without output handle. Does not allocate.
     pub fn on_incoming_flow(&mut self, flow: LinkFlow) -> Result<Option<LinkFlow>, LinkRelayError>
         ensures answer { MatchOption self.old.output_handle
             (result ≡ Err LinkRelayError.UnattachedHandle)
@@ -39,8 +39,8 @@ impl<T: LinkTarget> SenderLink<T> {
         Ok(answer)
     }
 
-    /// A transfer that came to this end: it is always refused with `TransferFrameToSender`, since
-    /// only a sender sends transfers (2.7.5). Takes no memory.
+    /// Always refused with `TransferFrameToSender`: a transfer has arrived at a sender, and only a sender
+    /// sends transfers (2.7.5). Does not allocate.
     pub fn on_incoming_transfer(
         &self,
         transfer: Transfer,

@@ -12,7 +12,7 @@ ghost use Rattle.amqp_link_sender.specs.SenderAttaches.{disagree as do_disagree,
 ghost use Rattle.amqp_link_core.specs.AttachTests.{verified};
 ghost use Rattle.amqp_link_core.specs.Targets.{target_of};
 ghost use Rattle.amqp_link_verification.specs.Termini.{verdict};
-ghost use Rattle.amqp_link_sender.specs.SenderAttaches.{source_verdict, sender_termini_refusal, sender_refusal, sender_taken, sender_left, does_taking_allocate, IsAttachPlan};
+ghost use Rattle.amqp_link_sender.specs.SenderAttaches.{sender_source_verdict, sender_termini_refusal, sender_refusal, sender_taken, sender_left, sender_taking_allocates, IsAttachPlan};
 
 use crate::sender_link::SenderLink;
 use amqp_link_core::endpoint::attached::{get_max_message_size, merged_with};
@@ -44,7 +44,7 @@ pub enum SenderAttachExchange {
 impl SenderAttachExchange {
     ghost use Rattle.amqp_link_sender.specs.declared.sender_link.incoming.SenderAttachExchange.TheVariants.{Complete};
 
-    /// Whether all is complete: else this error.
+    /// `Ok` if the exchange is `Complete`, otherwise this error.
     pub fn complete_or<E: Drop>(self, error: E) -> Result<(), E>
         ensures complete { self ≡ Complete → result ≡ Ok tt }
         ensures incomplete { (self ≡ Complete → ⊥) → result ≡ Err error }
@@ -59,7 +59,7 @@ impl SenderAttachExchange {
     }
 }
 
-/// An attach that has passed all tests of a sender, and what is made of it: all that allocates.
+/// An attach that has passed all tests of a sender, with all that has to be allocated to take it.
 #[derive(Drop)]
 pub struct AttachPlan<T: LinkTarget> {
     /// The state after it.
@@ -70,7 +70,7 @@ pub struct AttachPlan<T: LinkTarget> {
     pub target: T,
     /// When the receiver settles.
     pub rcv_settle_mode: ReceiverSettleMode,
-    /// The bytes that a message may have after it; 0 is no limit.
+    /// The largest message after it, in bytes; 0 is no limit.
     pub max_message_size: u64,
     /// The link's properties after it, if it changes them.
     pub properties: Option<Fields>,
@@ -81,7 +81,7 @@ pub struct AttachPlan<T: LinkTarget> {
 }
 
 /// The first half of `on_incoming_attach`: tests the attach, with the refusals of that call and what they
-/// leave, and plans it. A link whose attach is planned is as it was.
+/// leave, and makes the plan. A link whose attach was planned has not changed.
 pub fn plan_incoming_attach<T: LinkTarget>(
     link: &mut SenderLink<T>,
     attach: Attach,
@@ -94,7 +94,7 @@ pub fn plan_incoming_attach<T: LinkTarget>(
         ⊎ (sender_refusal T.admitted T.refused_by_sender link.old attach ≡ Some error)) }
     ensures memory { IsErrOf result SenderAttachError.OutOfMemory
         → sender_refusal T.admitted T.refused_by_sender link.old attach ≡ None }
-    ensures growth { IsErrOf result SenderAttachError.OutOfMemory → does_taking_allocate link.old attach ≡ true }
+    ensures growth { IsErrOf result SenderAttachError.OutOfMemory → sender_taking_allocates link.old attach ≡ true }
     ensures left { IfErr result (λ error. link.new ≡ sender_left T.admitted T.refused_by_sender error link.old attach) }
 {
     link.plan_remote_attach(attach)
@@ -172,7 +172,7 @@ fn read(attach: Attach) -> Incoming
     }
 }
 
-// Whether one end settles what the other leaves unsettled.
+// Whether one endpoint settles what the other leaves unsettled.
 fn disagree(own: SenderSettleMode, theirs: SenderSettleMode) -> bool
     ensures { result ≡ do_disagree own theirs }
 {
@@ -199,7 +199,7 @@ impl<T: LinkTarget> SenderLink<T> {
         self.rcv_settle_mode = mode;
     }
 
-    // Other properties take the place of the own ones, if there are any.
+    // Replaces the link's properties, if there are new ones.
     fn take_properties(&mut self, properties: Option<Fields>)
         ensures { self.new ≡ record self.old {
           flow_state = record self.old.flow_state {
@@ -212,11 +212,11 @@ impl<T: LinkTarget> SenderLink<T> {
         }
     }
 
-    // Verifies the peer's source beside the own one, if this is asked for.
+    // Verifies the peer's source beside the link's own, if the link verifies sources.
     fn verify_source(&self, source: &Option<Source>) -> Result<(), SenderAttachError>
         ensures { MatchResult result
-            (λ _. source_verdict self.now source.now ≡ None)
-            (λ error. source_verdict self.now source.now ≡ Some error) }
+            (λ _. sender_source_verdict self.now source.now ≡ None)
+            (λ error. sender_source_verdict self.now source.now ≡ Some error) }
     {
         if !self.verify_incoming_source {
             return Ok(());
@@ -227,7 +227,7 @@ impl<T: LinkTarget> SenderLink<T> {
         }
     }
 
-    // Verifies the peer's target beside the own one, if this is asked for.
+    // Verifies the peer's target beside the link's own, if the link verifies targets.
     fn verify_target(&self, theirs: &T) -> Result<(), SenderAttachError>
         ensures refused { result ≡ verdict (verified self.now.verify_incoming_target
             T.refused_by_sender self.now.target (Some theirs.now)) }
@@ -242,7 +242,8 @@ impl<T: LinkTarget> SenderLink<T> {
         }
     }
 
-    // The target that the link takes of an attach with these termini. Does not allocate.
+    // The target that the link takes from an attach with these termini, or why it is refused. Does not
+    // allocate.
     fn target_to_take(
         &self,
         source: Option<Source>,
@@ -282,7 +283,7 @@ impl<T: LinkTarget> SenderLink<T> {
             ⊎ (sender_refusal T.admitted T.refused_by_sender self.old attach ≡ Some error)) }
         ensures memory { IsErrOf result SenderAttachError.OutOfMemory
             → sender_refusal T.admitted T.refused_by_sender self.old attach ≡ None }
-        ensures growth { IsErrOf result SenderAttachError.OutOfMemory → does_taking_allocate self.old attach ≡ true }
+        ensures growth { IsErrOf result SenderAttachError.OutOfMemory → sender_taking_allocates self.old attach ≡ true }
         ensures left { IfErr result (λ error. self.new ≡ sender_left T.admitted T.refused_by_sender error self.old attach) }
         ensures step { MatchOption (next_of self.old.local_state attach)
             (IsErrAnd result (λ error. error ≡ SenderAttachError.IllegalState))
@@ -336,8 +337,8 @@ impl<T: LinkTarget> SenderLink<T> {
         })
     }
 
-    // What is made of the unsettled deliveries and the properties of an attach that has passed all tests:
-    // all that allocates.
+    // Plans the exchange of the unsettled deliveries and merges the properties, for an attach that has passed
+    // all tests: all that allocates.
     fn plan_rest(
         &self,
         unsettled: Option<UnsettledMap<Option<DeliveryState>>>,

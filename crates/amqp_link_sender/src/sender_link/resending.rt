@@ -55,7 +55,7 @@ impl<T: LinkTarget> SenderLink<T> {
     /// Sends the rest of a delivery with this transfer, and registers its entry, with the whole payload and
     /// the state that it has, under the tag. Spends no credit.
     ///
-    /// Refused in this order, with nothing changed and the entry handed back: `IllegalState` without input
+    /// Refused in this order, with nothing changed and the entry returned: `IllegalState` without input
     /// handle; `TagPending`, by the tag given here; `NoRoom`; `OutOfMemory`, only if none of these holds.
     ///
     /// Its cost grows with the number of frames and of pending deliveries: their tags are compared once for
@@ -99,7 +99,7 @@ impl<T: LinkTarget> SenderLink<T> {
 
     /// Registers the entry of a delivery again without sending it, so that the next exchange resolves it.
     ///
-    /// Refused in this order, with nothing changed and the entry handed back: `TagPending`; `OutOfMemory`.
+    /// Refused in this order, with nothing changed and the entry returned: `TagPending`; `OutOfMemory`.
     pub fn put_back(
         &mut self,
         tag: DeliveryTag,
@@ -133,8 +133,24 @@ impl<T: LinkTarget> SenderLink<T> {
         self.unsettled.remove(tag)
     }
 
-    // The input handle, and the payload bytes of a frame, for a delivery that is to be registered under this
-    // tag, if nothing refuses it. The transfer stays as it is.
+    /// Whether `send_unsettled_transfer` would send this rest now: refused as there, in the same order. Does not
+    /// allocate, and changes nothing: the transfer is as before.
+    pub fn can_send_unsettled(
+        &self,
+        transfer: &mut Transfer,
+        tag: &DeliveryTag,
+        rest: &Payload,
+    ) -> Result<(), LinkStateError>
+        ensures refused { AnswersExactly result
+            (unsettled_transfer_tests self.now transfer.old tag.now rest.now) }
+        ensures same { transfer.new ≡ transfer.old }
+    {
+        let _ = self.admit_unsettled(transfer, tag, rest)?;
+        Ok(())
+    }
+
+    // The input handle and the payload limit for a delivery that is to be registered under this tag, if no
+    // test refuses it. The transfer stays as it is.
     fn admit_unsettled(
         &self,
         transfer: &mut Transfer,

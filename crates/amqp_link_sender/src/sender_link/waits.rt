@@ -1,4 +1,4 @@
-//! What waits at a sender as a payload is to be sent.
+//! What is pending at a sender when a payload is to be sent.
 ghost use Rattle.std.specs.Prelude.{◌≡◌};
 ghost use Rattle.amqp_link_sender.specs.Waits.{waiting_error, after_waiting, frame_error, after_frame, stop_error};
 ghost use Rattle.amqp_link_sender.specs.Waits.{detach_error, after_detach, recorded_error};
@@ -10,7 +10,7 @@ use amqp_link_types::frame::LinkFrame;
 use amqp_link_types::types::{ApplyRemoteDetachError, Detach, LinkStateError, SessionStopReason};
 
 impl<T: LinkTarget> SenderLink<T> {
-    // Takes what waits, and answers why nothing can be sent, if that is so.
+    // Handles what is pending, and returns why nothing can be sent, if so.
     pub(super) fn take_waiting(&mut self, waiting: Waiting) -> Option<LinkStateError>
         ensures answer { result ≡ waiting_error self.old.local_state waiting }
         ensures after { self.new ≡ after_waiting self.old waiting }
@@ -22,7 +22,7 @@ impl<T: LinkTarget> SenderLink<T> {
         }
     }
 
-    // A frame waits: a detach is recorded.
+    // Handles a frame that is pending: a detach is recorded.
     fn take_frame(&mut self, frame: LinkFrame) -> LinkStateError
         ensures answer { result ≡ frame_error self.old.local_state frame }
         ensures after { self.new ≡ after_frame self.old frame }
@@ -49,7 +49,7 @@ impl<T: LinkTarget> SenderLink<T> {
     }
 }
 
-// The error of a link for that of recording a detach.
+// The link's error for an error of recording a detach.
 fn error_of_record(error: ApplyRemoteDetachError) -> LinkStateError
     ensures { result ≡ recorded_error error }
 {

@@ -1,6 +1,6 @@
-//! Credit that is spent, and flows that come and go (2.6.7).
+//! How credit is spent, and flows that are sent and taken (2.6.7).
 //!
-//! Only the properties of a flow that goes out take memory.
+//! Only the properties of a flow that is sent are allocated.
 ghost use Rattle.std.specs.Prelude.{◌≡◌, ◌↔◌, ◌+◌, ◌%◌, ◌^◌, ◌<◌, ◌≤◌, true, if◌then◌else◌, None};
 ghost use Rattle.std.specs.Prelude.{IfOk, IfErr, IsErr, OnErr, OnOk, is_some};
 ghost use Rattle.std.specs.Int.{w32, to_be_bytes};
@@ -14,14 +14,14 @@ use amqp_link_types::types::{Handle, LinkFlow, OutputHandle, ReceiverTransferErr
 use amqp_link_values::copy::copy_of;
 use std::alloc::AllocError;
 
-// How far a count is ahead of another: behind it where the answer is below 0 (RFC 1982).
+// How far a count is ahead of another; below 0 if it is behind (RFC 1982).
 fn difference(count: SequenceNo, own: SequenceNo) -> i32
     ensures { result ≡ sdiff count own }
 {
     count.wrapping_sub(own).cast_signed()
 }
 
-// The credit at the own count, where a receiver at this count grants so much.
+// A sender's link-credit at its own count, if a receiver at this count grants this much.
 fn granted(count: SequenceNo, grant: u32, own: SequenceNo) -> u32
     ensures { result ≡ granted_by count grant own }
 {
@@ -29,8 +29,8 @@ fn granted(count: SequenceNo, grant: u32, own: SequenceNo) -> u32
 }
 
 impl LinkFlowStateInner {
-    /// How this end stands, as a flow at its handle; with its properties where they are to be
-    /// included. Only those take memory.
+    /// The flow state as a flow with this handle, with the properties if they are to be included. Allocates
+    /// only those.
     pub fn as_link_flow(
         &self,
         output_handle: OutputHandle,
@@ -54,7 +54,7 @@ impl LinkFlowStateInner {
         })
     }
 
-    // How this end stands, without properties. Takes no memory.
+    // The flow state as a flow, without properties. Does not allocate.
     fn bare_flow(&self, output_handle: OutputHandle, echo: bool) -> LinkFlow
         ensures { result ≡ flow_of self.now output_handle echo }
     {
@@ -69,7 +69,7 @@ impl LinkFlowStateInner {
         }
     }
 
-    // Moves `n` credits to the count, which wraps.
+    // Takes `n` from the credit and adds it to the count, which wraps.
     fn spend(&mut self, n: u32)
         requires { n ≤ self.old.link_credit }
         ensures spent { self.new ≡ after_consuming n self.old }
@@ -81,8 +81,8 @@ impl LinkFlowStateInner {
 }
 
 impl<R> LinkFlowState<R> {
-    /// Moves one credit to the count, which wraps: for a caller that has seen that there is credit.
-    /// Does not allocate.
+    /// Takes one from the credit and adds it to the count, which wraps: for a caller that knows that there is
+    /// credit. Does not allocate.
     pub fn spend_one(&mut self)
         requires { 0 < self.old.link_credit }
         ensures spent { self.new ≡ after_consuming 1 self.old }
@@ -93,10 +93,10 @@ impl<R> LinkFlowState<R> {
 }
 
 impl LinkFlowState<SenderMarker> {
-    /// Moves `n` credits to the count, which wraps, and answers the count before as four bytes, the
-    /// highest first: the tag of the delivery that spends them. Takes no memory.
+    /// Takes `n` from the credit and adds it to the count, which wraps. Returns the count before as four
+    /// bytes, the highest first: the tag of the delivery for which it is spent. Does not allocate.
     ///
-    /// Refused, with nothing changed, where there is less credit.
+    /// Refused, with nothing changed, if there is less credit.
     pub fn consume(&mut self, n: u32) -> Result<[u8; 4], InsufficientCredit>
         ensures tag { IfOk result (λ tag. tag ≡ to_be_bytes w32 self.old.delivery_count) }
         ensures spent { OnOk result (self.new ≡ after_consuming n self.old) }
@@ -113,12 +113,13 @@ impl LinkFlowState<SenderMarker> {
         Ok(tag)
     }
 
-    /// Takes a receiver's flow. The credit that it grants from its count on becomes the credit from
-    /// the own count on; a flow without count grants from the initial count on. The drain flag
-    /// becomes the flow's, and where it is set, all credit goes to the count.
+    /// Takes the receiver's flow. If it has a link-credit, the sender's becomes the receiver's delivery-count
+    /// + its link-credit - the own delivery-count (RFC 1982), held between 0 and 2^32 - 1; a flow without
+    /// delivery-count counts from the initial one. The drain flag becomes the flow's; if it is set, all
+    /// credit is added to the count, and the credit becomes 0.
     ///
-    /// Answers how this end stands then, without properties and asking for no answer, where the flow
-    /// drains or asks for an answer. Takes no memory.
+    /// If the flow drains or asks for an echo, returns the flow state afterwards, without properties and
+    /// without `echo`. Does not allocate.
     pub fn on_incoming_flow(
         &mut self,
         flow: &LinkFlow,
@@ -149,9 +150,9 @@ impl LinkFlowState<SenderMarker> {
 }
 
 impl LinkFlowState<ReceiverMarker> {
-    /// Moves `n` credits to the count, which wraps. Takes no memory.
+    /// Takes `n` from the credit and adds it to the count, which wraps. Does not allocate.
     ///
-    /// Refused with `TransferLimitExceeded`, and nothing changed, where there is less credit.
+    /// Refused with `TransferLimitExceeded`, and nothing changed, if there is less credit.
     pub fn consume(&mut self, n: u32) -> Result<(), ReceiverTransferError>
         ensures spent { OnOk result (self.new ≡ after_consuming n self.old) }
         ensures limit { OnOk result (count_limit self.new ≡ count_limit self.old) }
@@ -167,11 +168,11 @@ impl LinkFlowState<ReceiverMarker> {
         Ok(())
     }
 
-    /// Sets the credit and the drain flag where they are given, and answers how this end stands then,
-    /// as a flow at its handle; with its properties where they are to be included. A receiver does not
-    /// say what is available: that is the sender's to tell (2.6.7).
+    /// Sets the link-credit and the drain flag, each if one is passed, and returns the flow state afterwards
+    /// as a flow with this handle, with the properties if they are to be included. `available` is left out,
+    /// since only the sender knows it (2.6.7).
     ///
-    /// Only the properties take memory. Where it is wanting nothing has changed.
+    /// Allocates only the properties. If it is out of memory, nothing has changed.
     pub fn state_flow(
         &mut self,
         link_credit: Option<u32>,
@@ -193,7 +194,7 @@ impl LinkFlowState<ReceiverMarker> {
         } else {
             None
         };
-        // All memory is taken: from here on nothing can fail.
+        // All allocations are done: from here on nothing can fail.
         state.link_credit = link_credit.unwrap_or(state.link_credit);
         state.drain = drain.unwrap_or(state.drain);
         Ok(LinkFlow {
@@ -203,11 +204,11 @@ impl LinkFlowState<ReceiverMarker> {
         })
     }
 
-    /// Takes a sender's flow: its count and what is available become the own ones where it says
-    /// them; credit and drain are the receiver's own, and stay.
+    /// Takes the sender's flow. The delivery-count and `available` are updated if the flow has them; the
+    /// link-credit and the drain flag are the receiver's own, and stay.
     ///
-    /// Answers how this end stands then, without properties and asking for no answer, where the flow
-    /// asks for an answer. Takes no memory.
+    /// If the flow asks for an echo, returns the flow state afterwards, without properties and without
+    /// `echo`. Does not allocate.
     pub fn on_incoming_flow(
         &mut self,
         flow: &LinkFlow,

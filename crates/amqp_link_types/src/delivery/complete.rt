@@ -9,8 +9,8 @@ use std::marker::Model;
 
 /// A complete delivery, with its message.
 ///
-/// It may be taken apart at once: what is to be settled later is its `DeliveryInfo`. A contract
-/// sees the handle, the info, the format and the message.
+/// It can be split at once: its `DeliveryInfo` is all that is needed to settle it later. A contract sees the
+/// handle, the info, the format and the message.
 #[derive(Debug, PartialEq, Eq, Drop)]
 pub struct Delivery<T> {
     handle: OutputHandle,
@@ -40,8 +40,8 @@ impl<T> Model for Delivery<T> {
 }
 
 impl<T> Delivery<T> {
-    /// A delivery that came on the link with this handle; the format is none where its transfers
-    /// say none. Takes no memory.
+    /// A delivery on the link with this output handle; the format is none if its transfers carry none. Does
+    /// not allocate.
     pub fn new(
         handle: OutputHandle,
         info: DeliveryInfo,
@@ -63,7 +63,7 @@ impl<T> Delivery<T> {
         }
     }
 
-    /// The handle that this end gave the link on which the delivery came.
+    /// The output handle of the link on which the delivery arrived.
     pub fn handle(&self) -> OutputHandle
         ensures { result ≡ self.now.handle }
     {
@@ -77,7 +77,7 @@ impl<T> Delivery<T> {
         &self.message
     }
 
-    /// The number that the session gave the delivery (2.8.8).
+    /// The delivery-id that the session gave the delivery (2.8.8).
     pub fn delivery_id(&self) -> DeliveryNumber
         ensures { result ≡ self.now.info.delivery_id }
     {
@@ -91,7 +91,7 @@ impl<T> Delivery<T> {
         self.info.delivery_tag()
     }
 
-    /// The format of the message, where the delivery's transfers say one (2.8.11).
+    /// The format of the message, if the delivery's transfers carry one (2.8.11).
     pub fn message_format(&self) -> Option<MessageFormat>
         ensures { result ≡ self.now.message_format }
     {
@@ -105,21 +105,21 @@ impl<T> Delivery<T> {
         &self.message.body
     }
 
-    /// The message alone. Takes no memory.
+    /// The message alone. Does not allocate.
     pub fn into_message(self) -> Message<T>
         ensures { result ≡ self.message }
     {
         self.message
     }
 
-    /// The body alone. Takes no memory.
+    /// The body alone. Does not allocate.
     pub fn into_body(self) -> T
         ensures { result ≡ self.message.body }
     {
         self.into_message().body
     }
 
-    /// What is to be settled, and the message. Takes no memory.
+    /// The info, by which the delivery is settled, and the message. Does not allocate.
     pub fn into_parts(self) -> (DeliveryInfo, Message<T>)
         ensures info { result.0 ≡ self.info }
         ensures message { result.1 ≡ self.message }
@@ -129,8 +129,7 @@ impl<T> Delivery<T> {
 }
 
 impl DeliveryInfo {
-    /// What is to be settled of a delivery that is kept: a copy. Where there is no memory the
-    /// delivery is as it was.
+    /// The info of a delivery, by which it is settled: a copy. The delivery does not change.
     pub fn of<T>(delivery: &Delivery<T>) -> Result<DeliveryInfo, AllocError>
         ensures { IfOk result (λ info. info ≡ delivery.now.info) }
     {

@@ -5,8 +5,8 @@ use crate::types::{DeliveryNumber, DeliveryTag, ReceiverSettleMode};
 use std::alloc::AllocError;
 use std::marker::Model;
 
-/// Which delivery it is, and how it is to be settled: what a receiver has to know of a delivery to
-/// settle it when its message is gone.
+/// Which delivery it is, and how it is to be settled: all that a receiver needs to settle a delivery after
+/// its message is gone.
 ///
 /// A contract sees the id, the tag and the mode.
 #[derive(Debug, PartialEq, Eq, Drop)]
@@ -35,8 +35,8 @@ impl Model for DeliveryInfo {
 }
 
 impl DeliveryInfo {
-    /// A delivery with this id and tag, which its receiver settles in this mode; none where only
-    /// the link says in which. Takes no memory.
+    /// The info of a delivery with this id and tag, and the receiver settle mode that its transfers carry;
+    /// none if they leave it to the link. Does not allocate.
     pub fn new(
         delivery_id: DeliveryNumber,
         delivery_tag: DeliveryTag,
@@ -55,7 +55,7 @@ impl DeliveryInfo {
         }
     }
 
-    /// The number that the session gave the delivery (2.8.8).
+    /// The delivery-id that the session gave the delivery (2.8.8).
     pub fn delivery_id(&self) -> DeliveryNumber
         ensures { result ≡ self.now.delivery_id }
     {
@@ -69,8 +69,8 @@ impl DeliveryInfo {
         &self.delivery_tag
     }
 
-    /// When the receiver settles the delivery, where its transfers say so (2.7.5). A delivery that
-    /// came settled has no mode.
+    /// When the receiver settles the delivery, if its transfers carry a mode (2.7.5). A delivery that was
+    /// sent settled has none.
     pub fn rcv_settle_mode(&self) -> Option<ReceiverSettleMode>
         ensures { result ≡ self.now.rcv_settle_mode }
     {

@@ -11,35 +11,34 @@ use amqp_link_values::symbols::Symbols;
 use amqp_link_values::text::Text;
 use std::alloc::AllocError;
 
-/// The attach performative (2.7.3): what an end says of a link as it takes it up.
+/// The attach performative (2.7.3): what an endpoint states of a link as it attaches.
 #[derive(Debug, PartialEq, Eq, Drop)]
 pub struct Attach {
-    /// The name of the link, the same at both ends.
+    /// The name of the link, the same at both endpoints.
     pub name: Text,
-    /// The handle that the end which sends this gave the link.
+    /// The handle that the endpoint which sends this gave the link.
     pub handle: Handle,
-    /// Which end that is.
+    /// The role of that endpoint.
     pub role: Role,
     /// When the sender settles.
     pub snd_settle_mode: SenderSettleMode,
     /// When the receiver settles.
     pub rcv_settle_mode: ReceiverSettleMode,
-    /// Where the messages come from.
+    /// The source: where the messages come from.
     pub source: Option<Source>,
-    /// Where the messages go.
+    /// The target: where the messages go.
     pub target: Option<TargetArchetype>,
-    /// The states of the deliveries that the end has not settled; null where none is known.
+    /// The deliveries that the endpoint has not settled, with the state of each; null if none is known.
     pub unsettled: Option<UnsettledMap<Option<DeliveryState>>>,
-    /// Whether there are more of those than the map says.
+    /// Whether the map does not have all of them.
     pub incomplete_unsettled: bool,
-    /// The delivery count with which the link is taken up: the sender's, or the one that a receiver
-    /// knows of.
+    /// The sender's delivery-count at the attach; a receiver states the one that it knows.
     pub initial_delivery_count: Option<SequenceNo>,
-    /// The bytes that a message may have; none and 0 are no limit.
+    /// The largest message in bytes; none and 0 are no limit.
     pub max_message_size: Option<u64>,
-    /// What the end can do.
+    /// The capabilities that the endpoint offers.
     pub offered_capabilities: Option<Symbols>,
-    /// What the end would have the other do.
+    /// The capabilities that the endpoint would have the peer offer.
     pub desired_capabilities: Option<Symbols>,
     /// Further properties of the link.
     pub properties: Option<Fields>,

@@ -7,21 +7,21 @@ use amqp_link_values::symbol::Symbol;
 use amqp_link_values::text::Text;
 use std::alloc::AllocError;
 
-/// The number that a session gives a delivery (2.8.8). It wraps.
+/// The delivery-id that a session gives a delivery (2.8.8). It wraps.
 pub type DeliveryNumber = u32;
 
-/// A serial number, as a delivery count is one (2.8.10). It wraps.
+/// A serial number, such as a delivery-count (2.8.10). It wraps.
 pub type SequenceNo = u32;
 
 /// The format of a message (2.8.11); 0 is that of the standard.
 pub type MessageFormat = u32;
 
-/// Which end of a link one is (2.8.1).
+/// The role of a link endpoint (2.8.1).
 #[derive(Clone, Copy, Debug, PartialEq, Eq, Hash)]
 pub enum Role {
-    /// The end that sends, `false` on the wire.
+    /// The endpoint that sends, `false` on the wire.
     Sender,
-    /// The end that receives, `true` on the wire.
+    /// The endpoint that receives, `true` on the wire.
     Receiver,
 }
 
@@ -32,7 +32,7 @@ pub enum SenderSettleMode {
     Unsettled,
     /// It sends all deliveries settled.
     Settled,
-    /// Each delivery says for itself.
+    /// Each transfer states whether it is settled.
     #[default]
     Mixed,
 }
@@ -40,7 +40,7 @@ pub enum SenderSettleMode {
 /// When the receiver settles its deliveries (2.8.3).
 #[derive(Clone, Copy, Debug, Default, PartialEq, Eq, Hash)]
 pub enum ReceiverSettleMode {
-    /// As they come, by itself.
+    /// As deliveries arrive, by itself.
     #[default]
     First,
     /// After the sender has settled.
@@ -51,11 +51,11 @@ pub enum ReceiverSettleMode {
 #[derive(Clone, Copy, Debug, Default, PartialEq, Eq, Hash)]
 pub struct Handle(pub u32);
 
-/// The handle that this end gave a link: it stands in the frames that go out.
+/// The handle that this endpoint gave a link: frames that are sent carry it.
 #[derive(Clone, Copy, Debug, Default, PartialEq, Eq, Hash)]
 pub struct OutputHandle(pub u32);
 
-/// The handle that the other end gave a link: it stands in the frames that come in.
+/// The handle that the peer gave a link: frames that arrive carry it.
 #[derive(Clone, Copy, Debug, Default, PartialEq, Eq, Hash)]
 pub struct InputHandle(pub u32);
 
@@ -91,14 +91,14 @@ impl From<Handle> for InputHandle {
     }
 }
 
-/// What an end tells of an error (2.8.14).
+/// What an endpoint states of an error (2.8.14).
 #[derive(Debug, PartialEq, Eq, Drop)]
 pub struct Error {
-    /// The condition, as `amqp:invalid-field`.
+    /// The condition, such as `amqp:invalid-field`.
     pub condition: Symbol,
     /// A text for people.
     pub description: Option<Text>,
-    /// What else there is to tell.
+    /// Further information.
     pub info: Option<Fields>,
 }
 

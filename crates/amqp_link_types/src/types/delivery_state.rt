@@ -8,30 +8,30 @@ use amqp_link_values::copy::copy_of;
 use amqp_link_values::fields::Fields;
 use std::alloc::AllocError;
 
-/// The state of a delivery at one end (3.4).
+/// The state of a delivery at one endpoint (3.4).
 ///
 /// All but `Received` are terminal: once a delivery has such a state, it keeps it.
 #[derive(Debug, PartialEq, Eq, Drop)]
 pub enum DeliveryState {
-    /// The receiver took it (3.4.2).
+    /// The receiver accepted it (3.4.2).
     Accepted,
     /// The receiver found it invalid (3.4.3).
     Rejected {
         /// Why.
         error: Option<Error>,
     },
-    /// The receiver gave it back as it was (3.4.4).
+    /// The receiver returned it unchanged (3.4.4).
     Released,
-    /// The receiver gave it back changed (3.4.5).
+    /// The receiver returned it changed (3.4.5).
     Modified {
         /// Whether the delivery counts as failed.
         delivery_failed: Option<bool>,
-        /// Whether it is not to come to this link again.
+        /// Whether it is not to be sent on this link again.
         undeliverable_here: Option<bool>,
         /// What is to be added to the message's annotations.
         message_annotations: Option<Fields>,
     },
-    /// A front of it came (3.4.1): the bytes before this place.
+    /// A front of it arrived (3.4.1): the bytes up to this position.
     Received {
         /// The number of the section in which the front ends, counted from 0.
         section_number: u32,
@@ -43,20 +43,20 @@ pub enum DeliveryState {
 /// How a delivery ended: one of the terminal states (3.4).
 #[derive(Debug, PartialEq, Eq, Drop)]
 pub enum Outcome {
-    /// The receiver took it (3.4.2).
+    /// The receiver accepted it (3.4.2).
     Accepted,
     /// The receiver found it invalid (3.4.3).
     Rejected {
         /// Why.
         error: Option<Error>,
     },
-    /// The receiver gave it back as it was (3.4.4).
+    /// The receiver returned it unchanged (3.4.4).
     Released,
-    /// The receiver gave it back changed (3.4.5).
+    /// The receiver returned it changed (3.4.5).
     Modified {
         /// Whether the delivery counts as failed.
         delivery_failed: Option<bool>,
-        /// Whether it is not to come to this link again.
+        /// Whether it is not to be sent on this link again.
         undeliverable_here: Option<bool>,
         /// What is to be added to the message's annotations.
         message_annotations: Option<Fields>,
@@ -72,7 +72,7 @@ impl DeliveryState {
     }
 }
 
-/// Whether the state is terminal. Where none is known, the delivery has not ended.
+/// Whether there is a terminal state. A delivery without a known state has not ended.
 pub fn has_ended(state: &Option<DeliveryState>) -> bool
     ensures { result ≡ option_map_or is_terminal state.now false }
 {

@@ -9,40 +9,40 @@ use amqp_link_values::symbols::Symbols;
 use std::alloc::{AllocError, AllocFailed};
 use thiserror::Error;
 
-/// Why a call of a link was refused. What it leaves is said at the call; where nothing is said,
+/// Why a call of a link was refused. The call's doc states what the refusal leaves; if it states nothing,
 /// nothing has changed.
 #[derive(Debug, PartialEq, Eq, Drop, Error)]
 pub enum LinkStateError {
-    /// The link is not in a state for this call: a handle is missing, or a tag.
+    /// The state of the link does not allow this call, or a handle or a tag is missing.
     #[error("the link is not in a state for this call")]
     IllegalState,
-    /// The other end has detached the link. It may be attached again.
+    /// The peer has detached the link. It may be attached again.
     #[error("the other end has detached the link")]
     RemoteDetached,
-    /// The other end has detached the link with this error. It may be attached again.
+    /// The peer has detached the link with this error. It may be attached again.
     #[error("the other end has detached the link with an error")]
     RemoteDetachedWithError(RemoteError),
-    /// The other end has closed the link.
+    /// The peer has closed the link.
     #[error("the other end has closed the link")]
     RemoteClosed,
-    /// The other end has closed the link with this error.
+    /// The peer has closed the link with this error.
     #[error("the other end has closed the link with an error")]
     RemoteClosedWithError(RemoteError),
-    /// A frame waits that is no detach, where only a detach may come; or the session has stopped and
-    /// nothing says why.
+    /// A frame is pending that is no detach, where only a detach is expected; or the session has stopped
+    /// without a reason.
     #[error("only a detach may come here")]
     ExpectImmediateDetach,
     /// The session has stopped for this reason.
     #[error("the session has stopped")]
     SessionStopped(SessionStopReason),
-    /// The delivery's tag is that of one that is still pending. Try again once that is settled.
+    /// The delivery's tag is that of a pending delivery. Try again once that is settled.
     #[error("a delivery of this tag is pending")]
     TagPending,
     /// The frame limit leaves no room for a transfer of this delivery. Every later try with this
     /// limit is refused as well.
     #[error("no room for the transfer in a frame")]
     NoRoom,
-    /// There was no memory.
+    /// Out of memory.
     #[error("out of memory")]
     OutOfMemory,
 }
@@ -93,37 +93,37 @@ impl<T: Drop> From<AllocFailed<T>> for LinkStateError {
     }
 }
 
-/// Why a detach was refused, or what one that came in answer to an own one says.
+/// Why a detach was refused, or the error that the peer's reply to a detach carries.
 #[derive(Debug, PartialEq, Eq, Drop, Error)]
 pub enum DetachError {
-    /// The link is not in a state for this call, or has no output handle to be named.
+    /// The state of the link does not allow this call, or the link has no output handle.
     #[error("the link is not in a state for this call")]
     IllegalState,
-    /// The other end has detached the link with this error.
+    /// The peer has detached the link with this error.
     #[error("the other end has detached the link with an error")]
     RemoteDetachedWithError(RemoteError),
-    /// The other end has closed the link with this error.
+    /// The peer has closed the link with this error.
     #[error("the other end has closed the link with an error")]
     RemoteClosedWithError(RemoteError),
 }
 
-/// Why a detach that the peer initiated was not recorded, or what one that was recorded states.
+/// Why a detach that the peer initiated was not recorded, or the error that a recorded one carries.
 #[derive(Debug, PartialEq, Eq, Drop, Error)]
 pub enum ApplyRemoteDetachError {
-    /// The link is not attached in any way, so nothing was recorded.
+    /// The link is not attached, so nothing was recorded.
     #[error("the link is not in a state for this call")]
     IllegalState,
-    /// The other end has detached the link with this error, which is recorded.
+    /// The peer has detached the link with this error, which is recorded.
     #[error("the other end has detached the link with an error")]
     RemoteDetachedWithError(RemoteError),
-    /// The other end has closed the link with this error, which is recorded.
+    /// The peer has closed the link with this error, which is recorded.
     #[error("the other end has closed the link with an error")]
     RemoteClosedWithError(RemoteError),
 }
 
-/// Why the attach of a link's sending endpoint fails: the attach that it sends, the one that arrives, or
-/// what arrives in its place. The links return the errors of the first two; those of what arrives in its
-/// place are for a session to name, and for `handle_attach_error` to take.
+/// Why the attach of a sender's link endpoint fails: by the attach that it sends, by the one that arrives, or
+/// by what arrives in its place. The links return the errors of the first two. The session reports what
+/// arrives in its place, and passes it to `handle_attach_error`.
 #[derive(Debug, PartialEq, Eq, Drop, Error)]
 pub enum SenderAttachError {
     /// The session has stopped for this reason.
@@ -132,7 +132,7 @@ pub enum SenderAttachError {
     /// The session is not mapped, so that no link can be attached in it.
     #[error("the session is not mapped")]
     SessionNotMapped,
-    /// The link is not in a state for this call, or has no output handle.
+    /// The state of the link does not allow this call, or the link has no output handle.
     #[error("the link is not in a state for this call")]
     IllegalState,
     /// Another frame arrived in place of the attach.
@@ -183,15 +183,15 @@ impl From<AllocError> for SenderAttachError {
     }
 }
 
-/// Why the attach of a link's receiving endpoint fails: the attach that it sends, the one that arrives, or
-/// what arrives in its place. The links return the errors of the first two; those of what arrives in its
-/// place are for a session to name, and for `handle_attach_error` to take.
+/// Why the attach of a receiver's link endpoint fails: by the attach that it sends, by the one that arrives,
+/// or by what arrives in its place. The links return the errors of the first two. The session reports what
+/// arrives in its place, and passes it to `handle_attach_error`.
 #[derive(Debug, PartialEq, Eq, Drop, Error)]
 pub enum ReceiverAttachError {
     /// The session has stopped for this reason.
     #[error("the session has stopped")]
     SessionStopped(SessionStopReason),
-    /// The link is not in a state for this call, or has no output handle.
+    /// The state of the link does not allow this call, or the link has no output handle.
     #[error("the link is not in a state for this call")]
     IllegalState,
     /// Another frame arrived in place of the attach.
@@ -215,7 +215,7 @@ pub enum ReceiverAttachError {
     /// The target is of a kind that the link does not take.
     #[error("the target is of a kind that the link does not take")]
     CoordinatorIsNotImplemented,
-    /// Filters of these names were asked for, and are not in place (3.5.8).
+    /// The receiver asked for filters of these names, and they are not in place (3.5.8).
     #[error("filters that were asked for are not in place")]
     DesiredFilterNotSupported(Symbols),
     /// The peer has made a dynamic source and does not give its address (3.5.3).
@@ -245,25 +245,25 @@ impl From<AllocError> for ReceiverAttachError {
     }
 }
 
-/// A delivery is complete, and its bytes were not read as a message. It is to be settled by its
-/// user, as any other.
+/// A delivery is complete, and its bytes could not be decoded as a message. Its user settles it like any
+/// other.
 #[derive(Debug, PartialEq, Eq, Drop, Error)]
 #[error("the message of a delivery was not read")]
 pub struct MessageDecodeError {
-    /// Why the bytes were not read.
+    /// Why the bytes could not be decoded.
     pub source: DecodeError,
     /// Which delivery it is, and how it is to be settled.
     pub info: DeliveryInfo,
 }
 
-/// Why a transfer that came was refused. What was held of the delivery is as it was; what becomes
-/// of the link is said at the call.
+/// Why a transfer that arrived was refused. What is held of the delivery stays as it was; the call's doc
+/// states what the refusal leaves of the link.
 #[derive(Debug, PartialEq, Eq, Drop, Error)]
 pub enum ReceiverTransferError {
-    /// The link is not in a state in which transfers come, or has no output handle.
+    /// The state of the link does not allow transfers, or the link has no output handle.
     #[error("the link is not in a state for this call")]
     IllegalState,
-    /// There is less credit than the delivery takes. The sender's fault (2.6.7).
+    /// There is less link-credit than the delivery takes. The sender's fault (2.6.7).
     #[error("there is less link credit than the delivery takes")]
     TransferLimitExceeded,
     /// The first transfer of a delivery has no delivery id. The sender's fault (2.7.5).
@@ -272,20 +272,19 @@ pub enum ReceiverTransferError {
     /// The first transfer of a delivery has no delivery tag. The sender's fault (2.7.5).
     #[error("the first transfer has no delivery tag")]
     DeliveryTagIsNone,
-    /// The transfer asks the receiver to settle second on a link whose receiver settles first. The
-    /// sender's fault (2.7.5).
+    /// The transfer has receiver settle mode second on a link of mode first. The sender's fault (2.7.5).
     #[error("the transfer asks for a receiver settle mode that the link does not have")]
     IllegalRcvSettleModeInTransfer,
-    /// A tag, an id or a format is not the delivery's. The sender's fault (2.7.5).
+    /// The transfer's tag, id or format is not the delivery's. The sender's fault (2.7.5).
     #[error("a field is not that of the delivery")]
     InconsistentFieldInMultiFrameDelivery,
     /// The delivery's size passes u64, or the number of its sections past the first passes u32.
     #[error("the payload is too long")]
     PayloadTooLong,
-    /// The delivery came, and its bytes were not read as a message.
+    /// The delivery is complete, and its bytes could not be decoded as a message.
     #[error("the message of the delivery was not read")]
     MessageDecode(MessageDecodeError),
-    /// There was no memory.
+    /// Out of memory.
     #[error("out of memory")]
     OutOfMemory,
 }
@@ -310,13 +309,13 @@ impl<T: Drop> From<AllocFailed<T>> for ReceiverTransferError {
     }
 }
 
-/// Why a flow was not stated. Nothing has changed.
+/// Why a flow was not returned. Nothing has changed.
 #[derive(Clone, Copy, Debug, PartialEq, Eq, Error)]
 pub enum FlowError {
-    /// The link has no output handle by which the flow could name it.
+    /// The link has no output handle for the flow.
     #[error("the link has no output handle")]
     IllegalState,
-    /// There was no memory for a copy of the properties.
+    /// Out of memory: the properties were not copied.
     #[error("out of memory")]
     OutOfMemory,
 }
@@ -334,7 +333,7 @@ impl From<AllocError> for FlowError {
 /// Why deliveries were not disposed of. Nothing has changed.
 #[derive(Clone, Copy, Debug, PartialEq, Eq, Error)]
 pub enum DispositionError {
-    /// There was no memory.
+    /// Out of memory.
     #[error("out of memory")]
     OutOfMemory,
 }
@@ -349,16 +348,16 @@ impl From<AllocError> for DispositionError {
     }
 }
 
-/// Why a frame that the session hands to a link was not taken. Nothing has changed.
+/// Why a frame that the session passes to a link was refused. Nothing has changed.
 #[derive(Clone, Copy, Debug, PartialEq, Eq, Error)]
 pub enum LinkRelayError {
-    /// The link has no output handle: it is not attached to the session.
+    /// The link has no output handle: it is not attached.
     #[error("the link has no output handle")]
     UnattachedHandle,
-    /// A transfer came to the sending end. The other end's fault (2.6.12).
+    /// A transfer arrived at a sender. The peer's fault (2.6.12).
     #[error("a transfer came to a sender")]
     TransferFrameToSender,
-    /// There was no memory.
+    /// Out of memory.
     #[error("out of memory")]
     OutOfMemory,
 }

@@ -10,50 +10,50 @@ use std::alloc::AllocError;
 
 /// The part of a flow that concerns a link (2.7.4). The session adds its windows.
 ///
-/// The default is a flow at handle 0 that says nothing else.
+/// The default is a flow at handle 0 without any other field.
 #[derive(Debug, Default, PartialEq, Eq, Drop)]
 pub struct LinkFlow {
-    /// The handle of the link at the end that sends the flow.
+    /// The handle of the link at the endpoint that sends the flow.
     pub handle: Handle,
-    /// The sender's delivery count; a receiver that has seen none leaves it out.
+    /// The sender's delivery-count; a receiver that knows none leaves it out.
     pub delivery_count: Option<SequenceNo>,
-    /// The credit, as the end that sends the flow knows it.
+    /// The link-credit, as the endpoint that sends the flow knows it.
     pub link_credit: Option<u32>,
     /// How many deliveries wait at the sender.
     pub available: Option<u32>,
     /// Whether the sender is to use up its credit at once.
     pub drain: bool,
-    /// Whether the other end is asked to answer with its own state.
+    /// Whether the peer is asked to reply with its own flow state.
     pub echo: bool,
     /// Further properties of the link.
     pub properties: Option<Fields>,
 }
 
-/// What became of deliveries, by their numbers (2.7.6).
+/// The state of deliveries, by their delivery-ids (2.7.6).
 #[derive(Debug, PartialEq, Eq, Drop)]
 pub struct Disposition {
-    /// Which end sends it: that of the link on which it received or sent the deliveries.
+    /// The role of the endpoint that sends it.
     pub role: Role,
-    /// The number of the first delivery.
+    /// The delivery-id of the first delivery.
     pub first: DeliveryNumber,
-    /// The number of the last delivery; none where it is the first.
+    /// The delivery-id of the last delivery; none if it is the first.
     pub last: Option<DeliveryNumber>,
-    /// Whether the deliveries are settled at this end.
+    /// Whether the deliveries are settled at this endpoint.
     pub settled: bool,
-    /// The state of the deliveries at this end.
+    /// The state of the deliveries at this endpoint.
     pub state: Option<DeliveryState>,
-    /// Whether the other end may let its own disposition wait.
+    /// Whether the peer may delay its own disposition.
     pub batchable: bool,
 }
 
-/// The end of an attachment (2.7.7).
+/// The detach performative (2.7.7).
 #[derive(Debug, PartialEq, Eq, Drop)]
 pub struct Detach {
-    /// The handle of the link at the end that sends this.
+    /// The handle of the link at the endpoint that sends this.
     pub handle: Handle,
     /// Whether the link is closed for good.
     pub closed: bool,
-    /// Why, where something went wrong.
+    /// The error, if there is one.
     pub error: Option<Error>,
 }
 

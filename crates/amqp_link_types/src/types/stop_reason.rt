@@ -1,4 +1,4 @@
-//! Why the layers below a link have stopped. They hand it in.
+//! Why the layers below a link have stopped. They pass it to the link.
 ghost use Rattle.std.specs.Prelude.{◌≡◌};
 
 use crate::types::definitions::Error;
@@ -9,7 +9,7 @@ use std::alloc::AllocError;
 pub enum ConnectionStopReason {
     /// It was closed.
     Closed,
-    /// The other end closed it with this error.
+    /// The peer closed it with this error.
     RemoteClosedWithError(Error),
 }
 

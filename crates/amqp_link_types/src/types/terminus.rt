@@ -1,4 +1,4 @@
-//! The two ends of a link's way through a node: its source and its target (3.5).
+//! The termini of a link: its source and its target (3.5).
 ghost use Rattle.std.specs.Prelude.{◌≡◌};
 
 use crate::types::delivery_state::Outcome;
@@ -8,29 +8,29 @@ use amqp_link_values::symbols::Symbols;
 use amqp_link_values::text::Text;
 use std::alloc::AllocError;
 
-/// What of a terminus outlives its container (3.5.5).
+/// Which state of a terminus is durable (3.5.5).
 #[derive(Clone, Copy, Debug, Default, PartialEq, Eq, Hash)]
 pub enum TerminusDurability {
     /// Nothing.
     #[default]
     None,
-    /// That it is there, and how.
+    /// Its existence and configuration.
     Configuration,
     /// Its unsettled deliveries as well.
     UnsettledState,
 }
 
-/// When a terminus begins to expire (3.5.6).
+/// From when on a terminus expires (3.5.6).
 #[derive(Clone, Copy, Debug, Default, PartialEq, Eq, Hash)]
 pub enum TerminusExpiryPolicy {
-    /// As its link is detached.
+    /// When its link is detached.
     LinkDetach,
-    /// As its session ends.
+    /// When its session ends.
     #[default]
     SessionEnd,
-    /// As its connection closes.
+    /// When its connection closes.
     ConnectionClose,
-    /// It does not.
+    /// Never.
     Never,
 }
 
@@ -43,28 +43,28 @@ pub enum DistributionMode {
     Copy,
 }
 
-/// Where the messages of a link come from (3.5.3).
+/// The source of a link: where its messages come from (3.5.3).
 ///
-/// The default names no address and asks for nothing.
+/// The default has no address and no other field.
 #[derive(Debug, Default, PartialEq, Eq, Drop)]
 pub struct Source {
     /// The address of the node.
     pub address: Option<Text>,
-    /// What outlives the container.
+    /// Which state of it is durable.
     pub durable: TerminusDurability,
-    /// When it begins to expire.
+    /// From when on it expires.
     pub expiry_policy: TerminusExpiryPolicy,
-    /// The seconds for which it stays once it expires.
+    /// The seconds that it stays after it has begun to expire.
     pub timeout: u32,
-    /// Whether the other end is asked to make the node.
+    /// Whether the peer is asked to create the node.
     pub dynamic: bool,
-    /// The properties of a node that is made so.
+    /// The properties of a node that is created so.
     pub dynamic_node_properties: Option<Fields>,
     /// Whether messages leave the node.
     pub distribution_mode: Option<DistributionMode>,
     /// Which messages the link takes.
     pub filter: Option<FilterSet>,
-    /// What becomes of a delivery that no outcome is told of.
+    /// The outcome of a delivery for which none was stated.
     pub default_outcome: Option<Outcome>,
     /// The descriptors of the outcomes that may be chosen.
     pub outcomes: Option<Symbols>,
@@ -72,28 +72,28 @@ pub struct Source {
     pub capabilities: Option<Symbols>,
 }
 
-/// Where the messages of a link go (3.5.4).
+/// The target of a link: where its messages go (3.5.4).
 ///
-/// The default names no address and asks for nothing.
+/// The default has no address and no other field.
 #[derive(Debug, Default, PartialEq, Eq, Drop)]
 pub struct Target {
     /// The address of the node.
     pub address: Option<Text>,
-    /// What outlives the container.
+    /// Which state of it is durable.
     pub durable: TerminusDurability,
-    /// When it begins to expire.
+    /// From when on it expires.
     pub expiry_policy: TerminusExpiryPolicy,
-    /// The seconds for which it stays once it expires.
+    /// The seconds that it stays after it has begun to expire.
     pub timeout: u32,
-    /// Whether the other end is asked to make the node.
+    /// Whether the peer is asked to create the node.
     pub dynamic: bool,
-    /// The properties of a node that is made so.
+    /// The properties of a node that is created so.
     pub dynamic_node_properties: Option<Fields>,
     /// What the terminus can do.
     pub capabilities: Option<Symbols>,
 }
 
-/// A target of any kind. There is one kind; a coordinator of transactions is none here.
+/// A target of any kind. Here there is one kind, and no coordinator of transactions.
 #[derive(Debug, PartialEq, Eq, Drop)]
 pub enum TargetArchetype {
     /// A node to which messages go.

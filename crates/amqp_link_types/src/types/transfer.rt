@@ -9,30 +9,30 @@ use std::alloc::AllocError;
 
 /// The transfer performative (2.7.5): the fields of one frame of a delivery, without its payload.
 ///
-/// The default is a transfer with handle 0 that says nothing else.
+/// The default is a transfer at handle 0 without any other field.
 #[derive(Debug, Default, PartialEq, Eq, Drop)]
 pub struct Transfer {
-    /// The handle of the link at the end that sends the frame.
+    /// The handle of the link at the endpoint that sends the frame.
     pub handle: Handle,
-    /// The number of the delivery; on its first transfer always, on others it may be left out.
+    /// The delivery-id; the first transfer has it, others may leave it out.
     pub delivery_id: Option<DeliveryNumber>,
-    /// The tag of the delivery; on its first transfer always, on others it may be left out.
+    /// The delivery-tag; the first transfer has it, others may leave it out.
     pub delivery_tag: Option<DeliveryTag>,
-    /// The format of the message; on the first transfer, on others it may be left out.
+    /// The format of the message; the first transfer has it, others may leave it out.
     pub message_format: Option<MessageFormat>,
     /// Whether the delivery is settled at the sender. A false on a later transfer unsets nothing.
     pub settled: Option<bool>,
     /// Whether more transfers of the delivery follow.
     pub more: bool,
-    /// When the receiver is to settle this delivery, where the link leaves it open.
+    /// When the receiver is to settle this delivery, if the link leaves that open.
     pub rcv_settle_mode: Option<ReceiverSettleMode>,
     /// The state of the delivery at the sender.
     pub state: Option<DeliveryState>,
-    /// Whether this takes up a delivery of an earlier attachment.
+    /// Whether this resumes a delivery of an earlier attachment.
     pub resume: bool,
-    /// Whether the delivery is given up: what came of it is to be forgotten.
+    /// Whether the delivery is aborted: the receiver forgets what arrived of it.
     pub aborted: bool,
-    /// Whether the receiver may let its disposition wait.
+    /// Whether the receiver may delay its disposition.
     pub batchable: bool,
 }
 

@@ -1,7 +1,7 @@
-//! The map of the deliveries that are not settled (2.6.13).
+//! The map of the unsettled deliveries (2.6.13).
 //!
-//! It is kept as the list of its pairs, and contracts see it as that list: a put replaces in place
-//! or adds last, a removal moves the last pair into the gap.
+//! It is stored as the list of its pairs, and contracts see that list: a put replaces in place or adds last,
+//! a removal moves the last pair into the gap.
 #![tactic(auto, using(crate::proofs::EntriesLemmas::map_steps))]
 
 ghost use Rattle.std.specs.Prelude.{◌≡◌, ◌+◌, ◌==◌, ◌&&◌, ◌∷◌, [], length, position, slice_get, take, is_some, None, Option, Some};
@@ -20,7 +20,7 @@ use std::alloc::{AllocError, AllocFailed, Global};
 use std::marker::Model;
 use std::mem;
 
-/// What an end keeps of its unsettled deliveries, by tag (2.6.13).
+/// What an endpoint keeps of its unsettled deliveries, by tag (2.6.13).
 ///
 /// A contract sees the list of the pairs, whose tags are distinct.
 #[derive(Debug, Drop)]
@@ -39,7 +39,7 @@ impl<V> Model for UnsettledMap<V> {
 }
 
 impl<V> UnsettledMap<V> {
-    /// No deliveries. Takes no memory.
+    /// No deliveries. Does not allocate.
     pub fn new(alloc: Global) -> Self
         ensures { result ≡ [] }
     {
@@ -63,14 +63,14 @@ impl<V> UnsettledMap<V> {
         self.len() == 0
     }
 
-    /// What is kept of a delivery.
+    /// The entry of a delivery.
     pub fn get(&self, tag: &DeliveryTag) -> Option<&V>
         ensures { option_copied result ≡ entry_at self.now tag.now }
     {
         self.get_by_bytes(tag.as_bytes())
     }
 
-    // What is kept of the delivery whose tag has these bytes.
+    // The entry of the delivery whose tag has these bytes.
     fn get_by_bytes(&self, tag: &[u8]) -> Option<&V>
         ensures { option_copied result ≡ entry_at self.now tag.now }
     {
@@ -93,8 +93,8 @@ impl<V> UnsettledMap<V> {
         self.get_by_bytes(tag).is_some()
     }
 
-    /// Where the delivery stands in the order of the map, and what is kept of it. Does not allocate. Its
-    /// cost grows with the number of deliveries.
+    /// The place of a delivery in the order of the map, and its entry. Does not allocate. Its cost grows with
+    /// the number of deliveries.
     pub fn get_full(&self, tag: &DeliveryTag) -> Option<(usize, &V)>
         ensures found { IfSome result (λ found. slice_get self.now found.0 ≡ Some (tag.now, found.1.now)) }
         ensures missing { IfNone result (entry_at self.now tag.now ≡ None) }
@@ -103,7 +103,7 @@ impl<V> UnsettledMap<V> {
         Some((i, &self.pairs[i].1))
     }
 
-    /// The pair at a place, for a walk in order.
+    /// The pair at a place in the order of the map.
     pub fn pair_at(&self, index: usize) -> Option<(&DeliveryTag, &V)>
         ensures { option_map deref_pair result ≡ slice_get self.now index }
     {
@@ -118,7 +118,7 @@ impl<V> UnsettledMap<V> {
         self.pairs.as_slice()
     }
 
-    /// The pairs in order, given up. Takes no memory.
+    /// The pairs in order, without the map. Does not allocate.
     pub fn into_pairs(self) -> Vec<(DeliveryTag, V)>
         ensures { result.items ≡ self }
     {
@@ -126,7 +126,7 @@ impl<V> UnsettledMap<V> {
         pairs
     }
 
-    /// Takes all deliveries out. Takes no memory.
+    /// Removes all deliveries and returns them. Does not allocate.
     pub fn take_all(&mut self) -> Self
         ensures taken { result ≡ self.old }
         ensures empty { self.new ≡ [] }
@@ -137,10 +137,10 @@ impl<V> UnsettledMap<V> {
         }
     }
 
-    /// Puts a delivery: in the place of the one that is there, which is answered, or last.
+    /// Puts the entry of a delivery: in the place of the one that is there, which is returned, or last.
     ///
-    /// If it is out of memory nothing has changed and both come back; a tag that is there takes
-    /// none.
+    /// If it is out of memory, nothing has changed and both are returned; replacing an entry does not
+    /// allocate.
     pub fn put(
         &mut self,
         tag: DeliveryTag,
@@ -160,7 +160,7 @@ impl<V> UnsettledMap<V> {
         Ok(Some(mem::replace(&mut pair.1, value)))
     }
 
-    /// Takes a delivery out. The last pair moves into the gap. Takes no memory.
+    /// Removes a delivery and returns its entry. The last pair moves into the gap. Does not allocate.
     pub fn remove(&mut self, tag: &DeliveryTag) -> Option<V>
         ensures value { result ≡ entry_at self.old tag.now }
         ensures removed { self.new ≡ without_entry self.old tag.now }
@@ -169,7 +169,7 @@ impl<V> UnsettledMap<V> {
         Some(value)
     }
 
-    /// Takes a delivery out with its tag. The last pair moves into the gap. Takes no memory.
+    /// Removes a delivery and returns it with its tag. The last pair moves into the gap. Does not allocate.
     pub fn remove_entry(&mut self, tag: &DeliveryTag) -> Option<(DeliveryTag, V)>
         ensures entry { result ≡ option_map (λ value. (tag.now, value)) (entry_at self.old tag.now) }
         ensures removed { self.new ≡ without_entry self.old tag.now }
@@ -179,8 +179,8 @@ impl<V> UnsettledMap<V> {
         Some(self.pairs.swap_remove(i))
     }
 
-    /// Sets what is kept of a delivery that is there, and answers what was kept before; where it is
-    /// not there the value comes back. Takes no memory.
+    /// Replaces the entry of a delivery that is there, and returns the one before; if the delivery is not
+    /// there, the value is returned as an error. Does not allocate.
     pub fn replace(&mut self, tag: &DeliveryTag, value: V) -> Result<V, V>
         ensures old { IfOk result (λ old. entry_at self.old tag.now ≡ Some old) }
         ensures put { OnOk result (self.new ≡ with_entry self.old tag.now value) }
@@ -195,8 +195,8 @@ impl<V> UnsettledMap<V> {
         Ok(mem::replace(&mut pair.1, value))
     }
 
-    /// Keeps the first `count` deliveries in their order and drops the others; where there are no
-    /// more than that, it keeps all. Takes no memory.
+    /// Keeps the first `count` deliveries in their order and drops the others; if there are not more than
+    /// that, it keeps all. Does not allocate.
     ///
     /// An attach that does not fit its frame is sent with the first half of its entries.
     pub fn truncate(&mut self, count: usize)
@@ -208,14 +208,14 @@ impl<V> UnsettledMap<V> {
     }
 }
 
-/// What an end keeps of a delivery that is not settled: the state that is known of it stands in it.
+/// What an endpoint keeps of an unsettled delivery, with its state in it.
 pub trait KeepsState {
     ghost use Rattle.amqp_link_types.specs.declared.types.delivery_state.DeliveryState.{DeliveryState};
 
     /// The same with another state, or with none.
     ghost with_state: { Self → Option DeliveryState → Self };
 
-    /// Sets the state that is known of the delivery, or that none is. Takes no memory.
+    /// Sets the state of the delivery, or that none is known. Does not allocate.
     fn set_state(&mut self, state: Option<DeliveryState>)
         ensures { self.new ≡ with_state self.old state };
 }
@@ -237,8 +237,8 @@ impl KeepsState for Option<DeliveryState> {
 }
 
 impl<V: KeepsState> UnsettledMap<V> {
-    /// Sets the state that is known of a delivery, in its place; nothing is entered for one that is
-    /// not there. Takes no memory.
+    /// Sets the state of a delivery, in its place; a delivery that is not there gets no entry. Does not
+    /// allocate.
     pub fn set_state(&mut self, tag: &DeliveryTag, state: Option<DeliveryState>)
         ensures { self.new ≡ changed_at (λ value. V.with_state value state) (tag.now ∷ []) self.old }
     {
@@ -252,9 +252,9 @@ impl<V: KeepsState> UnsettledMap<V> {
 }
 
 impl UnsettledMap<UnsettledMessage> {
-    /// Of each delivery its tag and the state that is known of it, as an attach says it (2.7.3).
+    /// The tag and the state of each delivery, as an attach states them (2.7.3).
     ///
-    /// Refused if it is out of memory.
+    /// Refused only if it is out of memory.
     pub fn states(&self) -> Result<UnsettledMap<Option<DeliveryState>>, AllocError>
         ensures { IfOk result (λ states. states ≡ states_of self.now) }
     {
@@ -279,7 +279,7 @@ fn states_in(
     Ok(states)
 }
 
-// What an attach says of its deliveries is copied whole (2.7.3).
+// The entries of an attach are copied (2.7.3).
 impl Clone for UnsettledMap<Option<DeliveryState>> {
     ghost is_clone = { λ map copy. copy ≡ map };
 
@@ -300,7 +300,7 @@ impl<V: PartialEq> PartialEq for UnsettledMap<V> {
         (on_per (λ e. e.0) (partial_equiv_from_equiv nat_list_eq_equiv))
         (on_per (λ e. e.1) V.laws)) };
 
-    // Two maps are equal where their pairs are, in their order.
+    // Two maps are equal if their pairs are, in their order.
     fn eq(&self, other: &UnsettledMap<V>) -> bool {
         self.pairs() == other.pairs()
     }
@@ -315,7 +315,7 @@ impl<V: Eq> Eq for UnsettledMap<V> {
         (on_equiv (λ e. e.1) V.Eq.laws)) };
 }
 
-// Where the pair stands whose tag has these bytes.
+// The place of the pair whose tag has these bytes.
 fn find<V>(pairs: &[(DeliveryTag, V)], tag: &[u8]) -> Option<usize>
     ensures found { IfSome result (FoundAt pairs.now tag.now) }
     ensures missing { IfNone result (IsMissing pairs.now tag.now) }

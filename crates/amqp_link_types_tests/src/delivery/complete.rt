@@ -1,5 +1,5 @@
-//! What no clause says of complete deliveries: their text, and that each call answers while
-//! there is memory.
+//! What no clause states of complete deliveries: their text, and that each call succeeds while there is
+//! memory.
 use amqp_link_types::delivery::{Delivery, DeliveryInfo};
 use amqp_link_types::types::{DeliveryTag, Message, OutputHandle, ReceiverSettleMode};
 use bytes::Bytes;
@@ -14,7 +14,7 @@ fn info(rt: &(impl Abort + AllocGlobal), id: u32) -> DeliveryInfo {
     )
 }
 
-// A message of two bytes in front, a text and one byte behind.
+// A message of two bytes, a text and one byte after it.
 fn message(rt: &(impl Abort + AllocGlobal), words: &str) -> Message<String> {
     Message {
         preamble: Bytes::copy_from_slice(rt.alloc(), &[1, 2]).expect(rt, "memory"),

@@ -16,7 +16,7 @@ use crate::length::EncodedLen;
 use crate::symbol::Symbol;
 use crate::value::{Descriptor, Value};
 
-/// An unsigned number whose widest code takes `wide` bytes.
+/// The length of an unsigned number whose widest code takes `wide` bytes.
 pub fn unsigned_len(wide: u64, number: u64) -> u64
     ensures { result ≡ unsigned_length wide number }
 {
@@ -29,7 +29,7 @@ pub fn unsigned_len(wide: u64, number: u64) -> u64
     }
 }
 
-// A signed number whose widest code takes `wide` bytes.
+// The length of a signed number whose widest code takes `wide` bytes.
 fn signed_len(wide: u64, number: i64) -> u64
     ensures { result ≡ signed_length wide number }
 {
@@ -40,7 +40,7 @@ fn signed_len(wide: u64, number: i64) -> u64
     }
 }
 
-/// A binary, a text or a symbol of `len` bytes.
+/// The length of a binary, a text or a symbol of `len` bytes.
 pub fn text_len(len: usize) -> Option<u64>
     ensures { IsU64Of (text_length len) result }
 {
@@ -52,7 +52,7 @@ pub fn text_len(len: usize) -> Option<u64>
     }
 }
 
-/// A list that is not empty, or a map, whose parts take `content` bytes.
+/// The length of a list that is not empty, or of a map, whose parts take `content` bytes.
 pub fn compound_len(content: u64) -> Option<u64>
     ensures { IsU64Of (compound_length content) result }
 {
@@ -63,14 +63,14 @@ pub fn compound_len(content: u64) -> Option<u64>
     }
 }
 
-// Whether a size of one byte serves each.
+// Whether a size of one byte is enough for each name.
 fn are_short(names: &[Symbol]) -> bool
     ensures { result ≡ list_all (λ s. nat_le (length s) 255) names.now }
 {
     names.iter().all(|name| name.as_str().len() <= 255)
 }
 
-// The names one after the other, each behind its size of `each` bytes.
+// The length of the names, each with a size of `each` bytes in front.
 fn total_len(names: &[Symbol], each: u64) -> Option<u64>
     requires { each ≤ 4 }
     ensures { IsU64Of (sum_by (λ s. each + length s) names.now) result }
@@ -94,7 +94,7 @@ fn elements_len(names: &[Symbol]) -> Option<u64>
     }
 }
 
-// An array of `count` elements that take `content` bytes.
+// The length of an array of `count` elements that take `content` bytes.
 fn counted_len(count: usize, content: u64) -> Option<u64>
     ensures { IsU64Of (counted_length count content) result }
 {
@@ -105,14 +105,14 @@ fn counted_len(count: usize, content: u64) -> Option<u64>
     }
 }
 
-/// An array of symbols.
+/// The length of an array of symbols.
 pub fn array_len(names: &[Symbol]) -> Option<u64>
     ensures { IsU64Of (array_length names.now) result }
 {
     counted_len(names.len(), elements_len(names)?)
 }
 
-// What stands before a described value, after its mark.
+// The length of the descriptor of a described value.
 fn descriptor_len(descriptor: &Descriptor) -> Option<u64>
     ensures { IsU64Of (descriptor_length descriptor.now) result }
 {
@@ -160,7 +160,7 @@ fn value_len(value: &Value) -> Option<u64>
     }
 }
 
-// One without items has a code of its own.
+// A list without items has a code of its own.
 #[cycle(encoded_len)]
 fn list_len(items: &Vec<Value>) -> Option<u64>
     ensures { IsU64Of (length_of (list (items_view items.now.items))) result }
@@ -176,7 +176,7 @@ fn list_len(items: &Vec<Value>) -> Option<u64>
     }
 }
 
-// Unlike a list, a map without pairs has its size and count.
+// Unlike an empty list, an empty map has a size and a count.
 #[cycle(encoded_len)]
 fn map_len(pairs: &Vec<(Value, Value)>) -> Option<u64>
     ensures { IsU64Of (length_of (map (pairs_view pairs.now.items))) result }

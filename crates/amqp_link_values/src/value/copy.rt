@@ -1,4 +1,4 @@
-//! `clone`, written out since a derived one says nothing of a type that holds itself.
+//! `clone` of values, written by hand, since a derived one has no contract for a type that contains itself.
 ghost use Rattle.std.specs.Prelude.{◌≡◌, IfOk};
 ghost use Rattle.amqp_link_values.specs.View.{view, items_view, pairs_view};
 

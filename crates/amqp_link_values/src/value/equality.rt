@@ -1,4 +1,4 @@
-//! `==` of values, which goes by their data.
+//! `==` of values, which compares their data.
 ghost use Rattle.std.specs.Prelude.{◌≡◌, ◌↔◌, IsTrue};
 ghost use Rattle.std.specs.Cmp.{partial_equiv_from_equiv};
 ghost use Rattle.amqp_link_values.specs.Same.{same_data, same_items, same_pairs, same_kind};

@@ -1,4 +1,4 @@
-//! Whole runs over readers and writers in memory: what no clause says of them.
+//! Whole runs over readers and writers in memory: what no clause states.
 use super::run_script;
 use std::alloc::Global;
 use std::io;

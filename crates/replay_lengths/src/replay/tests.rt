@@ -1,11 +1,11 @@
-//! Replays over readers and writers in memory: what no clause says of them.
+//! Replays over readers and writers in memory: what no clause states.
 use super::replay;
 use std::alloc::Global;
 use std::io;
 use std::io::{BufRead, ErrorKind, Read, Write};
 use std::process::Abort;
 
-// What is told where there are no rows.
+// The output if there are no rows.
 const NO_ROWS: &str = "value 0 of 0 agree\nreceived 0 of 0 agree\nmodified 0 of 0 agree\n\
     rejected 0 of 0 agree\nerror 0 of 0 agree\nsource 0 of 0 agree\ntarget 0 of 0 agree\n\
     transfer 0 of 0 agree\nattach 0 of 0 agree\n";

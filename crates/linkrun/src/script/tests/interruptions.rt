@@ -1,7 +1,8 @@
 //! Runs with interruptions: what becomes of a delivery that is cut, resumed, handed out and settled.
 use super::expect_output;
 use crate::answer::Answer;
-use amqp_link::{DeliveryState, Fate, LinkStateError};
+use amqp_link::errors::LinkStateError;
+use amqp_link::{DeliveryState, Fate};
 use std::test::Fail;
 
 #[test]
@@ -33,16 +34,27 @@ fn an_interrupted_delivery_ends_settled(rt: HostRuntime) {
 
 #[test]
 fn a_delivery_is_resumed_where_it_was_cut(rt: HostRuntime) {
-    let table = [(
-        "cut twice, complete, cut again, and settled after its last transfer has come once more",
-        "attach 30\ngrant 1\n\
+    let table = [
+        (
+            "cut once, resumed, handed out and settled",
+            "attach 30\ngrant 1\nsend 0102030405060708090a0b0c\narrive 7\ncut\nattach 45\n\
+                attach 46\nresume\narrive 8\nshow 00000000\nhandout 00000000\n\
+                settle 00000000\nfate 0\nfate 1\nshow 00000000\n",
+            "attached 0\ncredit 1\nsent 00000000 3\nheld 00000000 0 5\ncut\n\
+                refused LimitTooSmall\nattached 1\nresumed 00000000 1\nwhole 00000000 0 12\n\
+                joined 0102030405060708090a0b0c\ndelivery 00000000 0102030405060708090a0b0c\n\
+                settled 00000000\nhanded-out\nresolved accepted\nunknown\n",
+        ),
+        (
+            "cut twice, complete, cut again, and settled after its last transfer has come once more",
+            "attach 30\ngrant 1\n\
                 send 005370c00053774101010101010101010101010101010101010101010101\
                 010101010101010101010101010101010101010101010101010101010101\n\
                 arrive 7\ncut\nattach 45\nattach 46\nresume\narrive 8\ncut\nattach 47\nresume\n\
                 arrive 9\narrive 0\nshow 00000000\nfate 0\nfate 1\nfate 2\nfate 3\ncut\n\
                 attach 47\nresume\nsettle 00000000\narrive 10\nshow 00000000\nsettle 00000000\n\
                 settle 00000000\nshow 00000000\nfate 0\nfate 1\nfate 2\nfate 3\nfate 4\n",
-        "attached 0\ncredit 1\nsent 00000000 12\nheld 00000000 0 5\ncut\n\
+            "attached 0\ncredit 1\nsent 00000000 12\nheld 00000000 0 5\ncut\n\
                 refused LimitTooSmall\nattached 1\nresumed 00000000 4\nheld 00000000 1 19\ncut\n\
                 attached 1\nresumed 00000000 2\nheld 00000000 1 38\nwhole 00000000 1 56\n\
                 joined 005370c00053774101010101010101010101010101010101010101010101\
@@ -53,7 +65,8 @@ fn a_delivery_is_resumed_where_it_was_cut(rt: HostRuntime) {
                 010101010101010101010101010101010101010101010101010101010101\n\
                 settled 00000000\nrefused UnknownTag\nunknown\nhanded-out\nhanded-out\n\
                 handed-out\nresolved accepted\nunknown\n",
-    )];
+        ),
+    ];
     expect_output(&rt, rt.alloc(), table.as_slice());
 }
 

@@ -7,7 +7,7 @@ use Rattle.amqp_link_worlds.specs.Worlds.{is_together}
 use Rattle.amqp_link_worlds.specs.declared.error.PairError.TheVariants.{OutOfMemory}
 use Rattle.amqp_link_worlds.proofs.WorldLemmas.{Good-from_world}
 use Rattle.amqp_link_worlds.specs.Before.{before_decoding}
-use Rattle.amqp_link_pair.specs.HandingOut.{delivery_tests}
+use Rattle.amqp_link_pair.specs.HandingOut.{handing_out_tests}
 use Rattle.amqp_link_pair.specs.PairViews.{world_of}
 use Rattle.amqp_link_pair.proofs.HandOutLemmas.{answers_same, can_take, credit_tests_are, hands_out, left_by_hand_out, marks_after, outcome_of, tests_are, with_kept, world_after}
 use Rattle.amqp_link_pair.proofs.StepLemmas.{IsEnds-together}
@@ -40,7 +40,7 @@ returns-clause-refused g c =
     let w = world_of c.self.inside in
     let on : is_together (world_of c.self.inside).phase ≡ true = search rules in
     subst (λ v. AnswersOrOutOfMemory OutOfMemory c.hand_out.result (hand_out_tests g.B.FromBody.decoded v c.args.tag.now)) c.self.view_is
-    (answers_same c.hand_out.result (delivery_tests g.B.FromBody.decoded (entry_at c.self.inside.deliveries c.args.tag.now) w.receiver) (hand_out_tests g.B.FromBody.decoded w c.args.tag.now)
+    (answers_same c.hand_out.result (handing_out_tests g.B.FromBody.decoded (entry_at c.self.inside.deliveries c.args.tag.now) w.receiver) (hand_out_tests g.B.FromBody.decoded w c.args.tag.now)
     (tests_are g.B.FromBody.decoded w c.self.inside.deliveries c.args.tag.now refl on) c.hand_out.ensures.refused)
 
 pub returns-clause-memory : goal.returns-clause-memory

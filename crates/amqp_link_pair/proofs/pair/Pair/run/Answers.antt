@@ -2,7 +2,7 @@ use Rattle.std.proofs.Common.{sym, ap, ◌∙◌, subst, true, false, [], ◌∷
 use Rattle.std.proofs.lemmas.List.{append-nil}
 use Rattle.amqp_link_payloads.specs.Bodies.{whole_message}
 use Rattle.amqp_link_worlds.specs.PairRuns.{RunsEvents}
-use Rattle.amqp_link_worlds.proofs.RunLemmas.{held_is_what_arrived, MovesOnce-run}
+use Rattle.amqp_link_worlds.proofs.RunLemmas.{FatesMoveOnce-run, held_is_what_arrived, MovesOnce-run}
 use Rattle.amqp_link_pair.proofs.RunLemmas.{all_done, goes_on, stops_after, stops_before}
 use Rattle.amqp_link_pair.proofs.pair.Pair.run.Goals as goal
 
@@ -17,6 +17,9 @@ returns-then-is_err-clause-run c =
 pub returns-then-is_err-clause-arrived : goal.returns-then-is_err-clause-arrived
 returns-then-is_err-clause-arrived c = λ run. held_is_what_arrived whole_message c.args.self.now c.loop-event.self run.moments c.global.ensures run.steps
 
+pub returns-then-is_err-clause-made : goal.returns-then-is_err-clause-made
+returns-then-is_err-clause-made c = λ run. FatesMoveOnce-run whole_message c.args.self.now c.loop-event.self run.moments run.steps
+
 pub returns-then-is_err-clause-fates : goal.returns-then-is_err-clause-fates
 returns-then-is_err-clause-fates c =
     let run = returns-then-is_err-clause-run c in
@@ -30,10 +33,13 @@ returns-then-stops-clause-run c =
     (ap (λ l. l ++ c.answer_to-answer.result ∷ []) (sym c.reserve.ensures.items) ∙ sym c.push_reserved.ensures.items)
     (c.loop-event.invariant.goes_on (c.answer_to-answer.result ∷ []) false c.answer_to-answer.new.self
     (stops_after c.args.events.now c.loop-event.event-index c.loop-event.self c.event-item.result c.loop-event-test.true c.event-item.is
-    c.answer_to-answer.result c.answer_to-answer.new.self c.answer_to-answer.ensures.step (sym c.is_out_of_memory-stops.ensures ∙ c.if-stops.true)))
+    c.answer_to-answer.result c.answer_to-answer.new.self c.answer_to-answer.ensures.step (sym c.is_answer_out_of_memory-stops.ensures ∙ c.if-stops.true)))
 
 pub returns-then-stops-clause-arrived : goal.returns-then-stops-clause-arrived
 returns-then-stops-clause-arrived c = λ run. held_is_what_arrived whole_message c.args.self.now c.answer_to-answer.new.self run.moments c.global.ensures run.steps
+
+pub returns-then-stops-clause-made : goal.returns-then-stops-clause-made
+returns-then-stops-clause-made c = λ run. FatesMoveOnce-run whole_message c.args.self.now c.answer_to-answer.new.self run.moments run.steps
 
 pub returns-then-stops-clause-fates : goal.returns-then-stops-clause-fates
 returns-then-stops-clause-fates c =
@@ -50,7 +56,7 @@ loop-event-preserved c = record {
       ∙ ap (λ l. l ++ later) (ap (λ l. l ++ c.answer_to-answer.result ∷ []) (sym c.reserve.ensures.items) ∙ sym c.push_reserved.ensures.items))
       (c.loop-event.invariant.goes_on (c.answer_to-answer.result ∷ later) finished new
       (goes_on c.args.events.now c.loop-event.event-index c.loop-event.self c.event-item.result c.loop-event-test.true c.event-item.is
-      c.answer_to-answer.result c.answer_to-answer.new.self c.answer_to-answer.ensures.step later finished new (sym c.is_out_of_memory-stops.ensures ∙ c.if-stops.false) run));
+      c.answer_to-answer.result c.answer_to-answer.new.self c.answer_to-answer.ensures.step later finished new (sym c.is_answer_out_of_memory-stops.ensures ∙ c.if-stops.false) run));
   kept = c.answer_to-answer.ensures.kept;
 }
 
@@ -63,6 +69,9 @@ returns-clause-run c =
 
 pub returns-clause-arrived : goal.returns-clause-arrived
 returns-clause-arrived c = λ run. held_is_what_arrived whole_message c.args.self.now c.loop-event.self run.moments c.global.ensures run.steps
+
+pub returns-clause-made : goal.returns-clause-made
+returns-clause-made c = λ run. FatesMoveOnce-run whole_message c.args.self.now c.loop-event.self run.moments run.steps
 
 pub returns-clause-fates : goal.returns-clause-fates
 returns-clause-fates c =

@@ -1,0 +1,341 @@
+//! A receiver.
+use super::{Said, Told, all_said, error, said, told_by_state};
+use crate::samples::{count_tag, parts};
+use amqp_link_core::endpoint::LinkExt;
+use amqp_link_receiver::receiver_link::ReceiverLink;
+use amqp_link_types::delivery::DeliveryInfo;
+use amqp_link_types::frame::LinkFrame;
+use amqp_link_types::types::{
+    DeliveryState, Detach, Error, Handle, LinkRelayError, OutputHandle, ReceiverSettleMode,
+    SenderSettleMode, Target,
+};
+use std::process::Abort;
+
+// A receiver in mode `First` with so many entries, whose tags are 00000000 and on, as received up to their
+// beginning.
+pub(super) fn link(rt: &(impl Abort + AllocGlobal), kept: u8) -> ReceiverLink<Target> {
+    let mut link = ReceiverLink::new(rt.alloc(), parts(rt, SenderSettleMode::Mixed, 512));
+    for count in 0..kept {
+        let tag = count_tag(rt, count);
+        drop(link.on_incomplete_transfer(&tag, 0, 0));
+        drop(tag);
+    }
+    link
+}
+
+pub(super) type Listed = (u32, u8, Option<ReceiverSettleMode>);
+
+pub(super) fn listed<const N: usize>(
+    rt: &(impl Abort + AllocGlobal),
+    listed: [Listed; N],
+) -> Vec<DeliveryInfo> {
+    let mut infos = Vec::new(rt.alloc());
+    for (id, count, mode) in listed {
+        let info = DeliveryInfo::new(id, count_tag(rt, count), mode);
+        infos.push(info).expect(rt, "memory");
+    }
+    infos
+}
+
+// What is known of the delivery of a count.
+pub(super) fn known(
+    rt: &(impl Abort + AllocGlobal),
+    link: &ReceiverLink<Target>,
+    count: u8,
+) -> Told {
+    let tag = count_tag(rt, count);
+    let told = match link.unsettled().get(&tag) {
+        Some(state) => told_by_state(state),
+        None => Told::Absent,
+    };
+    drop(tag);
+    told
+}
+
+// The fields of the frames of a call that succeeded.
+pub(super) fn frames_of<E: Drop>(answer: Result<Vec<LinkFrame>, E>) -> Option<(usize, [Said; 4])> {
+    let Ok(frames) = answer else {
+        return None;
+    };
+    let told = all_said(frames.as_slice());
+    drop(frames);
+    Some(told)
+}
+
+// The dispositions of these deliveries, accepted; which tags are kept then, up to three, in order; and what
+// is known of the first three.
+type Answer = (Option<(usize, [Said; 4])>, [Option<u8>; 3], [Told; 3]);
+
+fn all_accepted<const N: usize>(
+    rt: &(impl Abort + AllocGlobal),
+    kept: u8,
+    settled: Option<bool>,
+    infos: [Listed; N],
+) -> Answer {
+    let mut link = link(rt, kept);
+    let infos = listed(rt, infos);
+    let said = frames_of(link.dispose_all(&infos, settled, DeliveryState::Accepted, false));
+    let tags = [tag_at(&link, 0), tag_at(&link, 1), tag_at(&link, 2)];
+    let told = [
+        known(rt, &link, 0),
+        known(rt, &link, 1),
+        known(rt, &link, 2),
+    ];
+    drop(infos);
+    drop(link);
+    (said, tags, told)
+}
+
+// The last byte of the tag at this place.
+pub(super) fn tag_at(link: &ReceiverLink<Target>, index: usize) -> Option<u8> {
+    let (tag, _) = link.unsettled().pair_at(index)?;
+    tag.as_bytes().last().copied()
+}
+
+pub(super) const SECOND: Option<ReceiverSettleMode> = Some(ReceiverSettleMode::Second);
+
+#[test]
+fn dispositions_break_where_modes_differ(rt: HostRuntime) {
+    let infos = [(0, 0, None), (1, 1, SECOND), (2, 2, SECOND)];
+    let (said, tags, told) = all_accepted(&rt, 3, None, infos);
+    let frames = [
+        Some((0, Some(0), true)),
+        Some((1, Some(2), false)),
+        None,
+        None,
+    ];
+    assert_eq!(rt; said, Some((2, frames)));
+    assert_eq!(rt;
+        tags,
+        [Some(2), Some(1), None],
+        "the last moves into the gap"
+    );
+    assert_eq!(rt; told, [Told::Absent, Told::Accepted, Told::Accepted]);
+}
+
+#[test]
+fn dispositions_name_runs(rt: HostRuntime) {
+    let mode = None;
+    let infos = [
+        (11, 8, mode),
+        (0, 0, mode),
+        (1, 1, mode),
+        (2, 2, mode),
+        (3, 3, mode),
+        (5, 4, mode),
+        (6, 5, mode),
+        (8, 6, mode),
+        (9, 7, mode),
+    ];
+    let (said, tags, _) = all_accepted(&rt, 9, Some(true), infos);
+    let frames = [
+        Some((0, Some(3), true)),
+        Some((5, Some(6), true)),
+        Some((8, Some(9), true)),
+        Some((11, Some(11), true)),
+    ];
+    assert_eq!(rt; said, Some((4, frames)));
+    assert_eq!(rt; tags, [None, None, None]);
+}
+
+#[test]
+fn long_batch_is_named_in_order(rt: HostRuntime) {
+    let infos = [
+        (25, 0, None),
+        (24, 1, None),
+        (23, 2, None),
+        (22, 3, None),
+        (21, 4, None),
+        (20, 5, None),
+        (19, 6, None),
+        (18, 7, None),
+        (17, 8, None),
+        (16, 9, None),
+        (15, 10, None),
+        (14, 11, None),
+        (13, 12, None),
+        (12, 13, None),
+        (11, 14, None),
+        (10, 15, None),
+        (9, 16, None),
+        (8, 17, None),
+        (7, 18, None),
+        (6, 19, None),
+        (5, 20, None),
+        (4, 21, None),
+        (3, 22, None),
+        (2, 23, None),
+        (1, 24, None),
+        (13, 25, None),
+    ];
+    let (said, tags, _) = all_accepted(&rt, 26, Some(true), infos);
+    let frames = [
+        Some((1, Some(13), true)),
+        Some((13, Some(25), true)),
+        None,
+        None,
+    ];
+    assert_eq!(rt; said, Some((2, frames)), "the number 13 is listed twice");
+    assert_eq!(rt; tags, [None, None, None], "all of them are settled");
+}
+
+#[test]
+fn ends_of_the_numbers_are_no_run(rt: HostRuntime) {
+    let last = u32::MAX;
+    let infos = [(last, 0, None), (0, 1, None), (last - 1, 2, None)];
+    let (said, _, _) = all_accepted(&rt, 3, Some(false), infos);
+    let frames = [
+        Some((0, Some(0), false)),
+        Some((last - 1, Some(last), false)),
+        None,
+        None,
+    ];
+    assert_eq!(rt; said, Some((2, frames)));
+}
+
+#[test]
+fn nothing_is_said_of_what_is_not_kept(rt: HostRuntime) {
+    let (said, tags, told) = all_accepted(&rt, 1, None, [(4, 9, None), (4, 0, SECOND)]);
+    assert_eq!(rt;
+        said,
+        Some((1, [Some((4, Some(4), false)), None, None, None]))
+    );
+    assert_eq!(rt; tags, [Some(0), None, None]);
+    assert_eq!(rt; told, [Told::Accepted, Told::Absent, Told::Absent]);
+    let (said, tags, _) = all_accepted(&rt, 1, None, []);
+    assert_eq!(rt;
+        said,
+        Some((0, [None, None, None, None])),
+        "nothing is listed"
+    );
+    assert_eq!(rt; tags, [Some(0), None, None]);
+}
+
+#[test]
+fn settled_delivery_does_not_come_back(rt: HostRuntime) {
+    let infos = [(1, 0, None), (2, 0, SECOND), (2, 0, SECOND)];
+    let (said, tags, _) = all_accepted(&rt, 1, None, infos);
+    let frames = [
+        Some((1, Some(1), true)),
+        Some((2, Some(2), false)),
+        Some((2, Some(2), false)),
+        None,
+    ];
+    assert_eq!(rt;
+        said,
+        Some((3, frames)),
+        "each number as often as it is listed"
+    );
+    assert_eq!(rt; tags, [None, None, None]);
+}
+
+// The disposition of one delivery, released, and what is known of it then.
+fn released(
+    rt: &(impl Abort + AllocGlobal),
+    settled: Option<bool>,
+    infos: [Listed; 1],
+) -> (Option<Said>, Told) {
+    let mut link = link(rt, 1);
+    let infos = listed(rt, infos);
+    let told = infos.first().map(|info| {
+        let answer = link.dispose(info, settled, DeliveryState::Released, false);
+        answer.ok().map(|frame| said(frame.as_ref()))
+    });
+    let after = known(rt, &link, 0);
+    drop(infos);
+    drop(link);
+    (told.flatten(), after)
+}
+
+#[test]
+fn one_is_settled_by_flag_or_mode(rt: HostRuntime) {
+    let told = released(&rt, None, [(7, 0, None)]);
+    assert_eq!(rt;
+        told,
+        (Some(Some((7, None, true))), Told::Absent),
+        "the link's mode"
+    );
+    let told = released(&rt, None, [(7, 0, SECOND)]);
+    assert_eq!(rt; told, (Some(Some((7, None, false))), Told::Released));
+    let told = released(&rt, Some(true), [(7, 0, SECOND)]);
+    assert_eq!(rt; told, (Some(Some((7, None, true))), Told::Absent));
+    let told = released(&rt, None, [(7, 5, None)]);
+    assert_eq!(rt;
+        told,
+        (Some(None), Told::Received(0, 0)),
+        "a tag that is not kept"
+    );
+}
+
+// The result of the sender's disposition, and what is known then.
+fn told_back(
+    rt: &(impl Abort + AllocGlobal),
+    settled: bool,
+    state: Option<DeliveryState>,
+) -> (bool, Told) {
+    let mut link = link(rt, 1);
+    let tag = count_tag(rt, 0);
+    let echo = link.on_incoming_disposition(settled, state, &tag);
+    let after = known(rt, &link, 0);
+    drop(tag);
+    drop(link);
+    (echo, after)
+}
+
+#[test]
+fn dispositions_that_come_are_never_answered(rt: HostRuntime) {
+    let told = told_back(&rt, true, Some(DeliveryState::Accepted));
+    assert_eq!(rt; told, (false, Told::Absent));
+    let told = told_back(&rt, false, Some(DeliveryState::Accepted));
+    assert_eq!(rt;
+        told,
+        (false, Told::Accepted),
+        "a terminal state alone ends nothing"
+    );
+    assert_eq!(rt; told_back(&rt, false, None), (false, Told::NoState));
+}
+
+#[test]
+fn disposition_of_an_unknown_tag_enters_nothing(rt: HostRuntime) {
+    let mut link = link(&rt, 1);
+    let tag = count_tag(&rt, 9);
+    let echo = link.on_incoming_disposition(false, Some(DeliveryState::Accepted), &tag);
+    let kept = link.unsettled().len();
+    drop(tag);
+    drop(link);
+    assert_eq!(rt; (echo, kept), (false, 1));
+}
+
+// The reply to a detach: the handle, whether it closes and whether there is an error.
+fn detached(
+    link: &ReceiverLink<Target>,
+    error: Option<Error>,
+    remote_initiated: bool,
+) -> Result<Option<(u32, bool, bool)>, LinkRelayError> {
+    let detach = Detach {
+        handle: Handle(7),
+        closed: true,
+        error,
+    };
+    let reply = link.on_incoming_detach(&detach, remote_initiated);
+    drop(detach);
+    let reply = reply?;
+    let said = reply.as_ref().map(|reply| (reply.handle.0, reply.closed, reply.error.is_some()));
+    drop(reply);
+    Ok(said)
+}
+
+#[test]
+fn detach_is_answered_at_the_own_handle(rt: HostRuntime) {
+    let link = link(&rt, 1);
+    let unattached = detached(&link, None, true);
+    let own = detached(&link, None, false);
+    let link = link.with_output_handle(OutputHandle(3));
+    let answered = detached(&link, None, true);
+    let with_error = detached(&link, Some(error(&rt)), true);
+    drop(link);
+    assert_eq!(rt; unattached, Err(LinkRelayError::UnattachedHandle));
+    assert_eq!(rt; own, Ok(None));
+    assert_eq!(rt; answered, Ok(Some((3, true, false))));
+    assert_eq!(rt; with_error, Ok(Some((3, true, true))));
+}

@@ -1,0 +1,443 @@
+//! A sender.
+use super::{Said, Told, all_said, error, told_by, told_by_state};
+use crate::samples::{attach_of, count_tag, parts};
+use amqp_link_core::endpoint::{LinkAttach, LinkExt};
+use amqp_link_sender::sender_link::{DispositionAnswer, SenderLink, Waiting};
+use amqp_link_types::delivery::Outcomes;
+use amqp_link_types::frame::LinkFrame;
+use amqp_link_types::types::{
+    DeliveryNumber, DeliveryState, DeliveryTag, Detach, Error, Handle, LinkFlow, LinkRelayError,
+    OutputHandle, Payload, ReceiverSettleMode, Role, SenderSettleMode, Target,
+};
+use std::process::Abort;
+
+// A sender at output handle 0 in this mode, at a receiver in that one, with so many pending
+// deliveries, whose tags are 00000000 and on.
+fn link(
+    rt: &(impl Abort + AllocGlobal),
+    mode: SenderSettleMode,
+    receiver: ReceiverSettleMode,
+    pending: u32,
+) -> SenderLink<Target> {
+    let link = SenderLink::new(rt.alloc(), parts(rt, mode, 512));
+    let mut link = link.with_output_handle(OutputHandle(0));
+    drop(link.send_attach(false));
+    let mut attach = attach_of(rt, Role::Receiver, mode);
+    attach.rcv_settle_mode = receiver;
+    drop(link.on_incoming_attach(attach));
+    drop(link.on_incoming_flow(LinkFlow {
+        link_credit: Some(pending),
+        ..LinkFlow::default()
+    }));
+    let payload = Payload::copy_from_slice(rt.alloc(), &[7]).expect(rt, "memory");
+    for _ in 0..pending {
+        drop(link.send_payload(Waiting::Nothing, &payload, 0, None, None, false));
+    }
+    drop(payload);
+    link
+}
+
+pub(super) fn mixed(rt: &(impl Abort + AllocGlobal), pending: u32) -> SenderLink<Target> {
+    link(
+        rt,
+        SenderSettleMode::Mixed,
+        ReceiverSettleMode::First,
+        pending,
+    )
+}
+
+// These numbers, each with the tag of a count.
+pub(super) fn listed<const N: usize>(
+    rt: &(impl Abort + AllocGlobal),
+    pairs: [(DeliveryNumber, u8); N],
+) -> Vec<(DeliveryNumber, DeliveryTag)> {
+    let mut listed = Vec::new(rt.alloc());
+    for (id, count) in pairs {
+        listed.push((id, count_tag(rt, count))).expect(rt, "memory");
+    }
+    listed
+}
+
+// Frames and outcomes: the frames, how many outcomes there are, and the first three.
+pub(super) type Answer = (usize, [Said; 4], usize, [Told; 3]);
+
+fn answer_of(frames: &[LinkFrame], outcomes: &Outcomes) -> Answer {
+    let (count, said) = all_said(frames);
+    let outcomes = outcomes.as_slice();
+    let told = [
+        told_by(outcomes.first()),
+        told_by(outcomes.get(1)),
+        told_by(outcomes.get(2)),
+    ];
+    (count, said, outcomes.len(), told)
+}
+
+// The result of a call that succeeded.
+pub(super) fn told_of<E: Drop>(answer: Result<(Vec<LinkFrame>, Outcomes), E>) -> Option<Answer> {
+    let Ok((frames, outcomes)) = answer else {
+        return None;
+    };
+    let told = answer_of(frames.as_slice(), &outcomes);
+    drop(frames);
+    drop(outcomes);
+    Some(told)
+}
+
+const NONE: [Told; 3] = [Told::Absent, Told::Absent, Told::Absent];
+
+// What is known of the delivery of a count, and how many are pending.
+pub(super) fn known(
+    rt: &(impl Abort + AllocGlobal),
+    link: &SenderLink<Target>,
+    count: u8,
+) -> (usize, Told) {
+    let tag = count_tag(rt, count);
+    let told = match link.unsettled().get(&tag) {
+        Some(message) => told_by_state(&message.state),
+        None => Told::Absent,
+    };
+    drop(tag);
+    (link.unsettled().len(), told)
+}
+
+#[test]
+fn stored_state_is_the_outcome(rt: HostRuntime) {
+    let mut link = mixed(&rt, 1);
+    let tag = count_tag(&rt, 0);
+    let set = told_of(link.dispose(9, &tag, false, DeliveryState::Accepted, false));
+    let between = known(&rt, &link, 0);
+    let settled = told_of(link.dispose(9, &tag, true, DeliveryState::Released, false));
+    let unknown = told_of(link.dispose(9, &tag, true, DeliveryState::Released, false));
+    let after = known(&rt, &link, 0);
+    drop(tag);
+    drop(link);
+    let alone = |settled| [Some((9, None, settled)), None, None, None];
+    assert_eq!(rt; set, Some((1, alone(false), 0, NONE)));
+    assert_eq!(rt; between, (1, Told::Accepted));
+    let accepted = [Told::Accepted, Told::Absent, Told::Absent];
+    assert_eq!(rt; settled, Some((1, alone(true), 1, accepted)));
+    assert_eq!(rt;
+        unknown,
+        Some((1, alone(true), 0, NONE)),
+        "a tag that is not kept"
+    );
+    assert_eq!(rt; after, (0, Told::Absent));
+}
+
+// The last bytes of the tags of outcomes, in order.
+fn tags_of(rt: &(impl Abort + AllocGlobal), outcomes: &Outcomes) -> Vec<u8> {
+    let mut tags = Vec::new(rt.alloc());
+    for (tag, _) in outcomes.as_slice() {
+        let last = tag.as_bytes().last().copied().unwrap_or(0);
+        tags.push(last).expect(rt, "memory");
+    }
+    tags
+}
+
+#[test]
+fn long_batch_ends_in_order(rt: HostRuntime) {
+    let mut link = mixed(&rt, 26);
+    let pairs = listed(
+        &rt,
+        [
+            (25, 0),
+            (24, 1),
+            (23, 2),
+            (22, 3),
+            (21, 4),
+            (20, 5),
+            (19, 6),
+            (18, 7),
+            (17, 8),
+            (16, 9),
+            (15, 10),
+            (14, 11),
+            (13, 12),
+            (12, 13),
+            (11, 14),
+            (10, 15),
+            (9, 16),
+            (8, 17),
+            (7, 18),
+            (6, 19),
+            (5, 20),
+            (4, 21),
+            (3, 22),
+            (2, 23),
+            (1, 24),
+            (13, 25),
+        ],
+    );
+    let answer = link.batch_dispose(&pairs, true, DeliveryState::Accepted, false);
+    let (frames, outcomes) = answer.expect(&rt, "memory");
+    let (count, said) = all_said(frames.as_slice());
+    let tags = tags_of(&rt, &outcomes);
+    assert_eq!(rt; link.unsettled().len(), 0);
+    drop(pairs);
+    drop(link);
+    drop(frames);
+    drop(outcomes);
+    assert_eq!(rt; count, 2, "the number 13 is listed twice");
+    let runs = [
+        Some((1, Some(13), true)),
+        Some((13, Some(25), true)),
+        None,
+        None,
+    ];
+    assert_eq!(rt; said, runs);
+    let in_order = [
+        24, 23, 22, 21, 20, 19, 18, 17, 16, 15, 14, 13, 12, 25, 11, 10, 9, 8, 7, 6, 5, 4, 3, 2, 1,
+        0,
+    ];
+    assert_eq!(rt;
+        tags.as_slice(),
+        in_order.as_slice(),
+        "of one number as they are listed"
+    );
+}
+
+#[test]
+fn mode_settled_says_nothing(rt: HostRuntime) {
+    let mut link = link(&rt, SenderSettleMode::Settled, ReceiverSettleMode::First, 2);
+    let pairs = listed(&rt, [(1, 0), (2, 1)]);
+    let batch = told_of(link.batch_dispose(&pairs, true, DeliveryState::Accepted, false));
+    let one = told_of(link.dispose(1, &count_tag(&rt, 0), true, DeliveryState::Accepted, false));
+    drop(pairs);
+    drop(link);
+    let nothing = Some((0, [None, None, None, None], 0, NONE));
+    assert_eq!(rt; batch, nothing);
+    assert_eq!(rt; one, nothing);
+}
+
+// The dispositions of a sender without pending deliveries for these ids.
+fn batch<const N: usize>(
+    rt: &(impl Abort + AllocGlobal),
+    pairs: [(DeliveryNumber, u8); N],
+) -> Option<(usize, [Said; 4])> {
+    let mut link = mixed(rt, 0);
+    let pairs = listed(rt, pairs);
+    let told = told_of(link.batch_dispose(&pairs, true, DeliveryState::Accepted, false));
+    drop(pairs);
+    drop(link);
+    let (count, said, _, _) = told?;
+    Some((count, said))
+}
+
+#[test]
+fn dispositions_name_runs(rt: HostRuntime) {
+    let runs = batch(&rt, [(1, 0), (2, 1), (3, 2), (5, 3)]);
+    let one_to_three = Some((1, Some(3), true));
+    assert_eq!(rt;
+        runs,
+        Some((2, [one_to_three, Some((5, None, true)), None, None]))
+    );
+    let runs = batch(&rt, [(1, 0), (1, 1), (2, 2)]);
+    let said = [Some((1, None, true)), Some((1, Some(2), true)), None, None];
+    assert_eq!(rt; runs, Some((2, said)), "equal ids");
+    let last = u32::MAX;
+    let runs = batch(&rt, [(last, 0), (0, 1), (last - 1, 2)]);
+    let said = [
+        Some((0, None, true)),
+        Some((last - 1, Some(last), true)),
+        None,
+        None,
+    ];
+    assert_eq!(rt; runs, Some((2, said)), "the ends of the numbers");
+    assert_eq!(rt; batch(&rt, []), Some((0, [None, None, None, None])));
+}
+
+#[test]
+fn outcomes_come_by_number_and_once(rt: HostRuntime) {
+    let mut link = mixed(&rt, 3);
+    let tag = count_tag(&rt, 2);
+    drop(link.dispose(8, &tag, false, DeliveryState::Released, false));
+    drop(tag);
+    // the third by the smallest id, the first twice, and one that is not pending
+    let pairs = listed(&rt, [(6, 0), (5, 2), (7, 0), (8, 9)]);
+    let told = told_of(link.batch_dispose(&pairs, true, DeliveryState::Accepted, false));
+    let left = known(&rt, &link, 1);
+    drop(pairs);
+    drop(link);
+    let ended = [Told::Released, Told::NoState, Told::Absent];
+    assert_eq!(rt;
+        told,
+        Some((1, [Some((5, Some(8), true)), None, None, None], 2, ended))
+    );
+    assert_eq!(rt; left, (1, Told::NoState));
+}
+
+#[test]
+fn states_are_set_of_those_that_are_kept(rt: HostRuntime) {
+    let mut link = mixed(&rt, 2);
+    let pairs = listed(&rt, [(1, 1), (2, 9), (3, 1)]);
+    let told = told_of(link.batch_dispose(&pairs, false, DeliveryState::Accepted, false));
+    let set = known(&rt, &link, 1);
+    let other = known(&rt, &link, 0);
+    drop(pairs);
+    drop(link);
+    assert_eq!(rt;
+        told,
+        Some((1, [Some((1, Some(3), false)), None, None, None], 0, NONE))
+    );
+    assert_eq!(rt; set, (2, Told::Accepted));
+    assert_eq!(rt; other, (2, Told::NoState));
+}
+
+// The result of the receiver's disposition of the first delivery, and what is known of it then.
+fn told_back(
+    rt: &(impl Abort + AllocGlobal),
+    receiver: ReceiverSettleMode,
+    settled: bool,
+    state: Option<DeliveryState>,
+) -> (bool, Told, Told) {
+    let mut link = link(rt, SenderSettleMode::Mixed, receiver, 1);
+    let tag = count_tag(rt, 0);
+    let DispositionAnswer { echo, outcome } = link.on_incoming_disposition(settled, state, &tag);
+    let told = told_by(outcome.as_ref());
+    let (_, after) = known(rt, &link, 0);
+    drop(tag);
+    drop(outcome);
+    drop(link);
+    (echo, told, after)
+}
+
+#[test]
+fn dispositions_that_come_end_or_are_kept(rt: HostRuntime) {
+    let (first, second) = (ReceiverSettleMode::First, ReceiverSettleMode::Second);
+    let told = told_back(&rt, second, false, Some(DeliveryState::Accepted));
+    assert_eq!(rt; told, (true, Told::Accepted, Told::Absent));
+    let received = DeliveryState::Received {
+        section_number: 0,
+        section_offset: 3,
+    };
+    let told = told_back(&rt, first, false, Some(received));
+    assert_eq!(rt; told, (false, Told::Absent, Told::Received(0, 3)));
+    let told = told_back(&rt, second, true, None);
+    assert_eq!(rt;
+        told,
+        (false, Told::NoState, Told::Absent),
+        "settled without a state"
+    );
+    let told = told_back(&rt, second, false, None);
+    assert_eq!(rt; told, (true, Told::Absent, Told::NoState));
+}
+
+// One of a tag that is not pending ends nothing, enters nothing, and is answered all the same.
+#[test]
+fn disposition_of_an_unknown_tag_ends_nothing(rt: HostRuntime) {
+    let mut link = link(&rt, SenderSettleMode::Mixed, ReceiverSettleMode::Second, 1);
+    let tag = count_tag(&rt, 9);
+    let state = Some(DeliveryState::Accepted);
+    let DispositionAnswer { echo, outcome } = link.on_incoming_disposition(false, state, &tag);
+    let told = told_by(outcome.as_ref());
+    let pending = link.unsettled().len();
+    drop((tag, outcome));
+    drop(link);
+    assert_eq!(rt; (echo, told, pending), (true, Told::Absent, 1));
+}
+
+// How many deliveries ended, and the tag's last byte and the outcome of the first three.
+pub(super) type Ends = (usize, [(Option<u8>, Told); 3]);
+
+fn end_at(outcomes: &Outcomes, index: usize) -> (Option<u8>, Told) {
+    let outcome = outcomes.as_slice().get(index);
+    let tag = outcome.and_then(|ended| ended.0.as_bytes().last().copied());
+    (tag, told_by(outcome))
+}
+
+fn ends_in(outcomes: &Outcomes) -> Ends {
+    let ends = [
+        end_at(outcomes, 0),
+        end_at(outcomes, 1),
+        end_at(outcomes, 2),
+    ];
+    (outcomes.len(), ends)
+}
+
+// The first three deliveries, each with this outcome.
+pub(super) const fn all_ended(so: Told) -> Ends {
+    (3, [(Some(0), so), (Some(1), so), (Some(2), so)])
+}
+
+pub(super) const NO_END: Ends = (0, [(None, Told::Absent); 3]);
+
+pub(super) fn detach(closed: bool, error: Option<Error>) -> Detach {
+    Detach {
+        handle: Handle(7),
+        closed,
+        error,
+    }
+}
+
+// The result of a detach: the reply's handle, whether it closes and whether it has an error; the outcomes;
+// and how many deliveries are left.
+pub(super) type Detached = (Option<(u32, bool, bool)>, Ends, usize);
+
+pub(super) fn detached(
+    link: &mut SenderLink<Target>,
+    detach: Detach,
+    remote_initiated: bool,
+) -> Result<Detached, LinkRelayError> {
+    let answer = link.on_incoming_detach(&detach, remote_initiated);
+    drop(detach);
+    let (reply, outcomes) = answer?;
+    let said = reply.as_ref().map(|reply| (reply.handle.0, reply.closed, reply.error.is_some()));
+    let told = (said, ends_in(&outcomes), link.unsettled().len());
+    drop(outcomes);
+    drop(reply);
+    Ok(told)
+}
+
+#[test]
+fn closing_detach_ends_all(rt: HostRuntime) {
+    let mut link = mixed(&rt, 3);
+    let own = detached(&mut link, detach(true, None), false);
+    let open = detached(&mut link, detach(false, None), true);
+    let closing = detached(&mut link, detach(true, None), true);
+    *link.output_handle_mut() = None;
+    let unattached = detached(&mut link, detach(true, None), true);
+    drop(link);
+    assert_eq!(rt; own, Ok((None, NO_END, 3)), "an answer to an own one");
+    assert_eq!(rt; open, Ok((Some((0, false, false)), NO_END, 3)));
+    let closed = all_ended(Told::RemoteClosed);
+    assert_eq!(rt; closing, Ok((Some((0, true, false)), closed, 0)));
+    assert_eq!(rt; unattached, Err(LinkRelayError::UnattachedHandle));
+}
+
+#[test]
+fn detach_with_an_error_is_answered_with_it(rt: HostRuntime) {
+    let mut link = mixed(&rt, 3);
+    let open = detached(&mut link, detach(false, Some(error(&rt))), true);
+    let closing = detached(&mut link, detach(true, Some(error(&rt))), true);
+    drop(link);
+    assert_eq!(rt; open, Ok((Some((0, false, true)), NO_END, 3)));
+    let closed = all_ended(Told::RemoteClosedWithError);
+    assert_eq!(rt; closing, Ok((Some((0, true, true)), closed, 0)));
+}
+
+// What ends as a detach with an error fails the deliveries, and how many are left.
+pub(super) fn failed(
+    rt: &(impl Abort + AllocGlobal),
+    link: &mut SenderLink<Target>,
+) -> Option<(Ends, usize)> {
+    let detach = detach(true, Some(error(rt)));
+    let answer = link.fail_pending_unsettled(&detach);
+    drop(detach);
+    let Ok(outcomes) = answer else {
+        return None;
+    };
+    let told = (ends_in(&outcomes), link.unsettled().len());
+    drop(outcomes);
+    Some(told)
+}
+
+#[test]
+fn deliveries_fail_with_the_error(rt: HostRuntime) {
+    let mut link = mixed(&rt, 3);
+    let told = failed(&rt, &mut link);
+    let again = failed(&rt, &mut link);
+    drop(link);
+    let closed = all_ended(Told::RemoteClosedWithError);
+    assert_eq!(rt; told, Some((closed, 0)));
+    assert_eq!(rt; again, Some((NO_END, 0)), "nothing is pending");
+}

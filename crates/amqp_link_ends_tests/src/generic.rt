@@ -1,0 +1,172 @@
+//! A caller that works with either endpoint, proved from the contracts of the traits alone.
+ghost use Rattle.std.specs.Prelude.{◌≡◌, ◌⊎◌, [], Bool, None, Some, MatchOption, IsSomeAnd, IfOk, OnOk, OnErr};
+ghost use Rattle.amqp_link_state.specs.declared.state.LinkState.TheVariants.{Attached, Detached};
+ghost use Rattle.amqp_link_types.specs.declared.types.attach.Attach.{Attach as TheAttach};
+ghost use Rattle.amqp_link_core.specs.AttachFields.{next_of, remote_entries};
+ghost use Rattle.amqp_link_core.specs.Detaching.{detach_frame};
+ghost use Rattle.amqp_link_core.specs.LinkStates.{Call, next_state};
+ghost use Rattle.amqp_link_ends_tests.specs.Stated.{IsStatedBy, Keeps, GivesUp, Takes};
+
+use crate::samples::{coming, parts};
+use amqp_link_core::endpoint::{LinkAttach, LinkDetach, LinkExt};
+use amqp_link_receiver::receiver_link::ReceiverLink;
+use amqp_link_sender::sender_link::SenderLink;
+use amqp_link_state::state::LinkState;
+use amqp_link_tests_support::links::went;
+use amqp_link_types::delivery::Outcomes;
+use amqp_link_types::frame::LinkFrame;
+use amqp_link_types::types::{
+    Attach, Detach, Fields, Handle, OutputHandle, Role, SenderSettleMode,
+};
+use std::mem;
+use std::process::Abort;
+
+// Sends the endpoint's attach, which states what the endpoint shows; the state moves, and the handle, the
+// name, the frame limit and the unsettled deliveries stay.
+fn send<L: LinkAttach>(link: &mut L) -> Result<LinkFrame, L::AttachError>
+    requires { L.copies }
+    ensures stated { IfOk result (λ frame. (attach : TheAttach) × (frame ≡ LinkFrame.Attach attach)
+        × IsStatedBy (L.shown link.old) (L.shown link.old).entries attach
+        × (next_state Call.SendAttach attach.incomplete_unsettled (L.shown link.old).local_state
+        ≡ Some (L.shown link.new).local_state)) }
+    ensures handle { OnOk result ((L.shown link.new).output_handle ≡ (L.shown link.old).output_handle) }
+    ensures kept { OnOk result (Keeps (L.shown link.old) (L.shown link.new)) }
+    ensures left { OnErr result (link.new ≡ link.old) }
+{
+    let (frame, outcomes) = link.send_attach(false)?;
+    drop(outcomes);
+    Ok(frame)
+}
+
+// Reattaches the endpoint: the attach states none of the deliveries, and the endpoint keeps none. The
+// outcomes are those that the endpoint showed; the state moves, and the handle, the name and the frame limit
+// stay.
+fn send_anew<L: LinkAttach>(link: &mut L) -> Result<(LinkFrame, Outcomes), L::AttachError>
+    requires { L.copies }
+    ensures stated { IfOk result (λ sent. (attach : TheAttach) × (sent.0 ≡ LinkFrame.Attach attach)
+        × IsStatedBy (L.shown link.old) [] attach
+        × (next_state Call.SendAttach attach.incomplete_unsettled (L.shown link.old).local_state
+        ≡ Some (L.shown link.new).local_state)) }
+    ensures ended { IfOk result (λ sent. sent.1.items ≡ (L.shown link.old).ended) }
+    ensures handle { OnOk result ((L.shown link.new).output_handle ≡ (L.shown link.old).output_handle) }
+    ensures given_up { OnOk result (GivesUp L.nothing_unsettled (L.shown link.old) (L.shown link.new)) }
+    ensures left { OnErr result (link.new ≡ link.old) }
+{
+    link.send_attach(true)
+}
+
+// Takes the peer's attach. The handle, the name and the frame limit stay; the state moves if the attach is
+// taken, and stays or moves if it is refused. The deliveries of a sender are resolved if it is taken; all
+// others stay.
+fn take<L: LinkAttach>(link: &mut L, attach: Attach) -> Result<L::AttachExchange, L::AttachError>
+    ensures state { OnOk result (next_of (L.shown link.old).local_state attach
+        ≡ Some (L.shown link.new).local_state) }
+    ensures refused { OnErr result ((link.new ≡ link.old)
+        ⊎ (next_of (L.shown link.old).local_state attach ≡ Some (L.shown link.new).local_state)) }
+    ensures exchanged { IfOk result (L.exchanged (L.shown link.old).unsettled (remote_entries attach)
+        (L.shown link.new).local_state) }
+    ensures handle { (L.shown link.new).output_handle ≡ (L.shown link.old).output_handle }
+    ensures taken { OnOk result (Takes L.nothing_unsettled (L.shown link.old) (L.shown link.new)) }
+    ensures kept { OnErr result (Keeps (L.shown link.old) (L.shown link.new)) }
+{
+    match link.on_incoming_attach(attach) {
+        Ok(exchange) => Ok(exchange),
+        Err(refused) => Err(refused),
+    }
+}
+
+// Sends a detach, which closes or does not: the state moves, also without output handle, and the handle
+// is released.
+fn detach<L: LinkDetach>(link: &mut L, closed: bool) -> Result<LinkFrame, L::DetachError>
+    ensures state { MatchOption (next_state Call.SendDetach closed (L.shown link.old).local_state)
+        (link.new ≡ link.old)
+        (λ next. ((L.shown link.new).local_state ≡ next) × ((L.shown link.new).output_handle ≡ None)) }
+    ensures sent { IfOk result (λ frame. IsSomeAnd (L.shown link.old).output_handle (λ handle.
+        frame ≡ detach_frame handle closed None)) }
+    ensures kept { Keeps (L.shown link.old) (L.shown link.new) }
+    ensures flow { (L.shown link.new).flow_state ≡ (L.shown link.old).flow_state }
+{
+    link.send_detach(closed, None)
+}
+
+// Detaches a link and gives it an output handle again.
+fn cut<L: LinkExt>(link: &mut L, handle: OutputHandle) -> Result<(), L::DetachError>
+    ensures state { (L.shown link.old).local_state ≡ Attached
+        → OnOk result ((L.shown link.new).local_state ≡ Detached) }
+    ensures again { OnOk result ((L.shown link.new).output_handle ≡ Some handle) }
+    ensures kept { Keeps (L.shown link.old) (L.shown link.new) }
+    ensures flow { (L.shown link.new).flow_state ≡ (L.shown link.old).flow_state }
+{
+    drop(detach(link, false)?);
+    link.on_detach_reply(Detach {
+        handle: Handle(0),
+        closed: false,
+        error: None,
+    })?;
+    *link.output_handle_mut() = Some(handle);
+    Ok(())
+}
+
+// Gives a link other properties.
+fn set_properties<L: LinkExt>(link: &mut L, properties: Option<Fields>)
+    ensures given { (L.shown link.new).flow_state.properties ≡ properties }
+    ensures state { (L.shown link.new).local_state ≡ (L.shown link.old).local_state }
+    ensures handle { (L.shown link.new).output_handle ≡ (L.shown link.old).output_handle }
+    ensures kept { Keeps (L.shown link.old) (L.shown link.new) }
+{
+    drop(mem::replace(link.properties_mut(), properties));
+}
+
+// Attaches a link to an endpoint of this role, and cuts it; returns the link's state.
+fn attached_and_cut<L: LinkExt>(
+    rt: &(impl Abort + AllocGlobal),
+    link: &mut L,
+    role: Role,
+) -> (bool, LinkState)
+    requires { L.copies }
+{
+    set_properties(link, None);
+    let sent = went(send(link));
+    let came = went(take(link, coming(rt, role, false)));
+    let detached = went(cut(link, OutputHandle(9)));
+    (sent && came && detached, *link.local_state())
+}
+
+// The same, and then reattaches the link.
+fn attached_anew<L: LinkExt>(
+    rt: &(impl Abort + AllocGlobal),
+    link: &mut L,
+    role: Role,
+) -> (bool, LinkState)
+    requires { L.copies }
+{
+    let (is_cut, _) = attached_and_cut(rt, link, role);
+    let anew = went(send_anew(link));
+    (is_cut && anew, *link.local_state())
+}
+
+#[test]
+fn either_end_is_cut(rt: HostRuntime) {
+    let mode = SenderSettleMode::Mixed;
+    let sender = SenderLink::new(rt.alloc(), parts(&rt, mode, 512));
+    let mut sender = sender.with_output_handle(OutputHandle(0));
+    let told = attached_and_cut(&rt, &mut sender, Role::Receiver);
+    assert_eq!(rt; told, (true, LinkState::Detached));
+    let receiver = ReceiverLink::new(rt.alloc(), parts(&rt, mode, 512));
+    let mut receiver = receiver.with_output_handle(OutputHandle(0));
+    let told = attached_and_cut(&rt, &mut receiver, Role::Sender);
+    assert_eq!(rt; told, (true, LinkState::Detached));
+}
+
+#[test]
+fn either_end_is_attached_anew(rt: HostRuntime) {
+    let mode = SenderSettleMode::Mixed;
+    let sender = SenderLink::new(rt.alloc(), parts(&rt, mode, 512));
+    let mut sender = sender.with_output_handle(OutputHandle(0));
+    let told = attached_anew(&rt, &mut sender, Role::Receiver);
+    assert_eq!(rt; told, (true, LinkState::AttachSent));
+    let receiver = ReceiverLink::new(rt.alloc(), parts(&rt, mode, 512));
+    let mut receiver = receiver.with_output_handle(OutputHandle(0));
+    let told = attached_anew(&rt, &mut receiver, Role::Sender);
+    assert_eq!(rt; told, (true, LinkState::AttachSent));
+}

@@ -1,0 +1,12 @@
+//! Tests of both link endpoints beside each other: their dispositions, the runs in which these name deliveries,
+//! and a caller that works at either endpoint and is proved from the traits alone (OASIS AMQP 1.0 core, 2.6).
+#![tactic(auto)]
+
+#[cfg(test)]
+mod dispositions;
+#[cfg(test)]
+mod generic;
+#[cfg(test)]
+mod runs;
+#[cfg(test)]
+mod samples;

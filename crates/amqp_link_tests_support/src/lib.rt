@@ -1,0 +1,8 @@
+//! What the crates of tests share: links, attaches and payloads for the tests of both link endpoints, and the
+//! table of link states of the standard (OASIS AMQP 1.0 core, 2.6.3 to 2.6.6). Only tests call it.
+#![tactic(auto)]
+
+pub mod links;
+pub mod nowhere;
+pub mod refusals;
+pub mod table;

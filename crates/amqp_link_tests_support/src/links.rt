@@ -1,0 +1,117 @@
+//! Parts of links for tests.
+use amqp_link_core::link_parts::LinkParts;
+use amqp_link_state::state::LinkFlowStateInner;
+use amqp_link_types::types::{
+    Attach, DeliveryTag, Fields, Handle, LinkFlow, LinkRelayError, ReceiverSettleMode, Role,
+    SenderSettleMode, Source, Symbol, Target, TargetArchetype, Text, Value,
+};
+use std::alloc::{AllocError, Global};
+
+pub fn text(alloc: Global, words: &str) -> Result<Text, AllocError> {
+    Ok(Text::from(String::from_str(alloc, words)?))
+}
+
+/// The link "l" with a source and a target without fields, in this mode, with this frame limit.
+pub fn parts(
+    alloc: Global,
+    mode: SenderSettleMode,
+    max_frame_size: u32,
+) -> Result<LinkParts<Target>, AllocError> {
+    let name = text(alloc, "l")?;
+    Ok(LinkParts {
+        name,
+        snd_settle_mode: mode,
+        rcv_settle_mode: ReceiverSettleMode::First,
+        source: Some(Source::default()),
+        target: Some(Target::default()),
+        max_message_size: 0,
+        offered_capabilities: None,
+        desired_capabilities: None,
+        flow_state: LinkFlowStateInner::default(),
+        max_frame_size,
+        verify_incoming_source: false,
+        verify_incoming_target: false,
+    })
+}
+
+/// The peer's attach of that link, at handle 0.
+pub fn attach_of(alloc: Global, role: Role, mode: SenderSettleMode) -> Result<Attach, AllocError> {
+    let name = text(alloc, "l")?;
+    Ok(Attach {
+        name,
+        handle: Handle(0),
+        role,
+        snd_settle_mode: mode,
+        rcv_settle_mode: ReceiverSettleMode::First,
+        source: Some(Source::default()),
+        target: Some(TargetArchetype::from(Target::default())),
+        unsettled: None,
+        incomplete_unsettled: false,
+        initial_delivery_count: Some(0),
+        max_message_size: None,
+        offered_capabilities: None,
+        desired_capabilities: None,
+        properties: None,
+    })
+}
+
+/// The tag of a count that is less than 256.
+pub fn count_tag(alloc: Global, count: u8) -> Result<DeliveryTag, AllocError> {
+    Ok(DeliveryTag::from(vec![in alloc; 0, 0, 0, count]?))
+}
+
+/// Properties of one pair, a name to 7.
+pub fn fields(alloc: Global, name: &str) -> Result<Fields, AllocError> {
+    let mut fields = Fields::new(alloc);
+    let name = String::from_str(alloc, name)?;
+    drop(fields.insert(Symbol::from(name), Value::Uint(7)));
+    Ok(fields)
+}
+
+/// The fields of a flow, without its properties.
+#[derive(Clone, Copy, Debug, PartialEq, Eq)]
+pub struct FlowTold {
+    pub handle: u32,
+    pub count: Option<u32>,
+    pub credit: Option<u32>,
+    pub available: Option<u32>,
+    pub drain: bool,
+    pub echo: bool,
+}
+
+/// The fields of a flow; none if it has properties.
+pub fn told(flow: &LinkFlow) -> Option<FlowTold> {
+    if flow.properties.is_some() {
+        return None;
+    }
+    Some(FlowTold {
+        handle: flow.handle.0,
+        count: flow.delivery_count,
+        credit: flow.link_credit,
+        available: flow.available,
+        drain: flow.drain,
+        echo: flow.echo,
+    })
+}
+
+fn told_by(
+    answer: &Result<Option<LinkFlow>, LinkRelayError>,
+) -> Result<Option<FlowTold>, LinkRelayError> {
+    match answer {
+        Ok(Some(flow)) => Ok(told(flow)),
+        Ok(None) => Ok(None),
+        Err(error) => Err(*error),
+    }
+}
+
+/// The fields of the flow that a call returned as its reply, if it did.
+pub fn told_back(
+    answer: Result<Option<LinkFlow>, LinkRelayError>,
+) -> Result<Option<FlowTold>, LinkRelayError> {
+    told_by(&answer)
+}
+
+/// Whether a call succeeded. Its result is dropped.
+pub fn went<T: Drop, E: Drop>(answer: Result<T, E>) -> bool {
+    answer.is_ok()
+}

@@ -1,0 +1,131 @@
+//! The table of link states of the standard (2.6.3 to 2.6.6), for tests: the state after each call, by the
+//! state before it. All other pairs of a call and a state have no transition.
+use crate::links::{attach_of, went};
+use amqp_link_core::endpoint::LinkExt;
+use amqp_link_state::state::LinkState;
+use amqp_link_types::types::{
+    ApplyRemoteDetachError, Attach, Detach, DetachError, Handle, Role, SenderSettleMode,
+};
+use std::alloc::{AllocError, Global};
+
+/// A call, with its flag: an attach that is incomplete, a detach that closes.
+#[derive(Clone, Copy, Debug, PartialEq, Eq)]
+pub enum Call {
+    SendAttach(bool),
+    IncomingAttach(bool),
+    SendDetach(bool),
+    DetachReply(bool),
+    RemoteDetach(bool),
+}
+
+pub const STATES: [LinkState; 11] = [
+    LinkState::Unattached,
+    LinkState::AttachSent,
+    LinkState::IncompleteAttachSent,
+    LinkState::AttachReceived,
+    LinkState::IncompleteAttachReceived,
+    LinkState::Attached,
+    LinkState::IncompleteAttachExchanged,
+    LinkState::DetachSent,
+    LinkState::Detached,
+    LinkState::CloseSent,
+    LinkState::Closed,
+];
+
+/// The states after the call, by the states in the order above; a dash stands for no transition.
+fn line_of(call: Call) -> [Option<LinkState>; 11] {
+    let sent = Some(LinkState::AttachSent);
+    let part_sent = Some(LinkState::IncompleteAttachSent);
+    let come = Some(LinkState::AttachReceived);
+    let part_come = Some(LinkState::IncompleteAttachReceived);
+    let both = Some(LinkState::Attached);
+    let part_both = Some(LinkState::IncompleteAttachExchanged);
+    let let_go = Some(LinkState::DetachSent);
+    let gone = Some(LinkState::Detached);
+    let closing = Some(LinkState::CloseSent);
+    let shut = Some(LinkState::Closed);
+    let o = None;
+    match call {
+        Call::SendAttach(false) => [sent, o, o, both, part_both, o, o, sent, sent, o, o],
+        Call::SendAttach(true) => [
+            part_sent, o, o, part_both, part_both, o, o, part_sent, part_sent, o, o,
+        ],
+        Call::IncomingAttach(false) => [come, both, part_both, o, o, o, o, o, come, o, o],
+        Call::IncomingAttach(true) => [
+            part_come, part_both, part_both, o, o, o, o, o, part_come, o, o,
+        ],
+        Call::SendDetach(false) => [o, o, o, o, o, let_go, o, o, o, o, o],
+        Call::SendDetach(true) => [o, o, o, o, o, closing, o, o, o, o, o],
+        Call::DetachReply(false) => [o, o, o, o, o, o, o, gone, o, o, o],
+        Call::DetachReply(true) => [o, o, o, o, o, o, o, o, o, shut, o],
+        Call::RemoteDetach(false) => [o, gone, gone, gone, gone, gone, gone, gone, o, gone, o],
+        Call::RemoteDetach(true) => [o, shut, shut, shut, shut, shut, shut, shut, o, shut, o],
+    }
+}
+
+/// Whether a call succeeds in the state at this place of the list, and the state of the link afterwards.
+pub fn wanted(call: Call, place: usize) -> (bool, LinkState) {
+    let state = STATES.get(place).copied().unwrap_or_default();
+    match line_of(call).get(place) {
+        Some(Some(next)) => (true, *next),
+        _ => (false, state),
+    }
+}
+
+pub fn detach(closed: bool) -> Detach {
+    Detach {
+        handle: Handle(0),
+        closed,
+        error: None,
+    }
+}
+
+/// Whether an attach is sent, and the state of the link afterwards; the functions below do the same for the
+/// other calls.
+pub fn attached<L: LinkExt>(link: &mut L) -> (bool, LinkState)
+    requires { L.copies }
+{
+    let goes = went(link.send_attach(false));
+    (goes, *link.local_state())
+}
+
+pub fn taken<L: LinkExt>(link: &mut L, attach: Attach) -> (bool, LinkState) {
+    let goes = went(link.on_incoming_attach(attach));
+    (goes, *link.local_state())
+}
+
+pub fn let_go<L: LinkExt>(link: &mut L, closed: bool) -> (bool, LinkState) {
+    let goes = went(link.send_detach(closed, None));
+    (goes, *link.local_state())
+}
+
+pub fn answered<L: LinkExt>(link: &mut L, closed: bool) -> (bool, LinkState) {
+    let goes = went(link.on_detach_reply(detach(closed)));
+    (goes, *link.local_state())
+}
+
+pub fn left<L: LinkExt>(link: &mut L, closed: bool) -> (bool, LinkState) {
+    let goes = went(link.apply_remote_detach_outcome(detach(closed)));
+    (goes, *link.local_state())
+}
+
+/// Whether a detach is refused for its state.
+pub fn is_illegal<T: Drop>(answer: Result<T, DetachError>) -> bool {
+    let is_illegal = matches!(&answer, Err(DetachError::IllegalState));
+    drop(answer);
+    is_illegal
+}
+
+/// The same of one that the peer has initiated.
+pub fn is_illegal_outcome(answer: Result<(), ApplyRemoteDetachError>) -> bool {
+    let is_illegal = matches!(&answer, Err(ApplyRemoteDetachError::IllegalState));
+    drop(answer);
+    is_illegal
+}
+
+/// The peer's attach, of this role, marked as incomplete or not.
+pub fn coming(alloc: Global, role: Role, incomplete: bool) -> Result<Attach, AllocError> {
+    let mut attach = attach_of(alloc, role, SenderSettleMode::Mixed)?;
+    attach.incomplete_unsettled = incomplete;
+    Ok(attach)
+}

@@ -1,0 +1,2 @@
+pub mod Brokers
+pub mod Peers

@@ -1,0 +1,164 @@
+//! A client: it sends one request at a time, and gets the outcome of each once.
+//!
+//! It attaches first (`Opening::new`, `Opening::on_attach`). The server grants credit by its flows (`on_flow`). Each
+//! request takes one credit, and the client waits for the server's disposition before it sends another.
+
+ghost use Rattle.std.specs.Prelude.{◌≡◌, ◌↔◌, true, None, Some, Ok, map, IfOk, IfSome, OnOk, OnErr, IsSome, IsErrOf};
+ghost use Rattle.std.specs.List.{concat};
+ghost use Rattle.amqp_link.specs.Ending.{does_end};
+ghost use Rattle.amqp_link.specs.Entries.{entry_at, with_entry};
+ghost use Rattle.amqp_link.specs.Frames.{payload_of};
+ghost use Rattle.amqp_link.specs.Senders.{new_entry};
+
+use amqp_link::delivery::{DeliveryOutcome, Settlement};
+use amqp_link::endpoint::Action;
+use amqp_link::errors::{LinkRelayError, LinkStateError, SenderAttachError};
+use amqp_link::types::{Attach, LinkFlow, OutputHandle, SenderSettleMode, Target};
+use amqp_link::{
+    DeliveryState, DeliveryTag, LinkAttach, LinkFrame, LinkParts, Payload, SenderLink, Sending,
+    Waiting,
+};
+use std::alloc::Global;
+
+/// Why a request is not sent.
+#[derive(Debug, PartialEq, Eq, Drop)]
+pub enum RequestError {
+    /// Another request has no outcome yet.
+    Busy,
+    /// The server has granted no more credit: the client tries again after its next flow.
+    CreditMissing,
+    /// The link refuses it.
+    Link(LinkStateError),
+}
+
+/// A link that is being attached: the client has sent its attach, and the server's has not arrived.
+#[derive(Drop)]
+pub struct Opening {
+    /// The link.
+    pub link: SenderLink<Target>,
+}
+
+impl Opening {
+    /// A sender with these parts at an output handle, which sends its deliveries unsettled, and its attach,
+    /// which the caller sends.
+    pub fn new(
+        alloc: Global,
+        mut parts: LinkParts<Target>,
+        handle: OutputHandle,
+    ) -> Result<(Opening, LinkFrame), SenderAttachError>
+        ensures handle { IfOk result (λ opened. opened.0.link.output_handle ≡ Some handle) }
+        ensures mode { IfOk result (λ opened.
+            opened.0.link.snd_settle_mode ≡ SenderSettleMode.Unsettled) }
+    {
+        parts.snd_settle_mode = SenderSettleMode::Unsettled;
+        let mut link = SenderLink::new(alloc, parts).with_output_handle(handle);
+        match link.send_attach(false) {
+            Ok((attach, outcomes)) => {
+                drop(outcomes);
+                Ok((Opening { link }, attach))
+            }
+            Err(refused) => {
+                drop(link);
+                Err(refused)
+            }
+        }
+    }
+
+    /// Takes the server's attach. If the link refuses it, the caller does what the action says: it sends the detach
+    /// that closes the link, or ends the session.
+    pub fn on_attach(mut self, attach: Attach) -> Result<Client, (SenderAttachError, Action)>
+        ensures request { IfOk result (λ client. client.request ≡ None) }
+        ensures mode { IfOk result (λ client. client.link.snd_settle_mode ≡ self.link.snd_settle_mode) }
+    {
+        match self.link.on_incoming_attach(attach) {
+            Ok(exchange) => {
+                drop(exchange);
+                Ok(Client {
+                    link: self.link,
+                    request: None,
+                })
+            }
+            Err(refused) => {
+                let handled = self.link.handle_attach_error(refused);
+                drop(self);
+                Err(handled.unwrap_or((SenderAttachError::OutOfMemory, Action::Nothing)))
+            }
+        }
+    }
+}
+
+/// A client whose link is attached.
+#[derive(Drop)]
+pub struct Client {
+    /// The link.
+    pub link: SenderLink<Target>,
+    /// The tag of the request that has no outcome yet.
+    pub request: Option<DeliveryTag>,
+}
+
+impl Client {
+    /// Takes the server's flow, which grants credit. Returns the flow to send back, if there is one.
+    pub fn on_flow(&mut self, flow: LinkFlow) -> Result<Option<LinkFlow>, LinkRelayError>
+        ensures request { self.new.request ≡ self.old.request }
+        ensures left { OnErr result (self.new ≡ self.old) }
+    {
+        self.link.on_incoming_flow(flow)
+    }
+
+    /// Sends a request as one unsettled delivery, and returns the frames to send, in their order.
+    ///
+    /// Refused with nothing changed: with `Busy`, otherwise with `CreditMissing` or the error of the link.
+    pub fn request(&mut self, payload: &Payload) -> Result<Vec<LinkFrame>, RequestError>
+        ensures sent { IfOk result (λ frames. concat (map payload_of frames.items) ≡ payload.now) }
+        ensures awaited { OnOk result (IsSome self.new.request) }
+        ensures kept { self.old.link.snd_settle_mode ≡ SenderSettleMode.Unsettled
+            → OnOk result (IfSome self.new.request (λ tag.
+            self.new.link.unsettled ≡ with_entry self.old.link.unsettled tag (new_entry 0 payload.now))) }
+        ensures busy { IsErrOf result RequestError.Busy ↔ IsSome self.old.request }
+        ensures left { OnErr result (self.new ≡ self.old) }
+    {
+        if self.request.is_some() {
+            return Err(RequestError::Busy);
+        }
+        let sending = self
+            .link
+            .send_payload(Waiting::Nothing, payload, 0, None, None, false);
+        match sending {
+            Ok(Sending::Sent { settlement, frames }) => {
+                let (Settlement::Unsettled(tag) | Settlement::Settled(tag)) = settlement;
+                self.request = Some(tag);
+                Ok(frames)
+            }
+            Ok(Sending::CreditMissing) => Err(RequestError::CreditMissing),
+            Err(refused) => Err(RequestError::Link(refused)),
+        }
+    }
+
+    /// Takes the server's disposition of a delivery, and returns the outcome of the request if that gives it
+    /// one. Each outcome is returned once, whatever arrives later.
+    pub fn on_disposition(
+        &mut self,
+        settled: bool,
+        state: Option<DeliveryState>,
+        tag: &DeliveryTag,
+    ) -> Option<DeliveryOutcome>
+        ensures once { IsSome result → (self.old.request ≡ Some tag.now) × (self.new.request ≡ None) }
+        ensures ended { self.old.request ≡ Some tag.now → IsSome (entry_at self.old.link.unsettled tag.now)
+            → does_end settled state ≡ true → result ≡ Some (Ok state) }
+    {
+        let is_awaited = match &self.request {
+            Some(request) => request == tag,
+            None => false,
+        };
+        if !is_awaited {
+            drop(state);
+            return None;
+        }
+        let (_, outcome) = self
+            .link
+            .on_incoming_disposition(settled, state, tag)
+            .outcome?;
+        drop(self.request.take());
+        Some(outcome)
+    }
+}

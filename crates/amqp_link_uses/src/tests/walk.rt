@@ -1,0 +1,12 @@
+//! The smallest run of a pair.
+use super::samples::payload;
+use crate::walk::deliver_through_a_cut;
+
+#[test]
+fn the_bytes_that_go_in_come_out(rt: HostRuntime) {
+    let bytes = payload(&rt, &[7; 100]);
+    let out = deliver_through_a_cut(rt.alloc(), &bytes);
+    let out = out.expect(&rt, "memory");
+    assert_eq!(rt; out.as_slice(), bytes.as_slice());
+    drop((out, bytes));
+}
