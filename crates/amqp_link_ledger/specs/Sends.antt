@@ -1,18 +1,15 @@
 -- Sends of a ledger (OASIS AMQP 1.0 core, 2.6.12 and 2.7.5): the tag under which a delivery is registered,
 -- and the records after it.
-use Rattle.std.specs.Prelude.{◌≡◌, ◌⊎◌, ◌==◌, ◌&&◌, ◌||◌, not, Bool, List, [], ◌∷◌, Option, Some, None, IsTrue, is_some, is_none, Result, Ok, Err, if◌then◌else◌}
+use Rattle.std.specs.Prelude.{◌≡◌, ◌==◌, ◌&&◌, ◌||◌, not, Bool, Option, Some, None, IsTrue, is_some, is_none, if◌then◌else◌}
 use Rattle.amqp_link_types.specs.Entries.{Tag}
-use Rattle.amqp_link_types.specs.Refusals.{refusal}
 use Rattle.amqp_link_types.specs.declared.delivery.Settlement.{Settlement}
 use Rattle.amqp_link_types.specs.declared.delivery.Settlement.TheVariants as settlement
-use Rattle.amqp_link_types.specs.declared.types.errors.LinkStateError.{LinkStateError}
-use Rattle.amqp_link_types.specs.declared.types.errors.LinkStateError.TheVariants as error
 use Rattle.amqp_link_types.specs.declared.types.transfer.Transfer.{Transfer}
 use Rattle.amqp_link_sender.specs.declared.sender_link.Sending.{Sending}
 use Rattle.amqp_link_sender.specs.declared.sender_link.Sending.TheVariants as sending
 use Rattle.amqp_link_sender.specs.declared.sender_link.Waiting.{Waiting}
 use Rattle.amqp_link_sender.specs.declared.sender_link.Waiting.TheVariants as waiting
-use Rattle.amqp_link_sender.specs.Senders.{Sender, SendStop, missing_credit, refused, next_tag, settled_by_mode, settled_on_send, is_pending}
+use Rattle.amqp_link_sender.specs.Senders.{Sender, next_tag, settled_by_mode, settled_on_send}
 use Rattle.amqp_link_ledger.specs.Fates.{Records, RecordsAndRoom, Enters, after, pending_count}
 
 -- ---- the records after a send

@@ -1,6 +1,6 @@
 -- The last transfer of a delivery at a receiver: what it returns, and the receiver afterwards (OASIS AMQP 1.0
 -- core, 2.6.7, 2.6.12 and 2.7.5).
-use Rattle.std.specs.Prelude.{◌≡◌, ℕ, ◌==◌, Bool, true, false, not, ◌&&◌, List, [], ◌∷◌, if◌then◌else◌}
+use Rattle.std.specs.Prelude.{◌≡◌, ℕ, ◌==◌, Bool, true, false, not, ◌&&◌, [], ◌∷◌, if◌then◌else◌}
 use Rattle.std.specs.Prelude.{Option, Some, None, is_none, unwrap_or, Result, Ok, Err}
 use Rattle.std.specs.Option.{option_map}
 use Rattle.amqp_link_state.specs.declared.state.LinkState.{LinkState}
