@@ -1,5 +1,3 @@
-pub mod Named
-pub mod Events
 pub use Rattle.amqp_link_core.specs.AttachFields
 pub use Rattle.amqp_link_core.specs.AttachSent
 pub use Rattle.amqp_link_core.specs.AttachTests

@@ -3,7 +3,7 @@ use Rattle.std.proofs.Common.{◌≡◌, ◌∙◌, ap, sym, refl, subst, ℕ, �
 use Rattle.std.proofs.lemmas.List.{append-nil, length_push}
 use Rattle.std.specs.Prelude.{Result, Ok, Err, MatchOption, MatchResult, IfNone, IfOk, IfErr, OnErr, IsErrAnd, unwrap_or}
 use Rattle.amqp_link.specs.AttachSent.{SendsAttach}
-use Rattle.amqp_link.specs.Named.{LinkState}
+use Rattle.amqp_link.specs.declared.state.LinkState.{LinkState}
 use Rattle.amqp_link.specs.Shown.{Shown, shown_attached}
 use Rattle.amqp_link.specs.declared.LinkFrame.{LinkFrame}
 use Rattle.amqp_link.specs.declared.types.OutputHandle.{OutputHandle}

@@ -2,7 +2,7 @@
 -- core, 2.6.3 to 2.6.6).
 use Rattle.std.specs.Prelude.{◌≡◌, ◌⊎◌, Bool, true, false, List, [], ◌∷◌, Option, Some, is_some, unwrap_or}
 use Rattle.amqp_link.specs.LinkStates.{Call, next_state}
-use Rattle.amqp_link.specs.Named.{LinkState}
+use Rattle.amqp_link.specs.declared.state.LinkState.{LinkState}
 use Rattle.amqp_link_uses.specs.declared.peer.Frame.{Frame}
 use Rattle.amqp_link_uses.specs.declared.peer.Frame.TheVariants.{SendAttach, Attach, SendDetach, DetachReply, Detach}
 
