@@ -124,7 +124,6 @@ fn read_report(
 ///
 /// Allocates all that the exchange needs: the bytes that are still to be sent of a resumed delivery, and room
 /// for the lists that `exchange` returns. Each entry of the receiver's map is looked up once in the sender's.
-/// sender's.
 pub fn plan_exchange(
     alloc: Global,
     own: &UnsettledMap<UnsettledMessage>,

@@ -1,2 +1,3 @@
 pub mod Brokers
 pub mod Peers
+pub mod Walks

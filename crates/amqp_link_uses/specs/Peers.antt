@@ -1,32 +1,60 @@
--- The attaches and detaches that the table of link states allows, and what they do to the state (OASIS AMQP 1.0
--- core, 2.6.3 to 2.6.6).
-use Rattle.std.specs.Prelude.{◌≡◌, ◌⊎◌, Bool, true, false, List, [], ◌∷◌, Option, Some, is_some, unwrap_or}
+-- The frames that an endpoint allows by its state, and what they do to it (OASIS AMQP 1.0 core, 2.6.3 to 2.6.6,
+-- 2.7.4).
+use Rattle.std.specs.Prelude.{◌≡◌, ◌⊎◌, Bool, true, false, List, [], ◌∷◌, Option, Some, None, is_some}
 use Rattle.amqp_link.specs.LinkStates.{Call, next_state}
+use Rattle.amqp_link.specs.Shown.{Shown}
 use Rattle.amqp_link.specs.declared.state.LinkState.{LinkState}
 use Rattle.amqp_link_uses.specs.declared.peer.Frame.{Frame}
-use Rattle.amqp_link_uses.specs.declared.peer.Frame.TheVariants.{SendAttach, Attach, SendDetach, DetachReply, Detach}
+use Rattle.amqp_link_uses.specs.declared.peer.Frame.TheVariants.{SendAttach, Attach, Flow, SendDetach, DetachReply, Detach}
 
--- the state after a frame: none if there is no transition. An attach that is sent counts as complete.
+-- where an endpoint stands: its link state, and whether it has an output handle
+pub record Standing : Type 0 where
+  pub state : LinkState
+  pub has_handle : Bool
+
+abbrev pub standing : {D : Type 0} → Shown D → Standing
+standing shown = record { state = shown.local_state; has_handle = is_some shown.output_handle }
+
+-- the state after a frame: none if there is no transition. An attach that is sent counts as complete, and a flow
+-- leaves the state.
 abbrev pub state_by : LinkState → Frame → Option LinkState
 state_by s SendAttach = next_state Call.SendAttach false s
 state_by s (Attach attach) = next_state Call.IncomingAttach attach.incomplete_unsettled s
+state_by s (Flow flow) = Some s
 state_by s (SendDetach closed) = next_state Call.SendDetach closed s
 state_by s (DetachReply detach) = next_state Call.DetachReply detach.closed s
 state_by s (Detach detach) = next_state Call.RemoteDetach detach.closed s
 
--- whether there is a transition from a state by a frame
-abbrev pub is_allowed : LinkState → Frame → Bool
-is_allowed s frame = is_some (state_by s frame)
+abbrev pub has_transition_by : LinkState → Frame → Bool
+has_transition_by s frame = is_some (state_by s frame)
 
--- What a frame does to the state. An attach moves it by the table, the one that is sent as complete or incomplete, or
--- leaves it where the call is refused for another reason: out of memory, no output handle, an attach too large. A
--- detach moves it wherever there is a transition.
-abbrev pub Leads : LinkState → Frame → LinkState → Type 0
-Leads s SendAttach next = (next ≡ s) ⊎ ((is_incomplete : Bool) × (next_state Call.SendAttach is_incomplete s ≡ Some next))
-Leads s (Attach attach) next = (next ≡ s) ⊎ (state_by s (Attach attach) ≡ Some next)
-Leads s detach next = next ≡ unwrap_or (state_by s detach) s
+-- Whether an endpoint that stands there allows a frame: the table has a transition, and for a flow there is an output
+-- handle.
+abbrev pub is_allowed : Standing → Frame → Bool
+is_allowed s (Flow flow) = s.has_handle
+is_allowed s frame = has_transition_by s.state frame
 
--- each of these frames, in order, was allowed in the state that the one before had left, and led on from there
-abbrev pub AreAllowed : List Frame → LinkState → LinkState → Type 0
+-- an endpoint moves to a state, and keeps its output handle or the lack of it
+abbrev pub moves_to : Standing → LinkState → Standing
+moves_to s state = record s { state = state }
+
+-- a detach moves the state by the table, and the output handle is released
+abbrev pub detached_by : Standing → Option LinkState → Standing
+detached_by s None = s
+detached_by s (Some state) = record { state = state; has_handle = false }
+
+-- What a frame does. An attach moves the state by the table, the one that is sent as complete or incomplete, or
+-- leaves it where the call is refused for another reason: out of memory, no output handle, an attach too large. A flow
+-- changes neither state nor handle. A detach moves the state wherever there is a transition.
+abbrev pub Leads : Standing → Frame → Standing → Type 0
+Leads s SendAttach next = (next ≡ s)
+    ⊎ ((is_incomplete : Bool) × (t : LinkState) × (next_state Call.SendAttach is_incomplete s.state ≡ Some t) × (next ≡ moves_to s t))
+Leads s (Attach attach) next = (next ≡ s)
+    ⊎ ((t : LinkState) × (state_by s.state (Attach attach) ≡ Some t) × (next ≡ moves_to s t))
+Leads s (Flow flow) next = next ≡ s
+Leads s detach next = next ≡ detached_by s (state_by s.state detach)
+
+-- each of these frames, in order, was allowed where the one before had left the endpoint, and led on from there
+abbrev pub AreAllowed : List Frame → Standing → Standing → Type 0
 AreAllowed [] s t = s ≡ t
-AreAllowed (frame ∷ frames) s t = (next : LinkState) × (is_allowed s frame ≡ true) × Leads s frame next × AreAllowed frames next t
+AreAllowed (frame ∷ frames) s t = (next : Standing) × (is_allowed s frame ≡ true) × Leads s frame next × AreAllowed frames next t

@@ -6,12 +6,13 @@
 //! was sent has given it an outcome (`pass_outcome_back`); the broker then settles it on the link on which it
 //! arrived, with the same state.
 
-ghost use Rattle.std.specs.Prelude.{◌≡◌, ◌++◌, not, true, false, map, None, Ok, IfOk, IfSome, OnErr};
+ghost use Rattle.std.specs.Prelude.{◌≡◌, ◌++◌, not, true, false, map, None, Some, Ok, IfOk, IfSome, OnErr};
 ghost use Rattle.std.specs.List.{concat};
-ghost use Rattle.amqp_link.specs.Ending.{does_end};
+ghost use Rattle.amqp_link.specs.Ending.{does_end, ended_by, map_after_receiver_disposition};
 ghost use Rattle.amqp_link.specs.Frames.{payload_of};
 ghost use Rattle.amqp_link.specs.Held.{held_bytes};
-ghost use Rattle.amqp_link_uses.specs.Brokers.{bytes_before, bytes_of, is_complete};
+ghost use Rattle.amqp_link.specs.Keeping.{after_one, said_of_one};
+ghost use Rattle.amqp_link_uses.specs.Brokers.{bytes_before, bytes_of, is_complete, state_for};
 
 use amqp_link::delivery::{DeliveryOutcome, Settlement};
 use amqp_link::errors::{DispositionError, LinkStateError, ReceiverTransferError};
@@ -126,7 +127,15 @@ pub fn pass_outcome_back(
     settled: bool,
     state: Option<DeliveryState>,
 ) -> Result<Option<LinkFrame>, DispositionError>
+    ensures outgoing { outgoing.new ≡ record outgoing.old {
+      unsettled = map_after_receiver_disposition settled state tag.now outgoing.old.unsettled;
+    } }
     ensures none { does_end settled state ≡ false → (result ≡ Ok None) × (incoming.new ≡ incoming.old) }
+    ensures passed { IfSome (ended_by settled state tag.now outgoing.old.unsettled) (λ ended.
+        (result ≡ Ok (said_of_one (Some true) incoming.old.rcv_settle_mode (state_for ended.1) false info.now incoming.old.unsettled))
+        × (incoming.new ≡ record incoming.old {
+          unsettled = after_one true (state_for ended.1) info.now.delivery_tag incoming.old.unsettled;
+        })) }
     ensures left { OnErr result (incoming.new ≡ incoming.old) }
 {
     match outgoing
@@ -142,7 +151,9 @@ pub fn pass_outcome_back(
 }
 
 // The state with which the delivery that was received is settled: released if the outcome has no state.
-fn state_of(outcome: DeliveryOutcome) -> DeliveryState {
+fn state_of(outcome: DeliveryOutcome) -> DeliveryState
+    ensures { result ≡ state_for outcome }
+{
     match outcome {
         Ok(Some(state)) => state,
         Ok(None) => DeliveryState::Released,

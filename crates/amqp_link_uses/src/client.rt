@@ -3,8 +3,9 @@
 //! It attaches first (`Opening::new`, `Opening::on_attach`). The server grants credit by its flows (`on_flow`). Each
 //! request takes one credit, and the client waits for the server's disposition before it sends another.
 
-ghost use Rattle.std.specs.Prelude.{◌≡◌, ◌↔◌, true, None, Some, Ok, map, IfOk, IfSome, OnOk, OnErr, IsSome, IsErrOf};
+ghost use Rattle.std.specs.Prelude.{◌≡◌, ◌↔◌, true, None, Some, Ok, map, IfOk, Err, IfSome, OnOk, OnErr, IsSome, IsErrOf, MatchOption};
 ghost use Rattle.std.specs.List.{concat};
+ghost use Rattle.amqp_link.specs.Counts.{sender_after, sender_reply};
 ghost use Rattle.amqp_link.specs.Ending.{does_end};
 ghost use Rattle.amqp_link.specs.Entries.{entry_at, with_entry};
 ghost use Rattle.amqp_link.specs.Frames.{payload_of};
@@ -99,7 +100,12 @@ pub struct Client {
 impl Client {
     /// Takes the server's flow, which grants credit. Returns the flow to send back, if there is one.
     pub fn on_flow(&mut self, flow: LinkFlow) -> Result<Option<LinkFlow>, LinkRelayError>
-        ensures request { self.new.request ≡ self.old.request }
+        ensures answer { MatchOption self.old.link.output_handle
+            (result ≡ Err LinkRelayError.UnattachedHandle)
+            (λ handle. result ≡ Ok (sender_reply flow self.old.link.flow_state handle)) }
+        ensures after { OnOk result (self.new ≡ record self.old {
+          link = record self.old.link { flow_state = sender_after flow self.old.link.flow_state };
+        }) }
         ensures left { OnErr result (self.new ≡ self.old) }
     {
         self.link.on_incoming_flow(flow)

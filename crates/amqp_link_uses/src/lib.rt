@@ -15,6 +15,4 @@ pub mod client;
 pub mod peer;
 pub mod relay;
 pub mod short;
-#[cfg(test)]
-mod tests;
 pub mod walk;

@@ -4,7 +4,7 @@
 //! of unsettled deliveries returns, from the position that the peer reported (`send_again`). The relay's
 //! ledger has the fate of each registration.
 
-ghost use Rattle.std.specs.Prelude.{◌≡◌, ◌++◌, List, ℕ, map, unwrap_or, IfOk, IfErr, OnOk, OnErr};
+ghost use Rattle.std.specs.Prelude.{◌≡◌, ◌++◌, List, ℕ, map, false, None, Some, unwrap_or, IfOk, IfErr, OnOk, OnErr, IsSomeAnd};
 ghost use Rattle.std.specs.List.{concat};
 ghost use Rattle.amqp_link.specs.AttachFields.{remote_entries};
 ghost use Rattle.amqp_link.specs.Attachable.{list_in};
@@ -12,6 +12,7 @@ ghost use Rattle.amqp_link.specs.Entries.{with_entry};
 ghost use Rattle.amqp_link.specs.Exchanges.{deliveries_to_resume, outcomes_returned};
 ghost use Rattle.amqp_link.specs.Fates.{Change, after};
 ghost use Rattle.amqp_link.specs.Frames.{payload_of};
+ghost use Rattle.amqp_link.specs.Senders.{IsSent, delivery_of, resuming_transfer};
 
 use amqp_link::delivery::{Outcomes, UnsettledMessage};
 use amqp_link::errors::{LinkStateError, SenderAttachError};
@@ -43,6 +44,7 @@ pub fn reattach(
         ≡ deliveries_to_resume ledger.old.link.unsettled (remote_entries theirs)) }
     ensures ended { IfOk result (λ again. again.outcomes.items
         ≡ outcomes_returned ledger.old.link.unsettled (remote_entries theirs)) }
+    ensures handle { OnOk result (ledger.new.link.output_handle ≡ Some handle) }
     ensures fates { OnOk result (ledger.new.records ≡ after
         (Change.HandsOut (deliveries_to_resume ledger.old.link.unsettled (remote_entries theirs)))
         (after (Change.Resolves (outcomes_returned ledger.old.link.unsettled (remote_entries theirs)))
@@ -92,6 +94,9 @@ pub fn send_rest(
 ) -> Result<Vec<LinkFrame>, (LinkStateError, UnsettledMessage)>
     ensures whole { IfOk result (λ frames. (held : List ℕ) → held ++ rest.now ≡ entry.payload
         → held ++ concat (map payload_of frames.items) ≡ entry.payload) }
+    ensures resumed { IfOk result (λ frames. IsSomeAnd ledger.old.link.output_handle (λ handle.
+        IsSent ledger.old.link (resuming_transfer ledger.old.link handle tag
+        (delivery_of entry.message_format None None false)) rest.now frames.items)) }
     ensures kept { OnOk result
         (ledger.new.link.unsettled ≡ with_entry ledger.old.link.unsettled tag entry) }
     ensures registered { OnOk result (ledger.new.records ≡ after (Change.Enters tag) ledger.old.records) }

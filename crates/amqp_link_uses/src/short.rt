@@ -1,7 +1,8 @@
 //! The shortest callers: one sends a delivery, one receives a delivery of a single transfer and accepts it.
-ghost use Rattle.std.specs.Prelude.{◌≡◌, map, IfOk, IfSome};
+ghost use Rattle.std.specs.Prelude.{◌≡◌, true, false, map, Some, IfOk, IfSome, OnOk, OnErr};
 ghost use Rattle.std.specs.List.{concat};
 ghost use Rattle.amqp_link.specs.Frames.{payload_of};
+ghost use Rattle.amqp_link.specs.Keeping.{after_one, said_of_one};
 
 use amqp_link::errors::{DispositionError, LinkStateError, ReceiverTransferError};
 use amqp_link::types::{Attach, LinkFlow, Target, Transfer};
@@ -68,7 +69,14 @@ pub fn receive_one(
 pub fn accept(
     link: &mut ReceiverLink<Target>,
     delivery: &Delivery<Whole>,
-) -> Result<Option<LinkFrame>, DispositionError> {
+) -> Result<Option<LinkFrame>, DispositionError>
+    ensures told { IfOk result (λ frame. frame ≡ said_of_one (Some true) link.old.rcv_settle_mode DeliveryState.Accepted false
+        delivery.now.info link.old.unsettled) }
+    ensures after { OnOk result (link.new ≡ record link.old {
+      unsettled = after_one true DeliveryState.Accepted delivery.now.info.delivery_tag link.old.unsettled;
+    }) }
+    ensures left { OnErr result (link.new ≡ link.old) }
+{
     let info = DeliveryInfo::of(delivery)?;
     let accepted = link.dispose(&info, Some(true), DeliveryState::Accepted, false);
     drop(info);

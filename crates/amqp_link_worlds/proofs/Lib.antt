@@ -6,6 +6,7 @@ pub mod WorldLemmas
 pub mod CallLemmas
 pub mod AttachSteps
 pub mod RunLemmas
+pub mod SentLemmas
 pub mod CalledLemmas
 pub mod OutLemmas
 pub mod ResolveLemmas

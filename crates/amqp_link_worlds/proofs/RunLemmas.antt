@@ -398,3 +398,45 @@ module _ {B : Type 0} (decoded : List ℕ → Result (Message B) DecodeError) wh
   step_keeps_payload tag old new e (Ok answer) k s = done_keeps tag old new e answer k s.0 s.1
   step_keeps_payload tag old new e (Err OutOfMemory) k s = λ _ _. left_keeps tag old new e s.1
   step_keeps_payload tag old new e (Err error) k s = λ _ _. refused_keeps tag old new e error s.1
+
+  -- unless it is sent anew, a delivery that is open was open
+  abbrev WasOpen : Tag → World → Result (AnswerOf B) PairError → World → Type 0
+  WasOpen tag old r new = is_send_of tag r ≡ false → IsOpenIn new tag → IsOpenIn old tag
+
+  same_fates : (tag : Tag) (old new w : World) → new ≡ w → fates_of tag w.ledger.records ≡ fates_of tag old.ledger.records → IsOpenIn new tag → IsOpenIn old tag
+  same_fates tag old new w is fates o = subst (λ f. IsOpen (latest f)) fates (subst (λ x. IsOpenIn x tag) is o)
+
+  done_was : (tag : Tag) (old new : World) (e : Event) (answer : AnswerOf B) → IsWorld old → refusal (tests_of decoded old e) ≡ None → Does decoded old e answer new → WasOpen tag old (Ok answer) new
+  done_was tag old new (Attach limit) (answer.Attached count) k may d = λ _ o. open_before_attach old new limit count k may d tag o
+  done_was tag old new (Grant n) (answer.Granted credit) k may d = λ _ o. same_fates tag old new _ d.world refl o
+  done_was tag old new (Send payload) (answer.Sent sent count) k may d =
+      by_tag (λ t. WasOpen t old (Ok (answer.Sent sent count)) new) sent
+      (λ s o. absurd (false_is_not_true (sym s ∙ same_tag sent)))
+      (λ other n s o. same_fates other old new _ d.world (fates_registered_other sent other old.ledger.records n) o)
+      tag
+  done_was tag old new (Arrive id) (answer.Arrived at section offset whole) k may d = λ _ o. same_fates tag old new _ d.world refl o
+  done_was tag old new Cut answer.Cut k may d = λ _ o. same_fates tag old new _ d.world refl o
+  done_was tag old new ResumeNext (answer.Resumed next count resume) k may d =
+      by_tag (λ t. WasOpen t old (Ok (answer.Resumed next count resume)) new) next
+      (λ s o. open_listed old next d.next d.others k d.listed)
+      (λ other n s o. same_fates other old new _ d.world (fates_registered_other next other old.ledger.records n) o)
+      tag
+  done_was tag old new PutBackNext (answer.PutBack next) k may d =
+      by_tag (λ t. WasOpen t old (Ok (answer.PutBack next)) new) next
+      (λ s o. open_listed old next d.next d.others k d.listed)
+      (λ other n s o. same_fates other old new _ d.world (fates_registered_other next other old.ledger.records n) o)
+      tag
+  done_was tag old new (HandOut out) (answer.HandedOut delivery) k may d = λ _ o. (handed_stays tag out old new d.before d.known d.world).was o
+  done_was tag old new (Settle settled) answer.Settled k may d =
+      by_tag (λ t. WasOpen t old (Ok answer.Settled) new) settled
+      (λ s o. absurd (closed_settled old new settled k may d o))
+      (λ other n s o. same_fates other old new _ d.world
+      (fates_given other ((settled, Resolved (Ok (Some Accepted))) ∷ []) old.ledger.records
+      ∙ ap (λ o. map (fate_given o) (fates_of other old.ledger.records)) (entry_at-behind settled other (Resolved (Ok (Some Accepted))) [] n) ∙ none_given (fates_of other old.ledger.records)) o)
+      tag
+  done_was tag old new _ _ k may d = absurd d
+
+  pub step_was_open : (tag : Tag) (old new : World) (e : Event) (r : Result (AnswerOf B) PairError) → IsWorld old → Step decoded old e r new → WasOpen tag old r new
+  step_was_open tag old new e (Ok answer) k s = done_was tag old new e answer k s.0 s.1
+  step_was_open tag old new e (Err OutOfMemory) k s = λ _ o. (left_stays tag old new e s.1).was o
+  step_was_open tag old new e (Err error) k s = λ _ o. (refused_stays tag old new e error s.1).was o

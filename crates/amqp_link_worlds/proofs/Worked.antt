@@ -1,6 +1,8 @@
 -- Values of the definitions that were worked out by hand.
-use Rattle.std.proofs.Common.{◌≡◌, sym, refl, true, false, List, [], ◌∷◌, ◌++◌, Some, None, Ok, ℕ}
+use Rattle.std.proofs.Common.{◌≡◌, sym, refl, true, false, List, [], ◌∷◌, ◌++◌, Some, None, Ok, Result, ℕ}
 use Rattle.amqp_link_payloads.specs.Header.{header_len}
+use Rattle.amqp_link_payloads.specs.declared.error.DecodeError.{DecodeError}
+use Rattle.amqp_link_payloads.specs.declared.message.Message.{Message}
 use Rattle.amqp_link_payloads.specs.Position.{starts}
 use Rattle.amqp_link_types.specs.Entries.{Tag}
 use Rattle.amqp_link_types.specs.Refusals.{refusal}
@@ -16,6 +18,9 @@ use Rattle.amqp_link_sender.specs.Senders.{Sender, new_entry}
 use Rattle.amqp_link_receiver.specs.Receivers.{Receiver}
 use Rattle.amqp_link_ledger.specs.Fates.{HandsOut, Resolves, after}
 use Rattle.amqp_link_ledger.specs.declared.fate.Fate.TheVariants.{Pending, HandedOut, Resolved}
+use Rattle.amqp_link_worlds.specs.PairRuns.{Moment, last_sent}
+use Rattle.amqp_link_worlds.specs.declared.event.AnswerOf.TheVariants as answer
+use Rattle.amqp_link_worlds.specs.declared.event.Event.TheVariants as event
 use Rattle.amqp_link_worlds.specs.Resumptions.{entry_of, rest_of, resumes}
 use Rattle.amqp_link_worlds.specs.Steps.{delivery_transfer, begun, received, new_sender, new_receiver, new_world, attaches_fit, is_halfway_at_other, attach_tests, grant_tests, send_tests, arrive_tests, cut_tests, next_tests, settle_tests}
 use Rattle.amqp_link_worlds.specs.Wires.{OnWire, under, frames_of, payload_of_all}
@@ -181,3 +186,18 @@ listed_refusals = (refl, refl)
 
 halfway_values : (is_halfway_at_other 40 (Halfway 30) ≡ true) × (is_halfway_at_other 30 (Halfway 30) ≡ false) × (is_halfway_at_other 40 Apart ≡ false)
 halfway_values = (refl, refl, refl)
+
+-- ---- what the last send of a tag gave
+
+module _ {B : Type 0} (decoded : List ℕ → Result (Message B) DecodeError) where
+  abbrev sends : List ℕ → Moment decoded
+  sends payload = record { before = new_world 0; event = event.Send payload; answer = Ok (answer.Sent tag 1); after = new_world 0 }
+
+  abbrev cuts : Moment decoded
+  cuts = record { before = new_world 0; event = event.Cut; answer = Ok answer.Cut; after = new_world 0 }
+
+  sent_before_a_cut : last_sent decoded tag (sends (1 ∷ 2 ∷ []) ∷ cuts ∷ []) ≡ Some (1 ∷ 2 ∷ [])
+  sent_before_a_cut = refl
+
+  sent_again : last_sent decoded tag (sends (1 ∷ 2 ∷ []) ∷ cuts ∷ sends (3 ∷ []) ∷ []) ≡ Some (3 ∷ [])
+  sent_again = refl

@@ -1,6 +1,7 @@
 -- Whole runs of a pair: events, their answers, and the worlds between.
-use Rattle.std.specs.Prelude.{◌≡◌, ◌⊎◌, ◌<◌, ℕ, Bool, true, false, not, map, take, length, ◌&&◌, ◌||◌, List, [], ◌∷◌, ◌++◌, flat_map, None, Some, Result, Ok, Err, if◌then◌else◌}
+use Rattle.std.specs.Prelude.{◌≡◌, ◌⊎◌, ◌<◌, ℕ, Bool, true, false, not, map, take, length, ◌&&◌, ◌||◌, List, [], ◌∷◌, ◌++◌, flat_map, Option, None, Some, IfSome, Result, Ok, Err, if◌then◌else◌}
 use Rattle.std.specs.List.{list_any}
+use Rattle.std.specs.Option.{option_or}
 use Rattle.std.specs.Str.{bytes_eq}
 use Rattle.amqp_link_payloads.specs.declared.error.DecodeError.{DecodeError}
 use Rattle.amqp_link_payloads.specs.declared.message.Message.{Message}
@@ -9,7 +10,7 @@ use Rattle.amqp_link_types.specs.Frames.{payload_of}
 use Rattle.amqp_link_types.specs.Refusals.{refusal}
 use Rattle.amqp_link_ledger.specs.Fates.{MovesOnce, fates_of, latest}
 use Rattle.amqp_link_worlds.specs.Before.{before_measuring, before_decoding}
-use Rattle.amqp_link_worlds.specs.Steps.{PairTests, Attaches, StaysOrStops, Grants, Sends, Arrives, Cuts, Resumes, PutsBack, HandsOutDelivery, Settles, IsUndecoded, attach_tests, grant_tests, send_tests, arrive_tests, cut_tests, next_tests, hand_out_tests, settle_tests}
+use Rattle.amqp_link_worlds.specs.Steps.{PairTests, Attaches, StaysOrStops, Grants, Sends, Arrives, Cuts, Resumes, PutsBack, HandsOutDelivery, Settles, IsUndecoded, has_flag, attach_tests, grant_tests, send_tests, arrive_tests, cut_tests, next_tests, hand_out_tests, settle_tests}
 use Rattle.amqp_link_worlds.specs.Wires.{OnWire}
 use Rattle.amqp_link_worlds.specs.Worlds.{World, IsOpen, bytes_in, held_at}
 use Rattle.amqp_link_worlds.specs.declared.event.AnswerOf.{AnswerOf}
@@ -27,6 +28,11 @@ Decoder B = List ℕ → Result (Message B) DecodeError
 abbrev pub first_payload : List OnWire → List ℕ
 first_payload [] = []
 first_payload (next ∷ wire) = payload_of next.frame
+
+-- the payload that an event sends
+abbrev pub payload_to_send : Event → Option (List ℕ)
+payload_to_send (Send payload) = Some payload
+payload_to_send _ = None
 
 module _ {B : Type 0} where
   -- whether an answer states that a delivery with this tag was sent
@@ -158,6 +164,22 @@ module _ {B : Type 0} where
       pub in_time : StopsInTime answers
       pub all : finished ≡ true → (length answers ≡ length events) × (ends_out_of_memory answers ≡ false)
       pub not_all : finished ≡ false → (length answers < length events) ⊎ (ends_out_of_memory answers ≡ true)
+
+    -- ---- what was sent
+
+    -- the payload that a step sends in a delivery with this tag
+    abbrev pub payload_sent : Tag → Moment → Option (List ℕ)
+    payload_sent tag m = if is_send_of tag m.answer then payload_to_send m.event else None
+
+    -- the payload of the last delivery with this tag that these steps send
+    abbrev pub last_sent : Tag → List Moment → Option (List ℕ)
+    last_sent tag [] = None
+    last_sent tag (m ∷ moments) = option_or (last_sent tag moments) (payload_sent tag m)
+
+    -- of each delivery whose last transfer has arrived the receiver holds exactly what was sent
+    abbrev pub HoldsWhatWasSent : List Moment → World → Type 0
+    HoldsWhatWasSent moments new = (tag : Tag) → has_flag (λ p. p.whole) new tag ≡ true
+        → IfSome (last_sent tag moments) (λ payload. bytes_in (held_at new tag) ≡ payload)
 
     -- ---- what arrived
 

@@ -142,3 +142,7 @@ IsGoodIn together s = IsSomeAnd (entry_in s) (λ entry. IsSomeAnd s.progress (λ
 -- each delivery whose latest registration is pending or handed out is good
 abbrev pub Good : World → Type 0
 Good w = (tag : Tag) → IsOpen (latest (fates_of tag w.ledger.records)) → IsGoodIn (is_together w.phase) (standing w tag)
+
+-- if a tag's latest registration is pending or handed out, the entry at the sender has this payload
+abbrev pub IsRegistered : World → Tag → List ℕ → Type 0
+IsRegistered w tag payload = IsOpen (latest (fates_of tag w.ledger.records)) → IsSomeAnd (entry_in (standing w tag)) (λ entry. entry.payload ≡ payload)

@@ -22,10 +22,10 @@ ghost use Rattle.amqp_link_worlds.specs.Attachable.{CanAsk, CanTakeAsked, CanAns
 ghost use Rattle.amqp_link_worlds.specs.Callable.{CanSend, IsFree, CanGrant, CanCut, CanResume, CanComplete, CanSettle};
 ghost use Rattle.amqp_link_worlds.specs.Invariants.{IsWorld};
 ghost use Rattle.amqp_link_worlds.specs.Receiving.{CanReceive};
-ghost use Rattle.amqp_link_worlds.specs.PairRuns.{Does, FatesMoveOnce, HoldsWhatArrived, IsRun, Moment, RunsEvents, Step, is_out_after, is_send_of, tests_of};
-ghost use Rattle.amqp_link_worlds.specs.Steps.{new_world, list_to_resume, later, sender_asking, receiver_at_limit, receiver_half_attached, receiver_together, Attaches, AttachStop, StopsAt, Grants, Sends, Arrives, Cuts, Resumes, PutsBack, HandsOutDelivery, Settles, after_hand_out, attach_tests, send_tests, arrive_tests, cut_tests, next_tests, hand_out_tests, settle_tests};
+ghost use Rattle.amqp_link_worlds.specs.PairRuns.{Does, FatesMoveOnce, HoldsWhatArrived, HoldsWhatWasSent, IsRun, Moment, RunsEvents, Step, is_out_after, is_send_of, tests_of};
+ghost use Rattle.amqp_link_worlds.specs.Steps.{new_world, list_to_resume, later, sender_asking, receiver_at_limit, receiver_half_attached, receiver_together, Attaches, AttachStop, StopsAt, Grants, Sends, Arrives, Cuts, Resumes, PutsBack, HandsOutDelivery, Settles, after_hand_out, has_flag, attach_tests, send_tests, arrive_tests, cut_tests, next_tests, hand_out_tests, settle_tests};
 ghost use Rattle.amqp_link_worlds.specs.Wires.{OnWire};
-ghost use Rattle.amqp_link_worlds.specs.Worlds.{World, is_out_at, Apart, Halfway, Good, IsOpen, is_together, standing, entry_in, held_at, bytes_in, receiver_entry};
+ghost use Rattle.amqp_link_worlds.specs.Worlds.{World, is_out_at, Apart, Halfway, Good, IsOpen, IsRegistered, is_together, standing, entry_in, held_at, bytes_in, receiver_entry};
 ghost use Rattle.amqp_link_worlds.specs.declared.error.PairError.{PairError as Refusal};
 ghost use Rattle.amqp_link_worlds.specs.declared.event.AnswerOf.{AnswerOf};
 ghost use Rattle.amqp_link_worlds.specs.declared.event.Event.{Event};
@@ -155,6 +155,22 @@ pub fn no_payload_changes<B>()
     ensures { (decoded : List ℕ → Result (TheMessage B) DecodeError) (tag : Tag) (old new : World) (e : Event)
         (r : Result (AnswerOf B) Refusal) → IsWorld old → Step decoded old e r new → is_send_of tag r ≡ false
         → IsOpen (latest (fates_of tag new.ledger.records)) → entry_in (standing new tag) ≡ entry_in (standing old tag) }
+{}
+
+/// A whole delivery is what was sent: a send registers its payload (`sent`), every other step keeps what is registered
+/// (`stays`), and of a delivery whose last transfer has arrived the receiver holds the registered payload (`whole`). So
+/// over a run the receiver holds of each such delivery exactly what the last send of its tag gave (`run`).
+pub fn held_is_what_was_sent<B>()
+    ensures sent { (old new : World) (payload tag : List ℕ) (count : ℕ) → Sends old payload tag count new
+        → IsRegistered new tag payload }
+    ensures stays { (decoded : List ℕ → Result (TheMessage B) DecodeError) (tag payload : List ℕ) (old new : World) (e : Event)
+        (r : Result (AnswerOf B) Refusal) → IsWorld old → Step decoded old e r new → is_send_of tag r ≡ false
+        → IsRegistered old tag payload → IsRegistered new tag payload }
+    ensures whole { (w : World) (tag payload : List ℕ) → IsWorld w → IsRegistered w tag payload
+        → has_flag (λ p. p.whole) w tag ≡ true → bytes_in (held_at w tag) ≡ payload }
+    ensures run { (decoded : List ℕ → Result (TheMessage B) DecodeError) (old new : World)
+        (moments : List (Moment decoded)) → IsWorld old → IsRun decoded old moments new
+        → HoldsWhatWasSent decoded moments new }
 {}
 
 /// After a run the receiver holds of each delivery exactly the bytes that arrived.

@@ -1,5 +1,5 @@
 //! Bytes as hexadecimal digits, two a byte, `-` for none.
-ghost use Rattle.std.specs.Prelude.{◌≡◌, ◌%◌, length, IfOk, OnErr, MatchOption};
+ghost use Rattle.std.specs.Prelude.{◌≡◌, ◌≤◌, ◌%◌, length, IfOk, OnErr, MatchOption};
 ghost use Rattle.std.specs.Str.Parse.{AllDigits};
 ghost use Rattle.line_text.specs.Hex.{IsHexText, hex_bytes};
 
@@ -8,12 +8,13 @@ use std::alloc::{AllocError, Global};
 
 /// The bytes that `text` states in digits of either case, or `None` if it states none.
 ///
-/// Allocates only if `text` states bytes.
+/// Allocates only if `text` is pairs of digits.
 pub fn parse_bytes(alloc: Global, text: &[u8]) -> Result<Option<Vec<u8>>, AllocError>
     ensures ok { IfOk result (λ found.
         MatchOption found (¬ IsHexText text.now)
         (λ bytes. IsHexText text.now × (bytes.items ≡ hex_bytes text.now))) }
     ensures err { OnErr result (IsHexText text.now) }
+    ensures memory { OnErr result (2 ≤ length text.now) }
 {
     if text == b"-".as_slice() {
         return Ok(Some(Vec::new(alloc)));

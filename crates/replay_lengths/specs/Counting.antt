@@ -1,6 +1,6 @@
 -- How rows are counted.
 use Rattle.std.specs.Prelude.{◌≡◌, ℕ, ◌+◌, ◌-◌, ◌^◌, ◌<◌, List, Some, min, slice_index_or}
-use Rattle.replay_lengths.specs.declared.row.Compared.{Compared}
+use Rattle.length_rows.specs.declared.row.Compared.{Compared}
 use Rattle.replay_lengths.specs.declared.tally.Tally.{Tally}
 
 -- one more, up to the largest number that can be counted

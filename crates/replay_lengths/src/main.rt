@@ -6,16 +6,8 @@
 //! row, and 3 if reading or writing fails, or if it is out of memory.
 #![tactic(auto)]
 
-mod error;
-mod fields;
-mod performative;
-mod reader;
 mod replay;
-mod row;
-mod state;
 mod tally;
-mod terminus;
-mod value;
 
 use line_text::streams::buffered;
 pub use replay::replay;

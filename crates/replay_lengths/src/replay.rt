@@ -1,9 +1,10 @@
 //! A replay: the lines in order, and its output.
-ghost use Rattle.std.specs.Prelude.{◌≡◌, ◌≤◌};
+ghost use Rattle.std.specs.Prelude.{◌≡◌, ◌≤◌, IfOk};
+ghost use Rattle.replay_lengths.specs.Report.{Concludes};
 
-use crate::error::RowError;
-use crate::row::{Compared, compare};
 use crate::tally::Tallies;
+use length_rows::error::RowError;
+use length_rows::row::{Compared, compare};
 use line_text::line::read_line;
 use std::alloc::Global;
 use std::io;
@@ -96,14 +97,18 @@ fn tell<W: Write>(number: u64, compared: &Compared, output: &mut W) -> io::Resul
 }
 
 // Writes a line that is no row.
-fn refuse<W: Write>(number: u64, output: &mut W) -> io::Result<Verdict> {
+fn refuse<W: Write>(number: u64, output: &mut W) -> io::Result<Verdict>
+    ensures { IfOk result (λ verdict. verdict ≡ Verdict.NotARow) }
+{
     writeln!(output, "line {number}: not a row")?;
     output.flush()?;
     Ok(Verdict::NotARow)
 }
 
 // Writes how many rows of each type agree.
-fn conclude<W: Write>(tallies: &Tallies, output: &mut W) -> io::Result<Verdict> {
+fn conclude<W: Write>(tallies: &Tallies, output: &mut W) -> io::Result<Verdict>
+    ensures { IfOk result (λ verdict. Concludes verdict tallies.now.tallies) }
+{
     for tally in tallies.as_slice() {
         writeln!(output, "{tally}")?;
     }

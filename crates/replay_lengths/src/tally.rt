@@ -1,7 +1,7 @@
 //! How many rows of each type agree.
 ghost use Rattle.std.specs.Prelude.{◌≡◌, ◌<◌, ◌↔◌, ℕ, IsTrue, All, slice_index_or};
 
-use crate::row::{Compared, KINDS, Kind};
+use length_rows::row::{Compared, KINDS, Kind};
 use std::fmt;
 
 /// How many rows of a type there are, and how many of them agree.
@@ -58,7 +58,7 @@ pub struct Tallies {
 
 impl Tallies {
     ghost use Rattle.replay_lengths.specs.Counting.{EachCounted};
-    ghost use Rattle.replay_lengths.specs.declared.row.Kind.{Kind};
+    ghost use Rattle.length_rows.specs.declared.row.Kind.{Kind};
     ghost use Rattle.replay_lengths.specs.declared.tally.Tally.{Tally};
 
     /// No rows.

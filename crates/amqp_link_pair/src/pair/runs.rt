@@ -3,7 +3,7 @@ ghost use Rattle.std.specs.Prelude.{◌≡◌};
 ghost use Rattle.amqp_link_payloads.specs.Bodies.{whole_message};
 ghost use Rattle.amqp_link_ledger.specs.Fates.{MovesOnce};
 ghost use Rattle.amqp_link_worlds.specs.Invariants.{IsWorld};
-ghost use Rattle.amqp_link_worlds.specs.PairRuns.{FatesMoveOnce, HoldsWhatArrived, RunsEvents, Step, is_answer_out_of_memory as is_memory};
+ghost use Rattle.amqp_link_worlds.specs.PairRuns.{FatesMoveOnce, HoldsWhatArrived, HoldsWhatWasSent, RunsEvents, Step, is_answer_out_of_memory as is_memory};
 ghost use Rattle.amqp_link_worlds.specs.Worlds.{Good};
 ghost use Rattle.amqp_link_worlds.specs.declared.event.Event.TheVariants as event;
 
@@ -25,15 +25,17 @@ impl Pair {
     /// After any list of sends, grants, arrivals, cuts and new attachments, for each delivery whose latest
     /// registration is pending or handed out: the receiver holds exactly the bytes that arrived over all
     /// attachments (`arrived`); they are a front of its payload, the position that the receiver reports gives
-    /// the sender exactly the rest, and the last transfer completes the payload (all three `good`). And each
-    /// registration is pending, withdrawn, handed out, or resolved once (`fates`, and `made` for those that the run
-    /// itself makes).
+    /// the sender exactly the rest, and the last transfer completes the payload (all three `good`): once it has
+    /// arrived, the receiver holds exactly what was sent (`sent`). And each registration is pending, withdrawn,
+    /// handed out, or resolved once (`fates`, and `made` for those that the run itself makes).
     ///
     /// Its cost is that of the single calls.
     pub fn run(&mut self, events: &[Event]) -> (Vec<Result<Answer, PairError>>, bool)
         ensures run { RunsEvents whole_message self.old events.now result.0.items result.1 self.new }
         ensures arrived { (run : RunsEvents whole_message self.old events.now result.0.items result.1 self.new)
             → HoldsWhatArrived whole_message self.old run.moments self.new }
+        ensures sent { (run : RunsEvents whole_message self.old events.now result.0.items result.1 self.new)
+            → HoldsWhatWasSent whole_message run.moments self.new }
         ensures fates { MovesOnce self.old.ledger.records self.new.ledger.records }
         ensures made { (run : RunsEvents whole_message self.old events.now result.0.items result.1 self.new)
             → FatesMoveOnce whole_message run.moments self.new }

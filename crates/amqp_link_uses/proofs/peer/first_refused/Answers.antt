@@ -1,9 +1,10 @@
-use Rattle.std.proofs.Common.{◌≡◌, ◌∙◌, ap, length, arith}
+use Rattle.std.proofs.Common.{◌≡◌, ◌∙◌, ap, sym, length, arith}
 use Rattle.std.proofs.lemmas.List.{nil_from_length}
 use Rattle.std.specs.Iterator.Adapters.{enumerate_source, enumerate_count}
 use Rattle.std.specs.Vec.{vec_len}
 use Rattle.std.specs.Vec.Iter.{into_iter_items, into_iter_len}
-use Rattle.amqp_link_uses.proofs.PeerLemmas.{is_allowed_by_test, driven_nowhere, driven_on, driven_to_refusal, driven_to_end}
+use Rattle.amqp_link_uses.proofs.PeerLemmas.{has_transition_by_test, not_allowed_without_transition, driven_nowhere, driven_on, driven_to_refusal, driven_to_end}
+use Rattle.amqp_link_uses.specs.Peers.{standing}
 use Rattle.amqp_link_uses.proofs.peer.first_refused.Goals as goal
 
 pub loop-place-init : goal.loop-place-init
@@ -21,9 +22,11 @@ loop-place-init g c =
 pub loop-place-preserved : goal.loop-place-preserved
 loop-place-preserved g c =
     let (next, place_is, one, fits) = c.in-Some.ensures.steps in
-    let allowed = is_allowed_by_test c.in-Some.frame c.local_state.ensures c.has_transition.ensures c.if-not-has_transition.false in
+    let goes = has_transition_by_test c.in-Some.frame c.local_state.ensures c.has_transition.ensures c.if-not-has_transition.false in
+    let taken = c.if-not-send_or_take.false in
+    let allowed = sym (c.send_or_take.ensures.taken goes) ∙ taken in
     record {
-      driven = driven_on c.loop-place.invariant.driven next.0 one allowed c.send_or_take.ensures;
+      driven = driven_on c.loop-place.invariant.driven next.0 one allowed (c.send_or_take.ensures.leads taken);
       fits = omega (arith, next.1, one);
     }
 
@@ -36,5 +39,14 @@ returns g c =
 pub returns-then-not-has_transition : goal.returns-then-not-has_transition
 returns-then-not-has_transition g c =
     let (next, place_is, one, fits) = c.in-Some.ensures.steps in
-    let refused = is_allowed_by_test c.in-Some.frame c.local_state.ensures c.has_transition.ensures c.if-not-has_transition.true in
+    let none = has_transition_by_test c.in-Some.frame c.local_state.ensures c.has_transition.ensures c.if-not-has_transition.true in
+    let refused = not_allowed_without_transition c.in-Some.frame (standing (g.L.LinkDetach.shown c.loop-place.link)) none in
     rw place_is (driven_to_refusal c.loop-place.invariant.driven next.0 refused)
+
+pub returns-then-not-send_or_take : goal.returns-then-not-send_or_take
+returns-then-not-send_or_take g c =
+    let (next, place_is, one, fits) = c.in-Some.ensures.steps in
+    let goes = has_transition_by_test c.in-Some.frame c.local_state.ensures c.has_transition.ensures c.if-not-has_transition.false in
+    let none = c.if-not-send_or_take.true in
+    let refused = sym (c.send_or_take.ensures.taken goes) ∙ none in
+    rw (c.send_or_take.ensures.left none, place_is) (driven_to_refusal c.loop-place.invariant.driven next.0 refused)

@@ -3,6 +3,7 @@ use Rattle.std.proofs.lemmas.List.{append-nil}
 use Rattle.amqp_link_payloads.specs.Bodies.{whole_message}
 use Rattle.amqp_link_worlds.specs.PairRuns.{RunsEvents}
 use Rattle.amqp_link_worlds.proofs.RunLemmas.{FatesMoveOnce-run, held_is_what_arrived, MovesOnce-run}
+use Rattle.amqp_link_worlds.proofs.SentLemmas.{run_holds_what_was_sent}
 use Rattle.amqp_link_pair.proofs.RunLemmas.{all_done, goes_on, stops_after, stops_before}
 use Rattle.amqp_link_pair.proofs.pair.Pair.run.Goals as goal
 
@@ -16,6 +17,9 @@ returns-then-is_err-clause-run c =
 
 pub returns-then-is_err-clause-arrived : goal.returns-then-is_err-clause-arrived
 returns-then-is_err-clause-arrived c = λ run. held_is_what_arrived whole_message c.args.self.now c.loop-event.self run.moments c.global.ensures run.steps
+
+pub returns-then-is_err-clause-sent : goal.returns-then-is_err-clause-sent
+returns-then-is_err-clause-sent c = λ run. run_holds_what_was_sent whole_message c.args.self.now c.loop-event.self run.moments c.global.ensures run.steps
 
 pub returns-then-is_err-clause-made : goal.returns-then-is_err-clause-made
 returns-then-is_err-clause-made c = λ run. FatesMoveOnce-run whole_message c.args.self.now c.loop-event.self run.moments run.steps
@@ -37,6 +41,9 @@ returns-then-stops-clause-run c =
 
 pub returns-then-stops-clause-arrived : goal.returns-then-stops-clause-arrived
 returns-then-stops-clause-arrived c = λ run. held_is_what_arrived whole_message c.args.self.now c.answer_to-answer.new.self run.moments c.global.ensures run.steps
+
+pub returns-then-stops-clause-sent : goal.returns-then-stops-clause-sent
+returns-then-stops-clause-sent c = λ run. run_holds_what_was_sent whole_message c.args.self.now c.answer_to-answer.new.self run.moments c.global.ensures run.steps
 
 pub returns-then-stops-clause-made : goal.returns-then-stops-clause-made
 returns-then-stops-clause-made c = λ run. FatesMoveOnce-run whole_message c.args.self.now c.answer_to-answer.new.self run.moments run.steps
@@ -69,6 +76,9 @@ returns-clause-run c =
 
 pub returns-clause-arrived : goal.returns-clause-arrived
 returns-clause-arrived c = λ run. held_is_what_arrived whole_message c.args.self.now c.loop-event.self run.moments c.global.ensures run.steps
+
+pub returns-clause-sent : goal.returns-clause-sent
+returns-clause-sent c = λ run. run_holds_what_was_sent whole_message c.args.self.now c.loop-event.self run.moments c.global.ensures run.steps
 
 pub returns-clause-made : goal.returns-clause-made
 returns-clause-made c = λ run. FatesMoveOnce-run whole_message c.args.self.now c.loop-event.self run.moments run.steps

@@ -1,7 +1,7 @@
 use Rattle.std.proofs.Common.{◌<◌, ◌≢◌, ℕ, List, length, slice_index_or, arith, sym, get_or-set_other, get_or-set_same, below_more}
 use Rattle.std.proofs.lemmas.List.{get_or_default, length-set}
 use Rattle.replay_lengths.specs.Counting.{IsCounted}
-use Rattle.replay_lengths.specs.declared.row.Compared.{Compared}
+use Rattle.length_rows.specs.declared.row.Compared.{Compared}
 use Rattle.replay_lengths.specs.declared.tally.Tally.{Tally}
 use Rattle.replay_lengths.proofs.tally.Tallies.count.Goals as goal
 

@@ -1,8 +1,8 @@
 //! The shortest callers.
-use super::samples::{attach_of, attached_receiver, parts, payload, tag_of};
-use crate::short::{accept, receive_one, send_one};
+use crate::samples::{attach_of, attached_receiver, parts, payload, tag_of};
 use amqp_link::types::{LinkFlow, OutputHandle, Role, SenderSettleMode, Transfer};
 use amqp_link::{LinkAttach, LinkFrame, SenderLink};
+use amqp_link_uses::short::{accept, receive_one, send_one};
 
 #[test]
 fn one_delivery_is_sent(rt: HostRuntime) {

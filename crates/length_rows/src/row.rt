@@ -45,7 +45,7 @@ pub const KINDS: [Kind; 9] = [
 ];
 
 impl Kind {
-    ghost use Rattle.replay_lengths.specs.Report.{word_of};
+    ghost use Rattle.length_rows.specs.Words.{word_of};
 
     /// The word that names the type.
     pub fn word(self) -> &'static str
@@ -67,7 +67,7 @@ impl Kind {
 
 impl fmt::Display for Kind {
     ghost use Rattle.std.specs.Prelude.{Some};
-    ghost use Rattle.replay_lengths.specs.Report.{word_of};
+    ghost use Rattle.length_rows.specs.Words.{word_of};
 
     ghost output = { λ kind. Some (word_of kind) };
 

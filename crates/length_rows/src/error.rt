@@ -12,7 +12,7 @@ pub enum RowError {
 
 impl From<AllocError> for RowError {
     ghost use Rattle.std.specs.Prelude.{◌≡◌};
-    ghost use Rattle.replay_lengths.specs.declared.error.RowError.TheVariants.{OutOfMemory};
+    ghost use Rattle.length_rows.specs.declared.error.RowError.TheVariants.{OutOfMemory};
 
     ghost from_gives = { λ _ error. error ≡ OutOfMemory };
 
@@ -23,7 +23,7 @@ impl From<AllocError> for RowError {
 
 impl<T: Drop> From<AllocFailed<T>> for RowError {
     ghost use Rattle.std.specs.Prelude.{◌≡◌};
-    ghost use Rattle.replay_lengths.specs.declared.error.RowError.TheVariants.{OutOfMemory};
+    ghost use Rattle.length_rows.specs.declared.error.RowError.TheVariants.{OutOfMemory};
 
     ghost from_gives = { λ _ error. error ≡ OutOfMemory };
 

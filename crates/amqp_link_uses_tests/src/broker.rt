@@ -1,10 +1,10 @@
 //! A broker's core.
-use super::samples::{attached_receiver, attached_sender, payload, tag_of};
-use crate::broker::{Arrival, Forwarded, pass_outcome_back, send_on, take_in};
+use crate::samples::{attached_receiver, attached_sender, payload, tag_of};
 use amqp_link::types::{Target, Transfer};
 use amqp_link::{
     Delivery, DeliveryInfo, DeliveryState, IncompleteTransfer, LinkFrame, ReceiverLink, Whole,
 };
+use amqp_link_uses::broker::{Arrival, Forwarded, pass_outcome_back, send_on, take_in};
 use std::process::Abort;
 
 // A transfer of the delivery with id 7 and the tag of the count 5; more is to come, or not.

@@ -1,8 +1,8 @@
 //! A client.
-use super::samples::{attach_of, parts, payload, tag_of};
-use crate::client::{Client, Opening, RequestError};
+use crate::samples::{attach_of, parts, payload, tag_of};
 use amqp_link::types::{LinkFlow, OutputHandle, Role, SenderSettleMode};
 use amqp_link::{DeliveryState, LinkFrame};
+use amqp_link_uses::client::{Client, Opening, RequestError};
 use std::process::Abort;
 
 fn client(rt: &(impl Abort + AllocGlobal)) -> Client {

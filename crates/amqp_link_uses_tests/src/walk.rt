@@ -1,6 +1,6 @@
 //! The smallest run of a pair.
-use super::samples::payload;
-use crate::walk::deliver_through_a_cut;
+use crate::samples::payload;
+use amqp_link_uses::walk::deliver_through_a_cut;
 
 #[test]
 fn the_bytes_that_go_in_come_out(rt: HostRuntime) {

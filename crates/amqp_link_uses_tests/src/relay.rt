@@ -1,11 +1,11 @@
 //! A relay.
-use super::samples::{attach_of, attached_sender, payload, tag_of};
-use crate::relay::{Reattached, reattach, send_rest};
+use crate::samples::{attach_of, attached_sender, payload, tag_of};
 use amqp_link::resumption::ResumingDelivery;
 use amqp_link::types::{
     Attach, Detach, Handle, OutputHandle, Role, SenderSettleMode, Target, UnsettledMap,
 };
 use amqp_link::{DeliveryState, Fate, LinkDetach, OutcomeLedger, Waiting};
+use amqp_link_uses::relay::{Reattached, reattach, send_rest};
 use std::process::Abort;
 
 // A relay that has sent twelve bytes, and was cut off then.

@@ -1,0 +1,12 @@
+use Rattle.std.proofs.Common.{refl, Ok}
+use Rattle.amqp_link.specs.Bodies.{whole_message}
+use Rattle.amqp_link.specs.declared.pair.AnswerOf.TheVariants as answer
+use Rattle.amqp_link.specs.declared.pair.Event.TheVariants as event
+use Rattle.amqp_link_uses.proofs.walk.resume.Goals as goal
+
+pub returns-clause-keeps : goal.returns-clause-keeps
+returns-clause-keeps c =
+    let resumed = c.in_ok-resumed.resumed in
+    let call = c.in_ok-resumed.ensures in
+    λ tag payload. c.held_is_what_was_sent.ensures.stays whole_message tag payload c.args.pair.now c.resume_next.new.self event.ResumeNext
+    (Ok (answer.Resumed resumed.tag resumed.frames resumed.resume)) c.requires (call.refused, call.done) refl

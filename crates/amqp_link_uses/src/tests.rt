@@ -1,8 +1,0 @@
-//! Each caller runs.
-mod broker;
-mod client;
-mod peer;
-mod relay;
-mod samples;
-mod short;
-mod walk;

@@ -1,0 +1,17 @@
+//! Each caller of `amqp_link_uses` runs.
+#![tactic(auto)]
+
+#[cfg(test)]
+mod broker;
+#[cfg(test)]
+mod client;
+#[cfg(test)]
+mod peer;
+#[cfg(test)]
+mod relay;
+#[cfg(test)]
+mod samples;
+#[cfg(test)]
+mod short;
+#[cfg(test)]
+mod walk;
