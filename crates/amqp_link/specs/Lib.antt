@@ -11,6 +11,12 @@ pub use Rattle.amqp_link_core.specs.Merging
 pub use Rattle.amqp_link_core.specs.Resuming
 pub use Rattle.amqp_link_core.specs.Shown
 pub use Rattle.amqp_link_core.specs.Targets
+pub use Rattle.amqp_link_credit.specs.CreditCalls
+pub use Rattle.amqp_link_credit.specs.CreditDeliveries
+pub use Rattle.amqp_link_credit.specs.CreditNumbers
+pub use Rattle.amqp_link_credit.specs.CreditRuns
+pub use Rattle.amqp_link_credit.specs.CreditWorlds
+pub use Rattle.amqp_link_credit.specs.Credits
 pub use Rattle.amqp_link_delivery.specs.Copies
 pub use Rattle.amqp_link_delivery.specs.SendResults
 pub use Rattle.amqp_link_dispositions.specs.Ending
@@ -38,9 +44,11 @@ pub use Rattle.amqp_link_sender.specs.SenderAttaches
 pub use Rattle.amqp_link_sender.specs.SenderDisposes
 pub use Rattle.amqp_link_sender.specs.Senders
 pub use Rattle.amqp_link_sender.specs.Waits
+pub use Rattle.amqp_link_split.specs.Fitting
 pub use Rattle.amqp_link_split.specs.Room
 pub use Rattle.amqp_link_split.specs.Split
 pub use Rattle.amqp_link_state.specs.Counts
+pub use Rattle.amqp_link_state.specs.Serial
 pub use Rattle.amqp_link_types.specs.Deliveries
 pub use Rattle.amqp_link_types.specs.DeliveryStates
 pub use Rattle.amqp_link_types.specs.Entries
@@ -58,8 +66,10 @@ pub use Rattle.amqp_link_verification.specs.Filters
 pub use Rattle.amqp_link_verification.specs.Termini
 pub use Rattle.amqp_link_worlds.specs.Attachable
 pub use Rattle.amqp_link_worlds.specs.Before
+pub use Rattle.amqp_link_worlds.specs.Callable
 pub use Rattle.amqp_link_worlds.specs.Invariants
 pub use Rattle.amqp_link_worlds.specs.PairRuns
+pub use Rattle.amqp_link_worlds.specs.Receiving
 pub use Rattle.amqp_link_worlds.specs.Resumptions
 pub use Rattle.amqp_link_worlds.specs.Steps
 pub use Rattle.amqp_link_worlds.specs.Wires

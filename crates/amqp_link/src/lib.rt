@@ -8,7 +8,8 @@
 //!
 //! - `sender_link` and `receiver_link`, the two link endpoints; `ledger`, a sender that records what became of
 //!   each delivery; `endpoint`, the traits of all three.
-//! - `pair`, two endpoints and the wire between them.
+//! - `pair`, two endpoints and the wire between them; `credit_run`, two endpoints with frames under way in both
+//!   directions.
 //! - `delivery`, what is sent and received, and its outcome; `incomplete_transfer`, a delivery whose last
 //!   transfer has not arrived; `resumption`, deliveries that are resumed once a link is attached again.
 //! - `frame` and `types`, the performatives and all that they carry; `state`, link states and credit; `errors`.
@@ -18,6 +19,7 @@
 //! The names that most callers need are re-exported here as well.
 #![tactic(auto)]
 
+pub mod credit_run;
 pub mod delivery;
 pub mod endpoint;
 pub mod errors;
@@ -34,6 +36,7 @@ pub mod state;
 pub mod types;
 pub mod verification;
 
+pub use credit_run::{Arrival, CreditRun, CreditRunError};
 pub use delivery::{Delivery, DeliveryInfo, Sendable};
 pub use endpoint::{Link, LinkAttach, LinkDetach, LinkExt, LinkParts};
 pub use frame::{LinkFrame, LinkTransfer};

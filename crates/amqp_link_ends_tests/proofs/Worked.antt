@@ -8,6 +8,9 @@ use Rattle.amqp_link_state.specs.declared.state.LinkState.TheVariants.{Attached}
 use Rattle.amqp_link_types.specs.declared.types.definitions.ReceiverSettleMode.TheVariants.{First, Second}
 use Rattle.amqp_link_types.specs.declared.types.definitions.SenderSettleMode.TheVariants as mode
 use Rattle.amqp_link_types.specs.declared.types.errors.LinkStateError.TheVariants.{IllegalState, NoRoom}
+use Rattle.amqp_link_types.specs.Frames.{frame_of}
+use Rattle.amqp_link_types.specs.declared.types.definitions.InputHandle.{InputHandle}
+use Rattle.amqp_link_split.specs.Fitting.{frame_len}
 use Rattle.amqp_link_split.specs.Room.{worst, has_room, payload_limit}
 use Rattle.amqp_link_types.specs.declared.types.terminus.Target.{Target}
 use Rattle.amqp_link_payloads.specs.declared.error.DecodeError.{DecodeError}
@@ -50,6 +53,22 @@ room_for_none_at_25 = refl
 no_room_for_one_at_25 : has_room at_rest 25 (7 ∷ []) ≡ false
 unfolding transfer_len before list_of
 no_room_for_one_at_25 = refl
+
+-- twelve bytes at a limit of 30
+abbrev at_handle : InputHandle
+at_handle = record { 0 = 0 }
+
+first_of_three : frame_len (frame_of at_handle at_rest 0 3 (7 ∷ 7 ∷ 7 ∷ 7 ∷ 7 ∷ [])) ≡ 30
+unfolding transfer_len before list_of
+first_of_three = refl
+
+second_of_three : frame_len (frame_of at_handle at_rest 1 3 (7 ∷ 7 ∷ 7 ∷ 7 ∷ 7 ∷ [])) ≡ 21
+unfolding transfer_len before list_of
+second_of_three = refl
+
+third_of_three : frame_len (frame_of at_handle at_rest 2 3 (7 ∷ 7 ∷ [])) ≡ 13
+unfolding transfer_len before list_of
+third_of_three = refl
 
 -- ---- sends
 

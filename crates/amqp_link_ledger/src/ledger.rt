@@ -130,6 +130,13 @@ impl<T: LinkTarget> OutcomeLedger<T> {
         &self.link
     }
 
+    /// The endpoint itself. The fates of its registrations are dropped. Does not allocate.
+    pub fn into_link(self) -> SenderLink<T>
+        ensures { result ≡ self.link }
+    {
+        self.link
+    }
+
     /// What became of registration `number`; `None` exactly past the last number.
     pub fn fate(&self, number: usize) -> Option<&Fate>
         ensures fate { option_copied result

@@ -8,6 +8,7 @@
 mod deliveries;
 mod ends;
 pub mod pair;
+pub mod receiving;
 mod resuming;
 mod sending;
 mod wire;

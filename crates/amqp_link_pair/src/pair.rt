@@ -27,6 +27,7 @@ use amqp_link_core::endpoint::LinkExt;
 use amqp_link_core::incomplete_transfer::IncompleteTransfer;
 use amqp_link_ledger::ledger::OutcomeLedger;
 use amqp_link_receiver::receiver_link::ReceiverLink;
+use amqp_link_sender::sender_link::SenderLink;
 use amqp_link_types::delivery::{Delivery, DeliveryInfo};
 use amqp_link_types::types::{DeliveryNumber, DeliveryTag, FromBody, Payload, SequenceNo, Target};
 use amqp_link_worlds::error::PairError;
@@ -514,5 +515,19 @@ impl Pair {
         ensures kept { IsWorld self.now }
     {
         &self.ends.receiver
+    }
+
+    /// Takes a pair apart: returns its endpoints, the sender without the fates of its registrations. What is
+    /// held, on the wire or still to be resumed is dropped. Does not allocate.
+    pub fn into_links(self) -> (SenderLink<Target>, ReceiverLink<Target>)
+        ensures sender { result.0 ≡ self.ledger.link }
+        ensures receiver { result.1 ≡ self.receiver }
+    {
+        let Ends {
+            ledger,
+            receiver,
+            ..
+        } = self.ends;
+        (ledger.into_link(), receiver)
     }
 }

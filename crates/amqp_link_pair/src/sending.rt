@@ -1,12 +1,11 @@
 //! What the sender of a pair sends and registers: new deliveries, and the rests of those that are resumed
 //! (2.6.13, 2.7.5).
-ghost use Rattle.std.specs.Prelude.{◌≡◌, None, Some, false, length, IfOk, IfErr, IsSome, OnOk, OnErr};
+ghost use Rattle.std.specs.Prelude.{◌≡◌, None, Some, false, IfOk, IfErr, IsSome, OnOk, OnErr};
 ghost use Rattle.amqp_link_types.specs.Entries.{entry_at};
 ghost use Rattle.amqp_link_types.specs.Refusals.{refusal};
 ghost use Rattle.amqp_link_types.specs.declared.delivery.UnsettledMessage.{UnsettledMessage as Message};
 ghost use Rattle.amqp_link_types.specs.declared.types.definitions.SenderSettleMode.TheVariants.{Mixed};
-ghost use Rattle.amqp_link_split.specs.Room.{payload_limit};
-ghost use Rattle.amqp_link_split.specs.Split.{IsFewestPieces};
+ghost use Rattle.amqp_link_split.specs.Fitting.{IsFitting};
 ghost use Rattle.amqp_link_sender.specs.Senders.{IsSent, new_entry, unsettled_transfer_tests, next_tag as tag_of_next};
 ghost use Rattle.amqp_link_worlds.specs.Callable.{CanSend};
 ghost use Rattle.amqp_link_worlds.specs.Resumptions.{entry_of, rest_of as sent_of, resumes};
@@ -53,9 +52,9 @@ pub(crate) fn send_unsettled(
     ensures tag { IfOk result (λ sent. sent.0 ≡ tag_of_next ledger.old.link) }
     ensures framed { IfOk result (λ sent. IsSent ledger.old.link
         (delivery_transfer (tag_of_next ledger.old.link) false) payload.now sent.1.items) }
-    ensures fewest { IfOk result (λ sent. IsFewestPieces payload.now
-        (payload_limit (delivery_transfer (tag_of_next ledger.old.link) false) ledger.old.link.max_frame_size)
-        (length sent.1.items)) }
+    ensures fits { IfOk result (λ sent. IsFitting
+        (delivery_transfer (tag_of_next ledger.old.link) false) ledger.old.link.max_frame_size
+        payload.now sent.1.items) }
     ensures done { OnOk result (ledger.new ≡ after_registration (after_one_credit ledger.old)
         (tag_of_next ledger.old.link) (new_entry 0 payload.now)) }
     ensures left { OnErr result (ledger.new ≡ ledger.old) }
@@ -149,8 +148,8 @@ pub(crate) fn resume(
         resumption.tag resumption.rest) ≡ None }
     ensures framed { IfOk result (λ frames.
         IsSent ledger.old.link resumption.transfer resumption.rest frames.items) }
-    ensures fewest { IfOk result (λ frames. IsFewestPieces resumption.rest
-        (payload_limit resumption.transfer ledger.old.link.max_frame_size) (length frames.items)) }
+    ensures fits { IfOk result (λ frames. IsFitting
+        resumption.transfer ledger.old.link.max_frame_size resumption.rest frames.items) }
     ensures done { (entry : Message) → entry_of next ≡ Some entry
         → OnOk result (ledger.new ≡ after_registration ledger.old resumption.tag entry) }
     ensures back { IfErr result (λ back. back ≡ next) }

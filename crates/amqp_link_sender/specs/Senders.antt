@@ -1,6 +1,6 @@
 -- A sender's link endpoint as its callers see it, and what its calls do (OASIS AMQP 1.0 core, 2.6
 -- and 2.7.5).
-use Rattle.std.specs.Prelude.{◌≡◌, ◌⊎◌, ℕ, ◌==◌, ◌&&◌, not, Bool, true, false, List, [], ◌∷◌, length, map, Option, Some, None, is_some, is_none, IsSomeAnd, unwrap_or, if◌then◌else◌, Result, Ok, Err}
+use Rattle.std.specs.Prelude.{◌≡◌, ◌⊎◌, ℕ, ◌==◌, ◌&&◌, not, Bool, true, false, List, [], ◌∷◌, map, Option, Some, None, is_some, is_none, IsSomeAnd, unwrap_or, if◌then◌else◌, Result, Ok, Err}
 use Rattle.std.specs.Int.{w32, to_be_bytes}
 use Rattle.std.specs.Option.{option_map_or}
 use Rattle.amqp_link_types.specs.declared.types.errors.LinkStateError.{LinkStateError}
@@ -25,8 +25,9 @@ use Rattle.amqp_link_state.specs.Counts.{after_consuming}
 use Rattle.amqp_link_types.specs.Entries.{Tag, Entries, with_entry, entry_at}
 use Rattle.amqp_link_types.specs.Frames.{payload_of, AreFramesOf}
 use Rattle.amqp_link_types.specs.Refusals.{refusal}
+use Rattle.amqp_link_split.specs.Fitting.{IsFitting}
 use Rattle.amqp_link_split.specs.Room.{has_room, payload_limit}
-use Rattle.amqp_link_split.specs.Split.{IsSplit, IsFewestPieces}
+use Rattle.amqp_link_split.specs.Split.{IsSplit}
 
 -- what a caller sees of a sender's link endpoint with a target of type T
 pub record Sender (T : Type 0) : Type 0 where
@@ -159,12 +160,11 @@ SendsOrLacksCredit old d payload (sending.Sent told frames) new =
     IsSomeAnd old.output_handle (λ handle. SendsPayload old handle d payload told frames.items new)
 SendsOrLacksCredit old d payload sending.CreditMissing new = new ≡ old
 
--- the frames of a sent payload are as few as the frame limit allows
-abbrev pub SendsFewest : {T : Type 0} → Sender T → Delivery → List ℕ → Sending → Type 0
-SendsFewest old d payload (sending.Sent told frames) = IsSomeAnd old.output_handle (λ handle.
-    let t = new_transfer old handle (next_tag old) d in
-    IsFewestPieces payload (payload_limit t old.max_frame_size) (length frames.items))
-SendsFewest old d payload sending.CreditMissing = Unit {0}
+-- the frames of a sent payload fit the frame limit, and are as few as it allows
+abbrev pub SendsFitting : {T : Type 0} → Sender T → Delivery → List ℕ → Sending → Type 0
+SendsFitting old d payload (sending.Sent told frames) = IsSomeAnd old.output_handle (λ handle.
+    IsFitting (new_transfer old handle (next_tag old) d) old.max_frame_size payload frames.items)
+SendsFitting old d payload sending.CreditMissing = Unit {0}
 
 -- ---- refusals, in the order of the tests
 

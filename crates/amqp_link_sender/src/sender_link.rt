@@ -4,7 +4,7 @@
 //! delivery. The caller sends the frames that a call returns in their order.
 ghost use Rattle.std.specs.Prelude.{◌≡◌, ◌<◌, [], length, true, None, Some, IfOk, IsSomeAnd, OnOk, OnErr, MatchOption, is_none};
 ghost use Rattle.amqp_link_split.specs.Room.{has_room, payload_limit as limit_of_payload};
-ghost use Rattle.amqp_link_split.specs.Split.{IsFewestPieces};
+ghost use Rattle.amqp_link_split.specs.Fitting.{IsFitting};
 
 mod attach;
 mod detach;
@@ -150,7 +150,7 @@ impl<T: LinkTarget> Model for SenderLink<T> {
 impl<T: LinkTarget> SenderLink<T> {
     ghost use Rattle.amqp_link_sender.specs.Senders.{SendsOrLacksCredit, SendsTransfer, IsSent, SendAnswersThenOutOfMemory};
     ghost use Rattle.amqp_link_types.specs.Refusals.{AnswersExactly, AnswersThenOutOfMemory};
-    ghost use Rattle.amqp_link_sender.specs.Senders.{delivery_of, next_tag, new_transfer, new_entry, settled_on_send, SendsFewest};
+    ghost use Rattle.amqp_link_sender.specs.Senders.{delivery_of, next_tag, new_transfer, new_entry, settled_on_send, SendsFitting};
     ghost use Rattle.amqp_link_types.specs.Entries.{with_entry};
     ghost use Rattle.amqp_link_sender.specs.Waits.{waiting_error, after_waiting};
     ghost use Rattle.amqp_link_sender.specs.Senders.{IsSendable, transfer_tests, tagged_tests, tagged_transfer_tests, delivery_tests, payload_tests, untagged};
@@ -321,7 +321,7 @@ impl<T: LinkTarget> SenderLink<T> {
     ) -> Result<Sending, LinkStateError>
         ensures sent { IfOk result (λ sending. SendsOrLacksCredit self.old
             (delivery_of message_format settled state batchable) payload.now sending self.new) }
-        ensures fewest { IfOk result (λ sending. SendsFewest self.old
+        ensures fits { IfOk result (λ sending. SendsFitting self.old
             (delivery_of message_format settled state batchable) payload.now sending) }
         ensures refused { MatchOption (waiting_error self.old.local_state waiting)
             (SendAnswersThenOutOfMemory result (payload_tests self.old
@@ -349,7 +349,7 @@ impl<T: LinkTarget> SenderLink<T> {
     ) -> Result<Sending, LinkStateError>
         ensures sent { IfOk result (λ sending. SendsOrLacksCredit self.old
             (delivery_of message_format settled state batchable) payload.now sending self.new) }
-        ensures fewest { IfOk result (λ sending. SendsFewest self.old
+        ensures fits { IfOk result (λ sending. SendsFitting self.old
             (delivery_of message_format settled state batchable) payload.now sending) }
         ensures refused { SendAnswersThenOutOfMemory result (payload_tests self.old
             (delivery_of message_format settled state batchable) payload.now) }
@@ -425,9 +425,9 @@ impl<T: LinkTarget> SenderLink<T> {
         ensures sent { IfOk result (λ sent. SendsTransfer self.old message_format
             (record transfer { delivery_tag = Some (next_tag self.old) }) (next_tag self.old)
             payload.now sent.0 sent.1.items self.new) }
-        ensures fewest { IfOk result (λ sent. IsFewestPieces payload.now
-            (limit_of_payload (record transfer { delivery_tag = Some (next_tag self.old) })
-            self.old.max_frame_size) (length sent.1.items)) }
+        ensures fits { IfOk result (λ sent.
+            IsFitting (record transfer { delivery_tag = Some (next_tag self.old) })
+            self.old.max_frame_size payload.now sent.1.items) }
         ensures refused { AnswersThenOutOfMemory LinkStateError.OutOfMemory result (delivery_tests self.old
             (record transfer { delivery_tag = Some (next_tag self.old) }) (next_tag self.old) payload.now) }
         ensures left { OnErr result (self.new ≡ self.old) }
@@ -490,7 +490,8 @@ impl<T: LinkTarget> SenderLink<T> {
         requires some { 0 < length payload.now → 0 < limit }
         ensures sent { IfOk result (λ sent.
             SendsTransfer self.old message_format transfer tag payload.now sent.0 sent.1.items self.new) }
-        ensures fewest { IfOk result (λ sent. IsFewestPieces payload.now limit (length sent.1.items)) }
+        ensures fits { IfOk result (λ sent.
+            IsFitting transfer self.old.max_frame_size payload.now sent.1.items) }
         ensures left { OnErr result (self.new ≡ self.old) }
     {
         let is_settled = self.is_settled_on_send(&transfer);
@@ -526,8 +527,8 @@ impl<T: LinkTarget> SenderLink<T> {
     ) -> Result<(Settlement, Vec<LinkFrame>), LinkStateError>
         ensures sent { IfOk result (λ sent. IsSomeAnd transfer.delivery_tag (λ tag.
             SendsTransfer self.old message_format transfer tag payload.now sent.0 sent.1.items self.new)) }
-        ensures fewest { IfOk result (λ sent.
-            IsFewestPieces payload.now (limit_of_payload transfer self.old.max_frame_size) (length sent.1.items)) }
+        ensures fits { IfOk result (λ sent.
+            IsFitting transfer self.old.max_frame_size payload.now sent.1.items) }
         ensures refused { AnswersThenOutOfMemory LinkStateError.OutOfMemory result
             (tagged_transfer_tests self.old transfer payload.now) }
         ensures left { OnErr result (self.new ≡ self.old) }
@@ -645,8 +646,8 @@ impl<T: LinkTarget> SenderLink<T> {
     ) -> Result<(bool, Vec<LinkFrame>), LinkStateError>
         ensures settled { IfOk result (λ sent. sent.0 ≡ settled_on_send self.now transfer) }
         ensures sent { IfOk result (λ sent. IsSent self.now transfer payload.now sent.1.items) }
-        ensures fewest { IfOk result (λ sent.
-            IsFewestPieces payload.now (limit_of_payload transfer self.now.max_frame_size) (length sent.1.items)) }
+        ensures fits { IfOk result (λ sent.
+            IsFitting transfer self.now.max_frame_size payload.now sent.1.items) }
         ensures refused { AnswersThenOutOfMemory LinkStateError.OutOfMemory result
             (transfer_tests self.now transfer payload.now) }
     {

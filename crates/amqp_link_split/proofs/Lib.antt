@@ -1,2 +1,3 @@
+pub mod FitLemmas
 pub mod FrameLemmas
 pub mod SplitLemmas

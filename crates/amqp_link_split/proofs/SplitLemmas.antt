@@ -84,16 +84,17 @@ fewest-IsSplit P m (x ∷ xs) h qs f =
           omega (arith, lt_of_mul-lt-mul_right m strict)
     ]
 
+-- each piece of a split has at most m bytes
+pub short_pieces : (P : List ℕ) (m : ℕ) (pieces : List (List ℕ)) → IsSplit P m pieces → All (λ q. length q ≤ m) pieces
+short_pieces P m pieces h k d l =
+    rw (get_or_default pieces k d [] l)
+    (elim (dec_lt (k + 1) (length pieces)) [
+      | yes s ↦ omega (arith, h.full k s)
+      | no n ↦ h.within k (omega (arith, n))
+    ])
+
 pub Least-IsSplit : (P : List ℕ) (m : ℕ) (pieces : List (List ℕ)) → IsSplit P m pieces → IsFewestPieces P m (length pieces)
 Least-IsSplit P m pieces h = record {
-  reached = (pieces, ((h.some, h.joined, small), refl));
+  reached = (pieces, ((h.some, h.joined, short_pieces P m pieces h), refl));
   fewest = fewest-IsSplit P m pieces h;
 }
-  where
-    small : All (λ q. length q ≤ m) pieces
-    small k d l =
-        rw (get_or_default pieces k d [] l)
-        (elim (dec_lt (k + 1) (length pieces)) [
-          | yes s ↦ omega (arith, h.full k s)
-          | no n ↦ h.within k (omega (arith, n))
-        ])

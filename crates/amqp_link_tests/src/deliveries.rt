@@ -38,6 +38,19 @@ fn a_copy_has_all_fields(rt: HostRuntime) {
 }
 
 #[test]
+fn made_of_a_body_or_a_message_has_format_0(rt: HostRuntime) {
+    let made = Sendable::from_body(Number(2));
+    assert_eq!(rt; (made.message_format, made.settled), (0, None));
+    assert_eq!(rt; made.message.preamble.len(), 0);
+    assert_eq!(rt; made.message.footer.len(), 0);
+    drop(made);
+    let made = Sendable::from_message(message(rt.alloc()).expect(&rt, "memory"));
+    assert_eq!(rt; (made.message_format, made.settled), (0, None));
+    assert_eq!(rt; made.message.preamble.as_slice(), [1].as_slice());
+    drop(made);
+}
+
+#[test]
 fn built_by_default_has_format_0(rt: HostRuntime) {
     let message = message(rt.alloc()).expect(&rt, "memory");
     let built = Builder::default().message(message).build();
@@ -55,6 +68,7 @@ enum Seen {
     NotTerminal,
     IllegalState,
     Stopped,
+    Closed,
     Other,
 }
 
@@ -66,6 +80,7 @@ fn seen_of(outcome: SendResult) -> Seen {
         Err(SendError::NonTerminalDeliveryState) => Seen::NotTerminal,
         Err(SendError::LinkStateError(LinkStateError::IllegalState)) => Seen::IllegalState,
         Err(SendError::LinkStateError(LinkStateError::SessionStopped(_))) => Seen::Stopped,
+        Err(SendError::LinkStateError(LinkStateError::RemoteClosed)) => Seen::Closed,
         _ => Seen::Other,
     };
     drop(outcome);
@@ -88,6 +103,11 @@ fn each_state_has_its_result(rt: HostRuntime) {
         Seen::Accepted
     );
     assert_eq!(rt; seen_of(outcome_of(Ok(None))), Seen::Stateless);
+    let received = outcome_of(Ok(Some(DeliveryState::Received {
+        section_number: 0,
+        section_offset: 0,
+    })));
+    assert_eq!(rt; seen_of(received), Seen::NotTerminal);
 }
 
 #[test]
@@ -99,5 +119,5 @@ fn each_failure_has_its_result(rt: HostRuntime) {
     let stopped = SendResult::from_session_stop_reason(SessionStopReason::Ended);
     assert_eq!(rt; seen_of(stopped), Seen::Stopped);
     let closed = outcome_of(Err(LinkStateError::RemoteClosed));
-    assert_eq!(rt; seen_of(closed), Seen::Other);
+    assert_eq!(rt; seen_of(closed), Seen::Closed);
 }

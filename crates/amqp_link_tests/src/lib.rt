@@ -1,7 +1,9 @@
-//! Tests by what `amqp_link` makes public: of a pair worked values, refused growths and lists of calls; and a copy of
-//! what is sent.
+//! Tests by what `amqp_link` makes public: of a pair worked values, refused growths and lists of calls; of a credit run
+//! worked values, a refused growth and a walk; and a copy of what is sent.
 #![tactic(auto)]
 
+#[cfg(test)]
+mod credit;
 #[cfg(test)]
 mod deliveries;
 #[cfg(test)]

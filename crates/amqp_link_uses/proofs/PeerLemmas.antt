@@ -9,36 +9,36 @@ use Rattle.amqp_link.specs.declared.LinkFrame.{LinkFrame}
 use Rattle.amqp_link.specs.declared.types.Attach.{Attach as TheAttach}
 use Rattle.amqp_link.specs.declared.types.OutputHandle.{OutputHandle}
 use Rattle.amqp_link.specs.declared.types.TargetArchetype.{TargetArchetype}
-use Rattle.amqp_link_uses.specs.Peers.{Standing, standing, has_transition_by, is_allowed, Leads, AreAllowed, moves_to, detached_by}
+use Rattle.amqp_link_uses.specs.Peers.{StateAndHandle, state_and_handle, has_transition_by, is_allowed, DoesFrame, AreAllowed, moves_to, detached_by}
 use Rattle.amqp_link_uses.specs.declared.peer.Frame.{Frame}
 use Rattle.amqp_link_uses.specs.declared.peer.Frame.TheVariants.{SendAttach, Attach, Flow, SendDetach, DetachReply, Detach}
 
 -- ---- the frames that an endpoint was driven through
 
 -- the endpoint has sent or taken the frames before this place, each of which was allowed; the rest is left
-pub record IsDriven (frames rest : List Frame) (place : ℕ) (s t : Standing) : Type 0 where
+pub record IsDriven (frames rest : List Frame) (place : ℕ) (s t : StateAndHandle) : Type 0 where
   pub done : List Frame
   pub parts : frames ≡ done ++ rest
   pub number : length done ≡ place
   pub allowed : AreAllowed done s t
 
 -- one more frame that is allowed
-pub AreAllowed-snoc : (frames : List Frame) (frame : Frame) (s t u : Standing)
-    → AreAllowed frames s t → is_allowed t frame ≡ true → Leads t frame u → AreAllowed (frames ++ frame ∷ []) s u
+pub AreAllowed-snoc : (frames : List Frame) (frame : Frame) (s t u : StateAndHandle)
+    → AreAllowed frames s t → is_allowed t frame ≡ true → DoesFrame t frame u → AreAllowed (frames ++ frame ∷ []) s u
 AreAllowed-snoc [] frame s t u same allowed leads =
     let only : AreAllowed (frame ∷ []) t u = (u, allowed, leads, refl) in
-    let P : Standing → Type 0 = λ x. AreAllowed (frame ∷ []) x u in
+    let P : StateAndHandle → Type 0 = λ x. AreAllowed (frame ∷ []) x u in
     subst P (sym same) only
 AreAllowed-snoc (first ∷ frames) frame s t u (next, is, goes, others) allowed leads =
     (next, is, goes, AreAllowed-snoc frames frame next t u others allowed leads)
 
-pub driven_nowhere : {frames rest : List Frame} {place : ℕ} {s : Standing}
+pub driven_nowhere : {frames rest : List Frame} {place : ℕ} {s : StateAndHandle}
     → rest ≡ frames → place ≡ 0 → IsDriven frames rest place s s
 driven_nowhere all start = record { done = []; parts = sym all; number = sym start; allowed = refl }
 
-pub driven_on : {frames left rest : List Frame} {frame : Frame} {place next : ℕ} {s t u : Standing}
+pub driven_on : {frames left rest : List Frame} {frame : Frame} {place next : ℕ} {s t u : StateAndHandle}
     → IsDriven frames left place s t → left ≡ frame ∷ rest → next ≡ place + 1
-    → is_allowed t frame ≡ true → Leads t frame u → IsDriven frames rest next s u
+    → is_allowed t frame ≡ true → DoesFrame t frame u → IsDriven frames rest next s u
 driven_on {rest} {frame} {s} {t} {u} driven first one allowed leads = record {
   done = driven.done ++ frame ∷ [];
   parts = driven.parts ∙ ap (λ l. driven.done ++ l) first ∙ sym (append_assoc driven.done (frame ∷ []) rest);
@@ -50,7 +50,7 @@ true_is_not_false : true ≡ false → ⊥
 true_is_not_false h = cc
 
 -- a frame without transition is not allowed
-pub not_allowed_without_transition : (frame : Frame) (s : Standing) → has_transition_by s.state frame ≡ false → is_allowed s frame ≡ false
+pub not_allowed_without_transition : (frame : Frame) (s : StateAndHandle) → has_transition_by s.state frame ≡ false → is_allowed s frame ≡ false
 not_allowed_without_transition SendAttach s none = none
 not_allowed_without_transition (Attach attach) s none = none
 not_allowed_without_transition (Flow flow) s none = absurd (true_is_not_false none)
@@ -64,7 +64,7 @@ pub has_transition_by_test : (frame : Frame) {s t : LinkState} {test answer : Bo
 has_transition_by_test frame same tests is = ap (λ x. has_transition_by x frame) (sym same) ∙ sym tests ∙ is
 
 -- where the next frame is refused: the frames before it, that frame, and those after it
-pub driven_to_refusal : {frames left rest : List Frame} {frame : Frame} {place : ℕ} {s t : Standing}
+pub driven_to_refusal : {frames left rest : List Frame} {frame : Frame} {place : ℕ} {s t : StateAndHandle}
     → IsDriven frames left place s t → left ≡ frame ∷ rest → is_allowed t frame ≡ false
     → (before : List Frame) × (refused : Frame) × (after : List Frame)
     × (frames ≡ before ++ refused ∷ after) × (length before ≡ place)
@@ -72,7 +72,7 @@ pub driven_to_refusal : {frames left rest : List Frame} {frame : Frame} {place :
 driven_to_refusal {rest} {frame} driven first refused =
     (driven.done, frame, rest, driven.parts ∙ ap (λ l. driven.done ++ l) first, driven.number, driven.allowed, refused)
 
-pub driven_to_end : {frames left : List Frame} {place : ℕ} {s t : Standing}
+pub driven_to_end : {frames left : List Frame} {place : ℕ} {s t : StateAndHandle}
     → IsDriven frames left place s t → left ≡ [] → AreAllowed frames s t
 driven_to_end {s} {t} driven none =
     let all = driven.parts ∙ ap (λ l. driven.done ++ l) none ∙ append-nil driven.done in
@@ -80,7 +80,7 @@ driven_to_end {s} {t} driven none =
 
 -- ---- what a call does to where the endpoint stands
 
-abbrev stands_at : LinkState → Option OutputHandle → Standing
+abbrev stands_at : LinkState → Option OutputHandle → StateAndHandle
 stands_at state handle = record { state = state; has_handle = is_some handle }
 
 both_same : {s t : LinkState} {h k : Option OutputHandle} → s ≡ t → h ≡ k → stands_at s h ≡ stands_at t k
@@ -92,10 +92,10 @@ module _ {L D : Type 0} (shown : L → Shown D) (old now : L) where
       → ((l : L) (s : LinkState) → shown (attached l s) ≡ shown_attached (shown l) s)
       → IfOk r (λ sent. (next : LinkState) × SendsAttach (shown old) (shown old).entries sent.0 next × (now ≡ attached old next))
       → OnErr r (now ≡ old)
-      → Leads (standing (shown old)) SendAttach (standing (shown now))
+      → DoesFrame (state_and_handle (shown old)) SendAttach (state_and_handle (shown now))
   sent_or_stays attached (Ok sent) shows (next, sends, goes) left =
-      inr (sends.attach.incomplete_unsettled, next, sends.step, ap (λ l. standing (shown l)) goes ∙ ap (λ x. standing x) (shows old next))
-  sent_or_stays attached (Err error) shows sent left = inl (ap (λ l. standing (shown l)) left)
+      inr (sends.attach.incomplete_unsettled, next, sends.step, ap (λ l. state_and_handle (shown l)) goes ∙ ap (λ x. state_and_handle x) (shows old next))
+  sent_or_stays attached (Err error) shows sent left = inl (ap (λ l. state_and_handle (shown l)) left)
 
   -- an attach that arrives keeps the output handle, taken or refused
   pub keeps_handle : {A E : Type 0} (X : A → Type 0) (left : E → L) (taken : L) (nothing : D) (target : Option TargetArchetype)
@@ -115,12 +115,12 @@ module _ {L D : Type 0} (shown : L → Shown D) (old now : L) where
       → MatchOption next (IsErrAnd r (λ error. error ≡ illegal))
       (λ s. MatchResult r (λ _. (shown now).local_state ≡ s) (λ error. (error ≡ out_of_memory) ⊎ ((shown now).local_state ≡ s)))
       → IfNone next (now ≡ old) → IfErr r (λ error. now ≡ left error) → left out_of_memory ≡ old
-      → (standing (shown now) ≡ standing (shown old))
-      ⊎ ((t : LinkState) × (next ≡ Some t) × (standing (shown now) ≡ moves_to (standing (shown old)) t))
-  stays_or_moves illegal out_of_memory left r None handle step kept at memory = inl (ap (λ l. standing (shown l)) kept)
+      → (state_and_handle (shown now) ≡ state_and_handle (shown old))
+      ⊎ ((t : LinkState) × (next ≡ Some t) × (state_and_handle (shown now) ≡ moves_to (state_and_handle (shown old)) t))
+  stays_or_moves illegal out_of_memory left r None handle step kept at memory = inl (ap (λ l. state_and_handle (shown l)) kept)
   stays_or_moves illegal out_of_memory left (Ok exchange) (Some s) handle step kept at memory = inr (s, refl, both_same step handle)
   stays_or_moves illegal out_of_memory left (Err error) (Some s) handle (inl is) kept at memory =
-      inl (ap (λ l. standing (shown l)) (at ∙ ap left is ∙ memory))
+      inl (ap (λ l. state_and_handle (shown l)) (at ∙ ap left is ∙ memory))
   stays_or_moves illegal out_of_memory left (Err error) (Some s) handle (inr goes) kept at memory =
       inr (s, refl, both_same goes handle)
 
@@ -128,7 +128,7 @@ module _ {L D : Type 0} (shown : L → Shown D) (old now : L) where
   pub moves_by_table : (moved : L → LinkState → Option OutputHandle → L) (next : Option LinkState)
       → ((l : L) (s : LinkState) (h : Option OutputHandle) → shown (moved l s h) ≡ record (shown l) { local_state = s; output_handle = h })
       → MatchOption next (now ≡ old) (λ s. now ≡ moved old s None)
-      → standing (shown now) ≡ detached_by (standing (shown old)) next
-  moves_by_table moved None shows kept = ap (λ l. standing (shown l)) kept
+      → state_and_handle (shown now) ≡ detached_by (state_and_handle (shown old)) next
+  moves_by_table moved None shows kept = ap (λ l. state_and_handle (shown l)) kept
   moves_by_table moved (Some s) shows goes =
-      ap (λ l. standing (shown l)) goes ∙ ap (λ x. standing x) (shows old s None)
+      ap (λ l. state_and_handle (shown l)) goes ∙ ap (λ x. state_and_handle x) (shows old s None)

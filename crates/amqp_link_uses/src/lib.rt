@@ -8,6 +8,7 @@
 //! - `relay`: keeps what it sent when a link is cut, and resumes each delivery at the position that the peer
 //!   reports.
 //! - `walk`: the smallest whole run of a pair, through a cut.
+//! - `window`: a receiver that grants credit while transfers are under way.
 #![tactic(auto)]
 
 pub mod broker;
@@ -16,3 +17,4 @@ pub mod peer;
 pub mod relay;
 pub mod short;
 pub mod walk;
+pub mod window;

@@ -2,7 +2,7 @@
 //! alone, and names the first one that the endpoint refuses by its state.
 
 ghost use Rattle.std.specs.Prelude.{◌≡◌, ◌++◌, ◌∷◌, List, length, true, false, is_some, IsOk, IsErr, OnErr, MatchOption};
-ghost use Rattle.amqp_link_uses.specs.Peers.{AreAllowed, Leads, has_transition_by, is_allowed, standing};
+ghost use Rattle.amqp_link_uses.specs.Peers.{AreAllowed, DoesFrame, has_transition_by, is_allowed, state_and_handle};
 ghost use Rattle.amqp_link_uses.specs.declared.peer.Frame.{Frame as TheFrame};
 
 use amqp_link::endpoint::LinkTarget;
@@ -20,7 +20,7 @@ pub trait TakeFlow: LinkExt {
     /// changed, exactly without output handle.
     fn take_flow(&mut self, flow: LinkFlow) -> Result<Option<LinkFlow>, LinkRelayError>
         ensures answer { MatchOption (Self.shown self.old).output_handle (IsErr result) (λ _. IsOk result) }
-        ensures stands { standing (Self.shown self.new) ≡ standing (Self.shown self.old) }
+        ensures stands { state_and_handle (Self.shown self.new) ≡ state_and_handle (Self.shown self.old) }
         ensures left { OnErr result (self.new ≡ self.old) };
 }
 
@@ -72,8 +72,8 @@ fn has_transition(state: LinkState, frame: &Frame) -> bool
 // Makes the endpoint's call for a frame, and returns false if it refuses a flow.
 fn send_or_take<L: TakeFlow>(link: &mut L, frame: Frame) -> bool
     requires { L.copies }
-    ensures taken { has_transition_by (L.shown link.old).local_state frame ≡ true → result ≡ is_allowed (standing (L.shown link.old)) frame }
-    ensures leads { result ≡ true → Leads (standing (L.shown link.old)) frame (standing (L.shown link.new)) }
+    ensures taken { has_transition_by (L.shown link.old).local_state frame ≡ true → result ≡ is_allowed (state_and_handle (L.shown link.old)) frame }
+    ensures leads { result ≡ true → DoesFrame (state_and_handle (L.shown link.old)) frame (state_and_handle (L.shown link.new)) }
     ensures left { result ≡ false → link.new ≡ link.old }
 {
     match frame {
@@ -93,11 +93,11 @@ fn send_or_take<L: TakeFlow>(link: &mut L, frame: Frame) -> bool
 pub fn first_refused<L: TakeFlow>(link: &mut L, frames: Vec<Frame>) -> Option<usize>
     requires { L.copies }
     ensures { MatchOption result
-        (AreAllowed frames.items (standing (L.shown link.old)) (standing (L.shown link.new)))
+        (AreAllowed frames.items (state_and_handle (L.shown link.old)) (state_and_handle (L.shown link.new)))
         (λ place. (before : List TheFrame) × (frame : TheFrame) × (after : List TheFrame)
         × (frames.items ≡ before ++ frame ∷ after) × (length before ≡ place)
-        × AreAllowed before (standing (L.shown link.old)) (standing (L.shown link.new))
-        × (is_allowed (standing (L.shown link.new)) frame ≡ false)) }
+        × AreAllowed before (state_and_handle (L.shown link.old)) (state_and_handle (L.shown link.new))
+        × (is_allowed (state_and_handle (L.shown link.new)) frame ≡ false)) }
 {
     for (place, frame) in frames.into_iter().enumerate() {
         if !has_transition(*link.local_state(), &frame) {

@@ -1,8 +1,8 @@
 //! A store-and-forward relay: it keeps what it sent until that has an outcome, also when the link is cut.
 //!
 //! Once the link is attached again (`reattach`), the relay sends each delivery of the list that the exchange
-//! of unsettled deliveries returns, from the position that the peer reported (`send_again`). The relay's
-//! ledger has the fate of each registration.
+//! of unsettled deliveries returns: the rest from the position that the peer reported (`send_rest`), or all of it if the
+//! peer has nothing (`send_again`). The relay's ledger has the fate of each registration.
 
 ghost use Rattle.std.specs.Prelude.{◌≡◌, ◌++◌, List, ℕ, map, false, None, Some, unwrap_or, IfOk, IfErr, OnOk, OnErr, IsSomeAnd};
 ghost use Rattle.std.specs.List.{concat};
@@ -12,7 +12,7 @@ ghost use Rattle.amqp_link.specs.Entries.{with_entry};
 ghost use Rattle.amqp_link.specs.Exchanges.{deliveries_to_resume, outcomes_returned};
 ghost use Rattle.amqp_link.specs.Fates.{Change, after};
 ghost use Rattle.amqp_link.specs.Frames.{payload_of};
-ghost use Rattle.amqp_link.specs.Senders.{IsSent, delivery_of, resuming_transfer};
+ghost use Rattle.amqp_link.specs.Senders.{IsSent, delivery_of, new_transfer, resuming_transfer};
 
 use amqp_link::delivery::{Outcomes, UnsettledMessage};
 use amqp_link::errors::{LinkStateError, SenderAttachError};
@@ -113,6 +113,53 @@ pub fn send_rest(
         Ok(transfer) => ledger.send_unsettled_transfer(transfer, rest, tag, entry),
         Err(refused) => {
             drop(tag);
+            Err((refused, entry))
+        }
+    }
+}
+
+/// Sends a delivery again of which the peer has nothing, under the same tag, and registers it again. Returns the
+/// transfers to send, in their order. If it is refused, it returns the entry, with nothing changed.
+pub fn send_again(
+    ledger: &mut OutcomeLedger<Target>,
+    tag: DeliveryTag,
+    entry: UnsettledMessage,
+) -> Result<Vec<LinkFrame>, (LinkStateError, UnsettledMessage)>
+    ensures whole { IfOk result (λ frames. concat (map payload_of frames.items) ≡ entry.payload) }
+    ensures sent { IfOk result (λ frames. IsSomeAnd ledger.old.link.output_handle (λ handle.
+        IsSent ledger.old.link (new_transfer ledger.old.link handle tag
+        (delivery_of entry.message_format (Some false) None false)) entry.payload frames.items)) }
+    ensures kept { OnOk result
+        (ledger.new.link.unsettled ≡ with_entry ledger.old.link.unsettled tag entry) }
+    ensures registered { OnOk result (ledger.new.records ≡ after (Change.Enters tag) ledger.old.records) }
+    ensures back { IfErr result (λ refused. refused.1 ≡ entry) }
+    ensures left { OnErr result (ledger.new ≡ ledger.old) }
+{
+    let Ok(named) = tag.clone() else {
+        drop(tag);
+        return Err((LinkStateError::OutOfMemory, entry));
+    };
+    let Ok(whole) = entry.payload.clone() else {
+        drop((tag, named));
+        return Err((LinkStateError::OutOfMemory, entry));
+    };
+    let format = entry.message_format;
+    let link = ledger.link();
+    let transfer = link.generate_non_resuming_transfer_performative(
+        named,
+        format,
+        Some(false),
+        None,
+        false,
+    );
+    match transfer {
+        Ok(transfer) => {
+            let sent = ledger.send_unsettled_transfer(transfer, &whole, tag, entry);
+            drop(whole);
+            sent
+        }
+        Err(refused) => {
+            drop((tag, whole));
             Err((refused, entry))
         }
     }

@@ -15,3 +15,5 @@ mod samples;
 mod short;
 #[cfg(test)]
 mod walk;
+#[cfg(test)]
+mod window;

@@ -5,7 +5,7 @@ use amqp_link::types::{
     Attach, Detach, Handle, OutputHandle, Role, SenderSettleMode, Target, UnsettledMap,
 };
 use amqp_link::{DeliveryState, Fate, LinkDetach, OutcomeLedger, Waiting};
-use amqp_link_uses::relay::{Reattached, reattach, send_rest};
+use amqp_link_uses::relay::{Reattached, reattach, send_again, send_rest};
 use std::process::Abort;
 
 // A relay that has sent twelve bytes, and was cut off then.
@@ -24,6 +24,11 @@ fn cut_off(rt: &(impl Abort + AllocGlobal)) -> OutcomeLedger<Target> {
     ledger
 }
 
+// The attach of a peer that has nothing.
+fn bare(rt: &(impl Abort + AllocGlobal)) -> Attach {
+    attach_of(rt, Role::Receiver, SenderSettleMode::Unsettled)
+}
+
 // The attach of a peer that has five bytes of the delivery.
 fn theirs(rt: &(impl Abort + AllocGlobal)) -> Attach {
     let mut unsettled = UnsettledMap::new(rt.alloc());
@@ -32,7 +37,7 @@ fn theirs(rt: &(impl Abort + AllocGlobal)) -> Attach {
         section_offset: 5,
     };
     drop(unsettled.put(tag_of(rt, 0), Some(state)));
-    let mut attach = attach_of(rt, Role::Receiver, SenderSettleMode::Unsettled);
+    let mut attach = bare(rt);
     attach.unsettled = Some(unsettled);
     attach
 }
@@ -59,6 +64,31 @@ fn delivery_is_resumed_after_a_cut(rt: HostRuntime) {
     let frames = frames.expect(&rt, "memory");
     assert_eq!(rt; frames.len(), 1);
     drop((frames, rest));
+    assert_eq!(rt; ledger.fate(0), Some(&Fate::HandedOut));
+    assert_eq!(rt; ledger.fate(1), Some(&Fate::Pending));
+    drop(ledger);
+}
+
+#[test]
+fn delivery_is_sent_again_after_a_cut(rt: HostRuntime) {
+    let mut ledger = cut_off(&rt);
+    let answer = reattach(rt.alloc(), &mut ledger, OutputHandle(0), bare(&rt));
+    let Reattached {
+        attach,
+        resuming,
+        outcomes,
+    } = answer.ok().expect(&rt, "an attach that is accepted");
+    drop((attach, outcomes));
+    let mut list = resuming.into_iter();
+    let (tag, next) = list.next().expect(&rt, "a delivery");
+    drop(list);
+    let ResumingDelivery::Resend(entry) = next else {
+        rt.abort()
+    };
+    let frames = send_again(&mut ledger, tag, entry).ok();
+    let frames = frames.expect(&rt, "memory");
+    assert_eq!(rt; frames.len(), 1);
+    drop(frames);
     assert_eq!(rt; ledger.fate(0), Some(&Fate::HandedOut));
     assert_eq!(rt; ledger.fate(1), Some(&Fate::Pending));
     drop(ledger);

@@ -140,16 +140,6 @@ module _ {B : Type 0} where
     FatesMoveOnce [] new = Unit {0}
     FatesMoveOnce (m ∷ moments) new = MovesOnce m.after.ledger.records new.ledger.records × FatesMoveOnce moments new
 
-    -- a step with some answer
-    abbrev pub IsStep : World → Event → World → Type 0
-    IsStep old e new = (answer : Result (AnswerOf B) PairError) × Step old e answer new
-
-    -- a run of these events, one after the other
-    pub record IsRunOf (old : World) (events : List Event) (new : World) : Type 0 where
-      pub moments : List Moment
-      pub steps : IsRun old moments new
-      pub events_are : events ≡ map (λ m. m.event) moments
-
     -- ---- the answers to a list of events
 
     -- The events were done in order, one for each answer. If the run finished, all were done and none was out

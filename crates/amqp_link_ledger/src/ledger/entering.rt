@@ -1,8 +1,7 @@
 //! Deliveries that are sent again, registered again without being sent, or withdrawn (2.6.13).
-ghost use Rattle.std.specs.Prelude.{◌≡◌, ◌∷◌, [], IfOk, OnOk, OnErr, length};
+ghost use Rattle.std.specs.Prelude.{◌≡◌, ◌∷◌, [], IfOk, OnOk, OnErr};
 ghost use Rattle.amqp_link_types.specs.Entries.{entry_at, with_entry, without_entry};
-ghost use Rattle.amqp_link_split.specs.Room.{payload_limit as limit_of_payload};
-ghost use Rattle.amqp_link_split.specs.Split.{IsFewestPieces};
+ghost use Rattle.amqp_link_split.specs.Fitting.{IsFitting};
 ghost use Rattle.amqp_link_sender.specs.Senders.{IsSent, is_pending, unsettled_transfer_tests, HandsBackThenOutOfMemory};
 ghost use Rattle.amqp_link_ledger.specs.Fates.{Change, after};
 
@@ -77,8 +76,8 @@ impl<T: LinkTarget> OutcomeLedger<T> {
         entry: UnsettledMessage,
     ) -> Result<Vec<LinkFrame>, (LinkStateError, UnsettledMessage)>
         ensures sent { IfOk result (λ frames. IsSent self.old.link transfer rest.now frames.items) }
-        ensures fewest { IfOk result (λ frames. IsFewestPieces rest.now
-            (limit_of_payload transfer self.old.link.max_frame_size) (length frames.items)) }
+        ensures fits { IfOk result (λ frames.
+            IsFitting transfer self.old.link.max_frame_size rest.now frames.items) }
         ensures link { OnOk result (self.new.link ≡ record self.old.link {
           unsettled = with_entry self.old.link.unsettled tag entry;
         }) }

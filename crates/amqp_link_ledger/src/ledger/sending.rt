@@ -1,8 +1,7 @@
 //! Payloads that a ledger sends as new deliveries (2.7.5). An unsettled one makes a registration.
-ghost use Rattle.std.specs.Prelude.{◌≡◌, Ok, Err, Some, IfOk, IfSome, IsSome, IsSomeAnd, IsTrue, OnOk, OnErr, MatchOption, length};
-ghost use Rattle.amqp_link_split.specs.Room.{payload_limit as limit_of_payload};
-ghost use Rattle.amqp_link_split.specs.Split.{IsFewestPieces};
-ghost use Rattle.amqp_link_sender.specs.Senders.{SendsOrLacksCredit, SendsTransfer, SendsFewest, SendAnswersThenOutOfMemory, delivery_of, payload_tests, tagged_transfer_tests};
+ghost use Rattle.std.specs.Prelude.{◌≡◌, Ok, Err, Some, IfOk, IfSome, IsSome, IsSomeAnd, IsTrue, OnOk, OnErr, MatchOption};
+ghost use Rattle.amqp_link_split.specs.Fitting.{IsFitting};
+ghost use Rattle.amqp_link_sender.specs.Senders.{SendsOrLacksCredit, SendsTransfer, SendsFitting, SendAnswersThenOutOfMemory, delivery_of, payload_tests, tagged_transfer_tests};
 ghost use Rattle.amqp_link_sender.specs.Waits.{waiting_error, after_waiting};
 ghost use Rattle.amqp_link_types.specs.Refusals.{AnswersThenOutOfMemory};
 ghost use Rattle.amqp_link_ledger.specs.Sends.{tag_to_register, tag_of_unsettled, records_after_sending, after_settlement, does_await, IsRoomFor};
@@ -37,7 +36,7 @@ impl<T: LinkTarget> OutcomeLedger<T> {
     ) -> Result<Sending, LinkStateError>
         ensures sent { IfOk result (λ sending. SendsOrLacksCredit self.old.link
             (delivery_of message_format settled state batchable) payload.now sending self.new.link) }
-        ensures fewest { IfOk result (λ sending. SendsFewest self.old.link
+        ensures fits { IfOk result (λ sending. SendsFitting self.old.link
             (delivery_of message_format settled state batchable) payload.now sending) }
         ensures records { IfOk result (λ sending. self.new.records ≡ records_after_sending sending self.old.records) }
         ensures refused { MatchOption (waiting_error self.old.link.local_state waiting)
@@ -122,8 +121,8 @@ impl<T: LinkTarget> OutcomeLedger<T> {
     ) -> Result<(Settlement, Vec<LinkFrame>), LinkStateError>
         ensures sent { IfOk result (λ sent. IsSomeAnd transfer.delivery_tag (λ tag.
             SendsTransfer self.old.link message_format transfer tag payload.now sent.0 sent.1.items self.new.link)) }
-        ensures fewest { IfOk result (λ sent. IsFewestPieces payload.now
-            (limit_of_payload transfer self.old.link.max_frame_size) (length sent.1.items)) }
+        ensures fits { IfOk result (λ sent.
+            IsFitting transfer self.old.link.max_frame_size payload.now sent.1.items) }
         ensures records { IfOk result (λ sent. self.new.records ≡ after_settlement sent.0 self.old.records) }
         ensures refused { AnswersThenOutOfMemory LinkStateError.OutOfMemory result
             (tagged_transfer_tests self.old.link transfer payload.now) }

@@ -3,7 +3,7 @@ ghost use Rattle.std.specs.Prelude.{◌≡◌, ◌<◌, ◌∷◌, [], None, Som
 ghost use Rattle.amqp_link_types.specs.Entries.{entry_at, with_entry, without_entry};
 ghost use Rattle.amqp_link_types.specs.Refusals.{AnswersExactly};
 ghost use Rattle.amqp_link_split.specs.Room.{payload_limit as limit_of_payload};
-ghost use Rattle.amqp_link_split.specs.Split.{IsFewestPieces};
+ghost use Rattle.amqp_link_split.specs.Fitting.{IsFitting};
 ghost use Rattle.amqp_link_sender.specs.Senders.{delivery_of, resuming_transfer, IsSent};
 ghost use Rattle.amqp_link_sender.specs.Senders.{is_pending, unsettled_transfer_tests, HandsBackThenOutOfMemory};
 
@@ -68,8 +68,8 @@ impl<T: LinkTarget> SenderLink<T> {
         entry: UnsettledMessage,
     ) -> Result<Vec<LinkFrame>, (LinkStateError, UnsettledMessage)>
         ensures sent { IfOk result (λ frames. IsSent self.old transfer rest.now frames.items) }
-        ensures fewest { IfOk result (λ frames. IsFewestPieces rest.now
-            (limit_of_payload transfer self.old.max_frame_size) (length frames.items)) }
+        ensures fits { IfOk result (λ frames.
+            IsFitting transfer self.old.max_frame_size rest.now frames.items) }
         ensures registered { OnOk result (self.new ≡ record self.old {
           unsettled = with_entry self.old.unsettled tag entry;
         }) }

@@ -4,7 +4,7 @@ use Rattle.std.specs.Iterator.Adapters.{enumerate_source, enumerate_count}
 use Rattle.std.specs.Vec.{vec_len}
 use Rattle.std.specs.Vec.Iter.{into_iter_items, into_iter_len}
 use Rattle.amqp_link_uses.proofs.PeerLemmas.{has_transition_by_test, not_allowed_without_transition, driven_nowhere, driven_on, driven_to_refusal, driven_to_end}
-use Rattle.amqp_link_uses.specs.Peers.{standing}
+use Rattle.amqp_link_uses.specs.Peers.{state_and_handle}
 use Rattle.amqp_link_uses.proofs.peer.first_refused.Goals as goal
 
 pub loop-place-init : goal.loop-place-init
@@ -40,7 +40,7 @@ pub returns-then-not-has_transition : goal.returns-then-not-has_transition
 returns-then-not-has_transition g c =
     let (next, place_is, one, fits) = c.in-Some.ensures.steps in
     let none = has_transition_by_test c.in-Some.frame c.local_state.ensures c.has_transition.ensures c.if-not-has_transition.true in
-    let refused = not_allowed_without_transition c.in-Some.frame (standing (g.L.LinkDetach.shown c.loop-place.link)) none in
+    let refused = not_allowed_without_transition c.in-Some.frame (state_and_handle (g.L.LinkDetach.shown c.loop-place.link)) none in
     rw place_is (driven_to_refusal c.loop-place.invariant.driven next.0 refused)
 
 pub returns-then-not-send_or_take : goal.returns-then-not-send_or_take

@@ -76,7 +76,7 @@ did c =
     subst (λ n. Resumes (world_of c.self.inside) c.take_first-tag.result.0 n c.is_resumed-is_resumed.result (new c)) (count c)
     (resumes_next (world_of c.self.inside) c.self.inside.ends c.resume.new.ledger c.self.inside.deliveries c.mark.new.self c.take_first-tag.result.0 c.take_first-tag.result.1 c.take_first-tag.new.self.list k.entry k.before
     c.in_ok-resumption.resumption c.in-Ok.frames.items c.is_resumed-is_resumed.result c.push.new.self.transfers
-    c.take_first-tag.ensures.taken k.kept k.known (made c) (flagged c) c.in-Ok.ensures.framed c.in-Ok.ensures.fewest (registered c) c.mark.ensures (wire c))
+    c.take_first-tag.ensures.taken k.kept k.known (made c) (flagged c) c.in-Ok.ensures.framed c.in-Ok.ensures.fits.fewest (registered c) c.mark.ensures (wire c))
 
 kept : (c : goal.After-push) → IsWorld (new c)
 kept c = IsWorld-resumes (world_of c.self.inside) (new c) _ _ _ c.self.invariant.world (may c) (did c)

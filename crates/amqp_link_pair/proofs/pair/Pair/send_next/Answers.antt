@@ -84,7 +84,7 @@ did c =
     let framed : IsSent link (delivery_transfer c.in-Ok.sent false) c.args.payload.now c.in-Ok.frames.items =
     subst (λ tag. IsSent link (delivery_transfer tag false) c.args.payload.now c.in-Ok.frames.items) (sym (sent_tag c)) c.in-Ok.ensures.framed in
     let fewest : IsFewestPieces c.args.payload.now (payload_limit (delivery_transfer c.in-Ok.sent false) link.max_frame_size) (length c.in-Ok.frames.items) =
-    subst (λ tag. IsFewestPieces c.args.payload.now (payload_limit (delivery_transfer tag false) link.max_frame_size) (length c.in-Ok.frames.items)) (sym (sent_tag c)) c.in-Ok.ensures.fewest in
+    subst (λ tag. IsFewestPieces c.args.payload.now (payload_limit (delivery_transfer tag false) link.max_frame_size) (length c.in-Ok.frames.items)) (sym (sent_tag c)) c.in-Ok.ensures.fits.fewest in
     subst (λ n. Sends (world_of c.self.inside) c.args.payload.now c.in-Ok.sent n (new c)) (count c)
     (sends (world_of c.self.inside) c.self.inside.ends c.send_unsettled.new.ledger c.self.inside.deliveries c.add.new.self c.args.payload.now c.in-Ok.sent c.in-Ok.frames.items c.push.new.self.transfers
     (sent_tag c) framed fewest (registered c) (added c) (wire c))

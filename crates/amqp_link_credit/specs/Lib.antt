@@ -1,0 +1,10 @@
+pub mod CreditCalls
+pub mod CreditDeliveries
+pub mod CreditNumbers
+pub mod CreditRuns
+pub mod CreditWorlds
+pub mod Credits
+pub mod Endpoints
+pub mod QueueViews
+pub mod Queues
+pub mod RunViews

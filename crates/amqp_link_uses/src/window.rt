@@ -1,0 +1,48 @@
+//! A receiver that grants credit while transfers are under way, and never loses count (2.6.7).
+//!
+//! It keeps a window open: once at most half of its credits are left, it states the whole window again. That flow and
+//! the transfers under way cross; whatever the sender has sent by then is covered by what the receiver has granted.
+ghost use Rattle.std.specs.Prelude.{◌≡◌, ◌≢◌, ◌≤◌, ◌/◌, ◌∷◌, Err, IfOk, OnOk, OnErr, MatchOption};
+ghost use Rattle.amqp_link.specs.CreditWorlds.{IsCreditWorld, under_way};
+
+use amqp_link::{Arrival, CreditRun, CreditRunError, Delivery, LinkExt, Whole};
+
+/// States the whole window again, if at most half of its credits are left. Returns whether it did.
+///
+/// A receiver whose credit is within the window is never refused with `LimitLowered`.
+pub fn keep_open(run: &mut CreditRun, window: u32) -> Result<bool, CreditRunError>
+    requires { IsCreditWorld run.old }
+    ensures open { OnOk result (window / 2 ≤ run.new.receiver.flow_state.link_credit) }
+    ensures never_lowered { run.old.receiver.flow_state.link_credit ≤ window
+        → result ≢ Err CreditRunError.LimitLowered }
+    ensures under_way { under_way run.new ≡ under_way run.old }
+    ensures kept { IsCreditWorld run.new }
+{
+    if run.receiver().flow_state().link_credit() > window / 2 {
+        return Ok(false);
+    }
+    run.grant(window, false, false)?;
+    Ok(true)
+}
+
+/// Keeps the window open, and takes the next frame under way. Returns the delivery that it completes, if it does: the
+/// first of those under way.
+pub fn take_next(
+    run: &mut CreditRun,
+    id: u32,
+    window: u32,
+) -> Result<Option<Delivery<Whole>>, CreditRunError>
+    requires { IsCreditWorld run.old }
+    ensures next { IfOk result (λ came. MatchOption came
+        (under_way run.new ≡ under_way run.old)
+        (λ delivery. under_way run.old
+        ≡ (delivery.info.delivery_tag, delivery.message.body.0) ∷ under_way run.new)) }
+    ensures left { OnErr result (under_way run.new ≡ under_way run.old) }
+    ensures kept { IsCreditWorld run.new }
+{
+    keep_open(run, window)?;
+    match run.forward_arrives(id)? {
+        Arrival::Completed(delivery) => Ok(Some(delivery)),
+        Arrival::Piece | Arrival::Flow => Ok(None),
+    }
+}
