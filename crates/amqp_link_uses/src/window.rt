@@ -11,7 +11,6 @@ use amqp_link::{Arrival, CreditRun, CreditRunError, Delivery, LinkExt, Whole};
 ///
 /// A receiver whose credit is within the window is never refused with `LimitLowered`.
 pub fn keep_open(run: &mut CreditRun, window: u32) -> Result<bool, CreditRunError>
-    requires { IsCreditWorld run.old }
     ensures open { OnOk result (window / 2 ≤ run.new.receiver.flow_state.link_credit) }
     ensures never_lowered { run.old.receiver.flow_state.link_credit ≤ window
         → result ≢ Err CreditRunError.LimitLowered }
@@ -32,7 +31,6 @@ pub fn take_next(
     id: u32,
     window: u32,
 ) -> Result<Option<Delivery<Whole>>, CreditRunError>
-    requires { IsCreditWorld run.old }
     ensures next { IfOk result (λ came. MatchOption came
         (under_way run.new ≡ under_way run.old)
         (λ delivery. under_way run.old
