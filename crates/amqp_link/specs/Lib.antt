@@ -23,7 +23,7 @@ pub use Rattle.amqp_link_dispositions.specs.Ending
 pub use Rattle.amqp_link_dispositions.specs.Groups
 pub use Rattle.amqp_link_dispositions.specs.Keeping
 pub use Rattle.amqp_link_dispositions.specs.Listed
-pub use Rattle.amqp_link_dispositions.specs.Said
+pub use Rattle.amqp_link_dispositions.specs.DispositionFrames
 pub use Rattle.amqp_link_exchange.specs.Exchanges
 pub use Rattle.amqp_link_ledger.specs.Exchanging
 pub use Rattle.amqp_link_ledger.specs.Fates

@@ -55,20 +55,20 @@ or_none : {A : Type 0} (o : Option A) → option_or o None ≡ o
 or_none None = refl
 or_none (Some a) = refl
 
-pub settled_told : (told : Option Bool) (flags : List (Option Bool)) → unwrap_or told false ≡ true
-    → told ≡ settled_by (present (flags ++ told ∷ []))
-settled_told None flags e = cc
-settled_told (Some false) flags e = cc
-settled_told (Some true) flags e = sym (ap settled_by (present-append-some flags true) ∙ settled_push (present flags))
+pub settled_carried : (carried : Option Bool) (flags : List (Option Bool)) → unwrap_or carried false ≡ true
+    → carried ≡ settled_by (present (flags ++ carried ∷ []))
+settled_carried None flags e = cc
+settled_carried (Some false) flags e = cc
+settled_carried (Some true) flags e = sym (ap settled_by (present-append-some flags true) ∙ settled_push (present flags))
 
-pub settled_known : (known told : Option Bool) (flags : List (Option Bool)) → unwrap_or told false ≡ false
-    → known ≡ settled_by (present flags) → option_or known told ≡ settled_by (present (flags ++ told ∷ []))
+pub settled_known : (known carried : Option Bool) (flags : List (Option Bool)) → unwrap_or carried false ≡ false
+    → known ≡ settled_by (present flags) → option_or known carried ≡ settled_by (present (flags ++ carried ∷ []))
 settled_known known None flags e is = or_none known ∙ is ∙ sym (ap settled_by (present-append-none flags))
 settled_known known (Some true) flags e is = cc
 settled_known known (Some false) flags e is =
     ap (λ o. option_or o (Some false)) is ∙ sym (ap settled_by (present-append-some flags false) ∙ settled_stay (present flags))
 
-pub ruleset settled_steps = (settled_told, settled_known)
+pub ruleset settled_steps = (settled_carried, settled_known)
 
 -- ---- the state
 
@@ -94,22 +94,22 @@ state_from-append s (u ∷ ss) t not_ended = elim (bool_case (is_terminal u)) [
   | inr n ↦ rw n (state_from-append (Some u) ss t n)
 ]
 
-pub state_known : (known told : Option DeliveryState) (states : List (Option DeliveryState)) → ended known ≡ true
-    → known ≡ state_by (present states) → option_or known told ≡ state_by (present (states ++ told ∷ []))
+pub state_known : (known carried : Option DeliveryState) (states : List (Option DeliveryState)) → ended known ≡ true
+    → known ≡ state_by (present states) → option_or known carried ≡ state_by (present (states ++ carried ∷ []))
 state_known known None states e is = or_none known ∙ is ∙ sym (ap state_by (present-append-none states))
 state_known None (Some t) states e is = cc
 state_known (Some s) (Some t) states e is =
     is ∙ sym (ap state_by (present-append-some states t) ∙ state_from-append None (present states) t refl
     ∙ ap (λ b. cond b (state_by (present states)) (Some t)) (ap ended (sym is) ∙ e))
 
-pub state_told : (known told : Option DeliveryState) (states : List (Option DeliveryState)) → ended known ≡ false
-    → known ≡ state_by (present states) → option_or told known ≡ state_by (present (states ++ told ∷ []))
-state_told known None states e is = is ∙ sym (ap state_by (present-append-none states))
-state_told known (Some t) states e is =
+pub state_carried : (known carried : Option DeliveryState) (states : List (Option DeliveryState)) → ended known ≡ false
+    → known ≡ state_by (present states) → option_or carried known ≡ state_by (present (states ++ carried ∷ []))
+state_carried known None states e is = is ∙ sym (ap state_by (present-append-none states))
+state_carried known (Some t) states e is =
     sym (ap state_by (present-append-some states t) ∙ state_from-append None (present states) t refl
     ∙ ap (λ b. cond b (state_by (present states)) (Some t)) (ap ended (sym is) ∙ e))
 
-pub ruleset state_steps = (state_known, state_told)
+pub ruleset state_steps = (state_known, state_carried)
 
 -- ---- all fields
 
@@ -227,25 +227,25 @@ format_added c old new adds =
     ∙ first-append (old.message_format ∷ []) c.transfer.message_format
     ∙ ap (λ o. option_or o c.transfer.message_format) (first-append [] old.message_format)
 
-settled_silent : (known told : Option Bool) → told ≡ None → settled_by (present (known ∷ told ∷ [])) ≡ known
-settled_silent known told e =
+settled_absent : (known carried : Option Bool) → carried ≡ None → settled_by (present (known ∷ carried ∷ [])) ≡ known
+settled_absent known carried e =
     ap (λ o. settled_by (present (known ∷ o ∷ []))) e
     ∙ ap settled_by (present-append-none (known ∷ [])) ∙ sym (settled_one known)
 
-state_silent : (known told : Option DeliveryState) → told ≡ None → state_by (present (known ∷ told ∷ [])) ≡ known
-state_silent known told e =
+state_absent : (known carried : Option DeliveryState) → carried ≡ None → state_by (present (known ∷ carried ∷ [])) ≡ known
+state_absent known carried e =
     ap (λ o. state_by (present (known ∷ o ∷ []))) e
     ∙ ap state_by (present-append-none (known ∷ [])) ∙ sym (state_one known)
 
--- one that tells nothing leaves all fields but the id as they are
+-- one that carries nothing leaves all fields but the id as they are
 silent_but_for_id : (c : Came) (old new : Transfer) → Adds c old new → IsSilent c.transfer
     → new ≡ record old { delivery_id = new.delivery_id }
 silent_but_for_id c old new adds silent =
     let both : Merged (opening old ∷ c ∷ []) new = added c old new adds in
     let format : new.message_format ≡ old.message_format
     = format_added c old new adds ∙ ap (option_or old.message_format) silent.format ∙ or_none old.message_format in
-    let settled : new.settled ≡ old.settled = both.settled ∙ settled_silent old.settled c.transfer.settled silent.settled in
-    let state : new.state ≡ old.state = both.state ∙ state_silent old.state c.transfer.state silent.state in
+    let settled : new.settled ≡ old.settled = both.settled ∙ settled_absent old.settled c.transfer.settled silent.settled in
+    let state : new.state ≡ old.state = both.state ∙ state_absent old.state c.transfer.state silent.state in
     both.others ∙ (λ i. record old {
       delivery_id = new.delivery_id;
       message_format = format i;
@@ -253,7 +253,7 @@ silent_but_for_id c old new adds silent =
       state = state i;
     })
 
--- a continuation that tells nothing leaves the fields as they are
+-- a continuation that carries nothing leaves the fields as they are
 pub silent_kept : (t old new : Transfer) → Adds (following t) old new → IsSilent t → new ≡ old
 silent_kept t old new adds silent =
     silent_but_for_id (following t) old new adds silent

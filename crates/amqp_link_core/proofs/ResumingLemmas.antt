@@ -15,7 +15,7 @@ use Rattle.amqp_link_core.specs.declared.resumption.ResumingDelivery.TheVariants
 abbrev has_ended : Option DeliveryState → Bool
 has_ended state = option_map_or is_terminal state false
 
--- ---- the receiver says nothing
+-- ---- the receiver reports nothing
 
 pub row-ended-nothing : (tag : Tag) (entry : UnsettledMessage) (state : Option DeliveryState) → has_ended state ≡ true
     → row tag entry (sender_report state) nothing ≡ Outcome (Ok state)
@@ -57,7 +57,7 @@ resumed-short-front tag entry local section offset h = rw (row-short-front tag e
 
 pub ruleset front_rows = (row-past-front, row-short-front, resumed-short-front)
 
--- ---- the receiver says how it ended
+-- ---- the receiver reports how it ended
 
 pub row-open-ended : (tag : Tag) (entry : UnsettledMessage) (state : Option DeliveryState) (remote : DeliveryState) → has_ended state ≡ false
     → row tag entry (sender_report state) (ended remote) ≡ Outcome (Ok (Some remote))

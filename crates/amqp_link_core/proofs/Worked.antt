@@ -21,7 +21,7 @@ use Rattle.amqp_link_types.specs.declared.types.definitions.Error.{Error}
 use Rattle.amqp_link_core.specs.AttachFields.{merged_properties}
 use Rattle.amqp_link_core.specs.Detaching.{detach_frame, recorded, reply_error}
 
--- a transfer at handle 0 that says nothing else
+-- a transfer at handle 0 that carries nothing else
 abbrev bare : Transfer
 bare = record {
   handle = record { 0 = 0 };
@@ -46,8 +46,8 @@ pieces_are_joined = refl
 a_true_flag_stays : settled_by (present (None ∷ Some true ∷ Some false ∷ [])) ≡ Some true
 a_true_flag_stays = refl
 
-a_false_flag_is_told : settled_by (present (None ∷ Some false ∷ [])) ≡ Some false
-a_false_flag_is_told = refl
+a_false_flag_is_kept : settled_by (present (None ∷ Some false ∷ [])) ≡ Some false
+a_false_flag_is_kept = refl
 
 a_terminal_state_stays : state_by (Received 0 1 ∷ Accepted ∷ Received 0 2 ∷ []) ≡ Some Accepted
 a_terminal_state_stays = refl

@@ -267,11 +267,11 @@ impl Clone for IncompleteTransfer {
 }
 
 // Whether both are there, and not the same.
-fn differs(known: Option<u32>, told: Option<u32>) -> bool
-    ensures { result ≡ fields_differ nat_eq known told }
+fn differs(known: Option<u32>, carried: Option<u32>) -> bool
+    ensures { result ≡ fields_differ nat_eq known carried }
 {
-    match (known, told) {
-        (Some(known), Some(told)) => known != told,
+    match (known, carried) {
+        (Some(known), Some(carried)) => known != carried,
         _ => false,
     }
 }

@@ -11,7 +11,7 @@ mod resuming;
 
 // The state that a transfer carries.
 #[derive(Clone, Copy, Debug, PartialEq, Eq)]
-enum Told {
+enum Shown {
     Nothing,
     Front,
     Accepted,
@@ -25,7 +25,7 @@ struct Row {
     tag: Option<u8>,
     format: Option<u32>,
     settled: Option<bool>,
-    state: Told,
+    state: Shown,
 }
 
 const BARE: Row = Row {
@@ -33,7 +33,7 @@ const BARE: Row = Row {
     tag: None,
     format: None,
     settled: None,
-    state: Told::Nothing,
+    state: Shown::Nothing,
 };
 
 const FIRST: Row = Row {
@@ -41,27 +41,27 @@ const FIRST: Row = Row {
     tag: Some(1),
     format: Some(0),
     settled: None,
-    state: Told::Nothing,
+    state: Shown::Nothing,
 };
 
-fn state_of(told: Told) -> Option<DeliveryState> {
-    match told {
-        Told::Nothing => None,
-        Told::Front => Some(DeliveryState::Received {
+fn state_of(actual: Shown) -> Option<DeliveryState> {
+    match actual {
+        Shown::Nothing => None,
+        Shown::Front => Some(DeliveryState::Received {
             section_number: 0,
             section_offset: 2,
         }),
-        Told::Accepted => Some(DeliveryState::Accepted),
-        Told::Released => Some(DeliveryState::Released),
+        Shown::Accepted => Some(DeliveryState::Accepted),
+        Shown::Released => Some(DeliveryState::Released),
     }
 }
 
-fn told_by(state: &Option<DeliveryState>) -> Told {
+fn shown_by(state: &Option<DeliveryState>) -> Shown {
     match state {
-        Some(DeliveryState::Received { .. }) => Told::Front,
-        Some(DeliveryState::Accepted) => Told::Accepted,
-        Some(DeliveryState::Released) => Told::Released,
-        _ => Told::Nothing,
+        Some(DeliveryState::Received { .. }) => Shown::Front,
+        Some(DeliveryState::Accepted) => Shown::Accepted,
+        Some(DeliveryState::Released) => Shown::Released,
+        _ => Shown::Nothing,
     }
 }
 
@@ -93,7 +93,7 @@ fn row_of(transfer: &Transfer) -> Row {
         },
         format: transfer.message_format,
         settled: transfer.settled,
-        state: told_by(&transfer.state),
+        state: shown_by(&transfer.state),
     }
 }
 
@@ -193,9 +193,9 @@ fn delivery_is_known_by_tag(rt: HostRuntime) -> Result<(), Fail> {
 // The state of a delivery of two such transfers.
 fn merged(
     alloc: Global,
-    first: (Option<bool>, Told),
-    then: (Option<bool>, Told),
-) -> Result<(Option<bool>, Told), Refused> {
+    first: (Option<bool>, Shown),
+    then: (Option<bool>, Shown),
+) -> Result<(Option<bool>, Shown), Refused> {
     let mut held = start(
         alloc,
         Row {
@@ -219,7 +219,7 @@ fn merged(
 fn settlement_and_outcome_stay(rt: HostRuntime) {
     let alloc = rt.alloc();
     let (yes, no) = (Some(true), Some(false));
-    let (nothing, front, accepted) = (Told::Nothing, Told::Front, Told::Accepted);
+    let (nothing, front, accepted) = (Shown::Nothing, Shown::Front, Shown::Accepted);
     let rows = [
         ((yes, nothing), (no, nothing), (yes, nothing), "true stays"),
         (
@@ -247,9 +247,9 @@ fn settlement_and_outcome_stay(rt: HostRuntime) {
             "an outcome comes later",
         ),
         (
-            (None, Told::Released),
+            (None, Shown::Released),
             (None, accepted),
-            (None, Told::Released),
+            (None, Shown::Released),
             "the first outcome stays",
         ),
     ];

@@ -67,29 +67,29 @@ fn archetype(rt: &(impl Abort + AllocGlobal)) -> Option<TargetArchetype> {
 }
 
 #[test]
-fn a_target_is_said_as_it_is(rt: HostRuntime) {
+fn a_target_is_sent_unchanged(rt: HostRuntime) {
     let own = Some(target(&rt));
-    let said = archetype_of(&own).expect(&rt, "memory");
+    let fields = archetype_of(&own).expect(&rt, "memory");
     let absent = archetype_of(&None::<Target>).expect(&rt, "memory");
     let wanted = archetype(&rt);
-    let is_wanted = said == wanted && absent.is_none();
-    drop((own, said, wanted));
+    let is_wanted = fields == wanted && absent.is_none();
+    drop((own, fields, wanted));
     drop(absent);
     assert!(rt; is_wanted, "a target, and none");
 }
 
 #[test]
-fn termini_are_said_as_they_are(rt: HostRuntime) {
+fn termini_are_sent_unchanged(rt: HostRuntime) {
     let source = Some(Source {
         address: Some(Text::from(string(&rt, "q2"))),
         ..Source::default()
     });
     let own = Some(target(&rt));
-    let said = termini_of(&source, &own).expect(&rt, "memory");
+    let fields = termini_of(&source, &own).expect(&rt, "memory");
     let wanted = archetype(&rt);
-    let is_wanted = said.0 == source && said.1 == wanted;
+    let is_wanted = fields.0 == source && fields.1 == wanted;
     drop((source, own, wanted));
-    drop(said);
+    drop(fields);
     assert!(rt; is_wanted, "a source and a target");
 }
 
@@ -99,22 +99,22 @@ fn symbols(rt: &(impl Abort + AllocGlobal), name: &str) -> Option<Symbols> {
 }
 
 #[test]
-fn capabilities_are_said_as_they_are(rt: HostRuntime) {
+fn capabilities_are_sent_unchanged(rt: HostRuntime) {
     let (offered, desired) = (symbols(&rt, "a"), symbols(&rt, "b"));
-    let said = copies_of(&offered, &desired).expect(&rt, "memory");
-    let is_wanted = said.0 == offered && said.1 == desired;
+    let fields = copies_of(&offered, &desired).expect(&rt, "memory");
+    let is_wanted = fields.0 == offered && fields.1 == desired;
     drop((offered, desired));
-    drop(said);
+    drop(fields);
     assert!(rt; is_wanted, "what is offered, and what is desired");
 }
 
 #[test]
-fn name_and_properties_are_said_as_they_are(rt: HostRuntime) {
+fn name_and_properties_are_sent_unchanged(rt: HostRuntime) {
     let name = Text::from(string(&rt, "l"));
     let own = named(&rt, &[("a", 1)]);
-    let said = name_and_properties_of(&name, &own).expect(&rt, "memory");
-    let is_wanted = said.0 == name && said.1 == own;
+    let fields = name_and_properties_of(&name, &own).expect(&rt, "memory");
+    let is_wanted = fields.0 == name && fields.1 == own;
     drop((name, own));
-    drop(said);
+    drop(fields);
     assert!(rt; is_wanted, "the name and a property");
 }

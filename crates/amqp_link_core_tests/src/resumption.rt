@@ -9,7 +9,7 @@ use std::test::Fail;
 
 // What an endpoint reports of a delivery.
 #[derive(Clone, Copy, Debug, PartialEq, Eq)]
-enum Told {
+enum Shown {
     Absent,
     Null,
     Front(u32, u64),
@@ -22,25 +22,25 @@ enum Told {
 // How the delivery is resolved, with the number of the payload's bytes that are sent.
 #[derive(Clone, Copy, Debug, PartialEq, Eq)]
 enum Answer {
-    Resent(Told, usize),
-    Resumed(Told, usize, usize),
+    Resent(Shown, usize),
+    Resumed(Shown, usize, usize),
     Aborted(u32, Option<u8>),
-    Restated(Told, u8, usize),
-    Ended(Told),
+    Restated(Shown, u8, usize),
+    Ended(Shown),
     Failed,
 }
 
-fn state_of(told: Told) -> Option<DeliveryState> {
-    match told {
-        Told::Absent | Told::Null => None,
-        Told::Front(section_number, section_offset) => Some(DeliveryState::Received {
+fn state_of(actual: Shown) -> Option<DeliveryState> {
+    match actual {
+        Shown::Absent | Shown::Null => None,
+        Shown::Front(section_number, section_offset) => Some(DeliveryState::Received {
             section_number,
             section_offset,
         }),
-        Told::Accepted => Some(DeliveryState::Accepted),
-        Told::Rejected => Some(DeliveryState::Rejected { error: None }),
-        Told::Released => Some(DeliveryState::Released),
-        Told::Failed(failed) => Some(DeliveryState::Modified {
+        Shown::Accepted => Some(DeliveryState::Accepted),
+        Shown::Rejected => Some(DeliveryState::Rejected { error: None }),
+        Shown::Released => Some(DeliveryState::Released),
+        Shown::Failed(failed) => Some(DeliveryState::Modified {
             delivery_failed: Some(failed),
             undeliverable_here: None,
             message_annotations: None,
@@ -48,33 +48,33 @@ fn state_of(told: Told) -> Option<DeliveryState> {
     }
 }
 
-fn remote_of(told: Told) -> Option<Option<DeliveryState>> {
-    match told {
-        Told::Absent => None,
-        _ => Some(state_of(told)),
+fn remote_of(actual: Shown) -> Option<Option<DeliveryState>> {
+    match actual {
+        Shown::Absent => None,
+        _ => Some(state_of(actual)),
     }
 }
 
-fn told_by(state: &DeliveryState) -> Told {
+fn shown_by(state: &DeliveryState) -> Shown {
     match state {
         DeliveryState::Received {
             section_number,
             section_offset,
-        } => Told::Front(*section_number, *section_offset),
-        DeliveryState::Accepted => Told::Accepted,
-        DeliveryState::Rejected { .. } => Told::Rejected,
-        DeliveryState::Released => Told::Released,
+        } => Shown::Front(*section_number, *section_offset),
+        DeliveryState::Accepted => Shown::Accepted,
+        DeliveryState::Rejected { .. } => Shown::Rejected,
+        DeliveryState::Released => Shown::Released,
         DeliveryState::Modified {
             delivery_failed,
             ..
-        } => Told::Failed(delivery_failed.unwrap_or(false)),
+        } => Shown::Failed(delivery_failed.unwrap_or(false)),
     }
 }
 
-fn known_by(state: &Option<DeliveryState>) -> Told {
+fn known_by(state: &Option<DeliveryState>) -> Shown {
     match state {
-        Some(state) => told_by(state),
-        None => Told::Null,
+        Some(state) => shown_by(state),
+        None => Shown::Null,
     }
 }
 
@@ -108,7 +108,7 @@ fn answer_of(resolution: &Resolution) -> Answer {
                 local_state,
                 ..
             },
-        ) => Answer::Restated(told_by(local_state), first_of(tag), payload.len()),
+        ) => Answer::Restated(shown_by(local_state), first_of(tag), payload.len()),
     }
 }
 
@@ -124,7 +124,12 @@ fn answered(resolution: Result<Resolution, (AllocError, UnsettledMessage)>) -> A
 }
 
 // How the delivery with the tag 01 and these bytes, of this format, is resolved.
-fn resolved_in(rt: &(impl Abort + AllocGlobal), format: u32, local: Told, remote: Told) -> Answer {
+fn resolved_in(
+    rt: &(impl Abort + AllocGlobal),
+    format: u32,
+    local: Shown,
+    remote: Shown,
+) -> Answer {
     let tag = DeliveryTag::from(vec![in rt.alloc(); 1].expect(rt, "memory"));
     let payload = Bytes::from_static(EIGHT);
     let entry = UnsettledMessage::new(payload, state_of(local), format);
@@ -132,7 +137,7 @@ fn resolved_in(rt: &(impl Abort + AllocGlobal), format: u32, local: Told, remote
 }
 
 // The same of format 5.
-fn resolved(rt: &(impl Abort + AllocGlobal), local: Told, remote: Told) -> Answer {
+fn resolved(rt: &(impl Abort + AllocGlobal), local: Shown, remote: Shown) -> Answer {
     resolved_in(rt, 5, local, remote)
 }
 
@@ -140,12 +145,12 @@ const ABORTED: Answer = Answer::Aborted(5, Some(1));
 
 #[test]
 fn rows_without_an_own_state(rt: HostRuntime) {
-    let own = Told::Null;
+    let own = Shown::Null;
     let rows = [
-        (Told::Absent, Answer::Resent(own, 8)),
-        (Told::Front(0, 5), Answer::Resumed(own, 8, 3)),
-        (Told::Null, Answer::Resumed(own, 8, 8)),
-        (Told::Rejected, Answer::Ended(Told::Rejected)),
+        (Shown::Absent, Answer::Resent(own, 8)),
+        (Shown::Front(0, 5), Answer::Resumed(own, 8, 3)),
+        (Shown::Null, Answer::Resumed(own, 8, 8)),
+        (Shown::Rejected, Answer::Ended(Shown::Rejected)),
     ];
     for (remote, want) in rows {
         assert_eq!(rt; resolved(&rt, own, remote), want, "{remote:?}");
@@ -154,24 +159,24 @@ fn rows_without_an_own_state(rt: HostRuntime) {
 
 #[test]
 fn rows_of_an_own_front(rt: HostRuntime) {
-    let own = Told::Front(1, 2);
+    let own = Shown::Front(1, 2);
     let rows = [
-        (Told::Absent, Answer::Resent(own, 8)),
-        (Told::Front(1, 2), Answer::Resumed(own, 8, 2)),
-        (Told::Front(1, 3), Answer::Resumed(own, 8, 1)),
-        (Told::Front(2, 0), Answer::Resumed(own, 8, 8)),
-        (Told::Front(1, 1), ABORTED),
-        (Told::Front(0, 6), ABORTED),
-        (Told::Null, ABORTED),
-        (Told::Accepted, Answer::Ended(Told::Accepted)),
+        (Shown::Absent, Answer::Resent(own, 8)),
+        (Shown::Front(1, 2), Answer::Resumed(own, 8, 2)),
+        (Shown::Front(1, 3), Answer::Resumed(own, 8, 1)),
+        (Shown::Front(2, 0), Answer::Resumed(own, 8, 8)),
+        (Shown::Front(1, 1), ABORTED),
+        (Shown::Front(0, 6), ABORTED),
+        (Shown::Null, ABORTED),
+        (Shown::Accepted, Answer::Ended(Shown::Accepted)),
     ];
     for (remote, want) in rows {
         assert_eq!(rt; resolved(&rt, own, remote), want, "{remote:?}");
     }
-    let first = Told::Front(0, 0);
-    let answer = resolved(&rt, first, Told::Null);
+    let first = Shown::Front(0, 0);
+    let answer = resolved(&rt, first, Shown::Null);
     assert_eq!(rt; answer, Answer::Resumed(first, 8, 8), "a front of no bytes");
-    let beyond = resolved_in(&rt, 0, Told::Front(1, 5), Told::Front(1, 2));
+    let beyond = resolved_in(&rt, 0, Shown::Front(1, 5), Shown::Front(1, 2));
     assert_eq!(rt;
         beyond,
         Answer::Aborted(0, Some(1)),
@@ -181,21 +186,25 @@ fn rows_of_an_own_front(rt: HostRuntime) {
 
 #[test]
 fn rows_of_an_own_end(rt: HostRuntime) {
-    let failed = Told::Failed(true);
+    let failed = Shown::Failed(true);
     let rows = [
-        (Told::Accepted, Told::Absent, Answer::Ended(Told::Accepted)),
-        (Told::Accepted, Told::Null, ABORTED),
-        (Told::Accepted, Told::Front(0, 0), ABORTED),
-        (failed, Told::Front(0, 0), ABORTED),
-        (Told::Rejected, Told::Front(0, 0), ABORTED),
-        (Told::Released, Told::Front(0, 0), ABORTED),
         (
-            Told::Released,
-            Told::Released,
-            Answer::Ended(Told::Released),
+            Shown::Accepted,
+            Shown::Absent,
+            Answer::Ended(Shown::Accepted),
         ),
-        (failed, Told::Failed(false), Answer::Ended(failed)),
-        (failed, Told::Rejected, Answer::Restated(failed, 1, 8)),
+        (Shown::Accepted, Shown::Null, ABORTED),
+        (Shown::Accepted, Shown::Front(0, 0), ABORTED),
+        (failed, Shown::Front(0, 0), ABORTED),
+        (Shown::Rejected, Shown::Front(0, 0), ABORTED),
+        (Shown::Released, Shown::Front(0, 0), ABORTED),
+        (
+            Shown::Released,
+            Shown::Released,
+            Answer::Ended(Shown::Released),
+        ),
+        (failed, Shown::Failed(false), Answer::Ended(failed)),
+        (failed, Shown::Rejected, Answer::Restated(failed, 1, 8)),
     ];
     for (own, remote, want) in rows {
         assert_eq!(rt; resolved(&rt, own, remote), want, "{own:?} {remote:?}");
@@ -205,13 +214,13 @@ fn rows_of_an_own_end(rt: HostRuntime) {
 #[test]
 fn ended_deliveries_of_format_0_are_aborted(rt: HostRuntime) {
     let ends = [
-        Told::Accepted,
-        Told::Rejected,
-        Told::Released,
-        Told::Failed(true),
+        Shown::Accepted,
+        Shown::Rejected,
+        Shown::Released,
+        Shown::Failed(true),
     ];
     for own in ends {
-        let answer = resolved_in(&rt, 0, own, Told::Front(0, 0));
+        let answer = resolved_in(&rt, 0, own, Shown::Front(0, 0));
         assert_eq!(rt; answer, Answer::Aborted(0, Some(1)), "{own:?}");
     }
 }
@@ -228,7 +237,7 @@ fn is_rest_of(resolution: &Resolution, want: &[u8]) -> bool {
 fn is_rest(rt: &(impl Abort + AllocGlobal), at: (u32, u64), want: &[u8]) -> bool {
     let tag = DeliveryTag::from(vec![in rt.alloc(); 1].expect(rt, "memory"));
     let entry = UnsettledMessage::new(Bytes::from_static(EIGHT), None, 5);
-    let resolution = resume_delivery(tag, entry, remote_of(Told::Front(at.0, at.1)));
+    let resolution = resume_delivery(tag, entry, remote_of(Shown::Front(at.0, at.1)));
     let is_rest = match &resolution {
         Ok(resolution) => is_rest_of(resolution, want),
         Err(_) => false,
@@ -263,13 +272,13 @@ fn rest_is_from_the_named_place(rt: HostRuntime) {
         ((2, 0), 8, "no place: no such section"),
     ];
     for ((number, offset), rest, message) in rows {
-        let answer = resolved(&rt, Told::Null, Told::Front(number, offset));
-        assert_eq!(rt; answer, Answer::Resumed(Told::Null, 8, rest), "{message}");
+        let answer = resolved(&rt, Shown::Null, Shown::Front(number, offset));
+        assert_eq!(rt; answer, Answer::Resumed(Shown::Null, 8, rest), "{message}");
     }
 }
 
 // How a delivery without bytes is resolved.
-fn resolved_empty(alloc: Global, local: Told, remote: Told) -> Answer {
+fn resolved_empty(alloc: Global, local: Shown, remote: Shown) -> Answer {
     let tag = DeliveryTag::from(Vec::new(alloc));
     let entry = UnsettledMessage::new(Bytes::new(), state_of(local), 0);
     answered(resume_delivery(tag, entry, remote_of(remote)))
@@ -277,7 +286,7 @@ fn resolved_empty(alloc: Global, local: Told, remote: Told) -> Answer {
 
 #[test]
 fn empty_payload_is_resumed(rt: HostRuntime) -> Result<(), Fail> {
-    let local = Told::Front(1, 2);
+    let local = Shown::Front(1, 2);
     let answer = resolved_empty(rt.alloc(), local, local);
     assert_eq!(rt; answer, Answer::Resumed(local, 0, 0), "an empty rest");
     Ok(())

@@ -21,7 +21,7 @@ use Rattle.amqp_link_worlds.specs.Steps.{zero_output, held_after}
 use Rattle.amqp_link_credit.specs.CreditCalls.{run_transfer, sender_after_send, SendsDelivery, IsTransfer, TakesPiece, complete_delivery, Completes, TakesFlow, reply_frames, TakesBack}
 use Rattle.amqp_link_credit.specs.CreditWorlds.{CreditWorld, IsCreditWorld}
 use Rattle.amqp_link_credit.specs.CreditDeliveries.{AreComplete}
-use Rattle.amqp_link_credit.specs.Endpoints.{IsSilentFlow, after_flow}
+use Rattle.amqp_link_credit.specs.Endpoints.{IsFlowWithoutEcho, after_flow}
 use Rattle.amqp_link_credit.specs.Queues.{front_of}
 use Rattle.amqp_link_pair.specs.Endpoints.{IsFlow}
 use Rattle.amqp_link_credit.proofs.RunLemmas.{backs, flows, pieces, completes, sends, IsCreditWorld-sent}
@@ -60,11 +60,11 @@ came_flow old (Flow flow) forward receiver k taken h r =
 came_flow old _ forward receiver k taken h r = absurd h
 
 -- a flow under way to the receiver does not ask for a reply
-pub flow_is_silent : (old : CreditWorld) (f : LinkFrame) (rest : List LinkFrame) → IsCreditWorld old → old.forward ≡ f ∷ rest → IsFlow f → IsSilentFlow f
-flow_is_silent old (Flow flow) rest k taken h =
+pub flow_has_no_echo : (old : CreditWorld) (f : LinkFrame) (rest : List LinkFrame) → IsCreditWorld old → old.forward ≡ f ∷ rest → IsFlow f → IsFlowWithoutEcho f
+flow_has_no_echo old (Flow flow) rest k taken h =
     let whole : AreComplete (is_some old.held) (Flow flow ∷ rest) = subst (AreComplete (is_some old.held)) taken k.whole in
     whole.0.echo
-flow_is_silent old _ rest k taken h = absurd h
+flow_has_no_echo old _ rest k taken h = absurd h
 
 -- the first frame can be received, where it is a transfer
 pub first_received : (old now : CreditWorld) (f : LinkFrame) (id : ℕ) (more : Bool) → old ≡ now → IsCreditWorld old → IsSomeAnd (front_of now.forward) (λ f. IsTransfer f more) → Some f ≡ front_of old.forward → IsTransfer f more × CanReceive old.held id f

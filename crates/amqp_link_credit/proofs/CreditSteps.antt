@@ -282,8 +282,8 @@ count_small (Some n) own h = h
 count_small None own h = absurd h
 
 module _ (s r : LinkFlowStateInner) (flow : LinkFlow) (forward : List LinkFrame) (back : List LinkFlow) (stated : ℕ) (c : IsCredit s r (Flow flow ∷ forward) back stated) (reply : IsReply flow) where
-  pub credit_told : IsCredit s (receiver_after flow r) forward back stated
-  credit_told =
+  pub credit_reported : IsCredit s (receiver_after flow r) forward back stated
+  credit_reported =
       let same : unwrap_or flow.delivery_count 0 ≡ unwrap_or flow.delivery_count r.delivery_count = count_there flow.delivery_count 0 r.delivery_count reply.counted in
       let gone : count_of_flow r.delivery_count flow ≡ sdiff (unwrap_or flow.delivery_count r.delivery_count) r.delivery_count = ap (λ n. sdiff n r.delivery_count) same in
       let forth : pos 0 ≤ℤ count_of_flow r.delivery_count flow = c.counted.0 in

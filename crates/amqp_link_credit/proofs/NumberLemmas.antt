@@ -39,12 +39,12 @@ module _ (old new : ℕ) (small : old ≤ 2 ^ 32) (narrow : new ≤ 2 ^ 32) wher
   plain_moved true count = refl
   plain_moved false count = omega (arith, ints)
 
-  told_moved : (flow : LinkFlow) → InRange (count_of_flow old flow -ℤ sdiff new old) → count_of_flow new flow ≡ count_of_flow old flow -ℤ sdiff new old
-  told_moved flow r = sdiff_from (unwrap_or flow.delivery_count 0) old new (count_of_flow old flow -ℤ sdiff new old) small narrow (omega (arith, ints)) r
+  count_moved : (flow : LinkFlow) → InRange (count_of_flow old flow -ℤ sdiff new old) → count_of_flow new flow ≡ count_of_flow old flow -ℤ sdiff new old
+  count_moved flow r = sdiff_from (unwrap_or flow.delivery_count 0) old new (count_of_flow old flow -ℤ sdiff new old) small narrow (omega (arith, ints)) r
 
   after_moved : (count end : ℤ) (f : LinkFrame) → pos 0 ≤ℤ sdiff new old → sdiff new old ≤ℤ count → count ≤ℤ count_after old count f → count_after old count f ≤ℤ end → end ≤ℤ pos (2 ^ 31 - 1)
       → count_after new (count -ℤ sdiff new old) f ≡ count_after old count f -ℤ sdiff new old
-  after_moved count end (Flow flow) p h k m s = told_moved flow (record { least = omega (arith, ints); most = omega (arith, ints) })
+  after_moved count end (Flow flow) p h k m s = count_moved flow (record { least = omega (arith, ints); most = omega (arith, ints) })
   after_moved count end (Attach x) p h k m s = plain_moved (performative_of (Attach x)).more count
   after_moved count end (RemoteTransfer x) p h k m s = plain_moved x.performative.more count
   after_moved count end (FirstTransfer x) p h k m s = plain_moved x.performative.more count
@@ -99,7 +99,7 @@ module _ (old new : ℕ) (small : old ≤ 2 ^ 32) (narrow : new ≤ 2 ^ 32) (for
   flow_moved sent least flow h s a l =
       let c : unwrap_or flow.link_credit 0 ≤ 2147483647 = credit_small old sent flow a in
       let b : count_of_flow old flow ≤ℤ sent = a.behind in
-      told_moved old new small narrow flow (record { least = omega (arith, ints); most = omega (arith, ints) })
+      count_moved old new small narrow flow (record { least = omega (arith, ints); most = omega (arith, ints) })
 
   allowed_moved : (flow : LinkFlow) → count_of_flow new flow ≡ count_of_flow old flow -ℤ sdiff new old → limit_of_flow new flow ≡ limit_of_flow old flow -ℤ sdiff new old
   allowed_moved flow e = ap (λ c. c +ℤ pos (unwrap_or flow.link_credit 0)) e ∙ shifted (count_of_flow old flow) (sdiff new old) (unwrap_or flow.link_credit 0)

@@ -27,7 +27,7 @@ use Rattle.amqp_link_credit.specs.CreditCalls.{new_run, GrantsCredit, run_transf
 use Rattle.amqp_link_credit.specs.CreditWorlds.{CreditWorld, under_way, AreAttached, IsCreditWorld}
 use Rattle.amqp_link_credit.specs.Credits.{IsCredit}
 use Rattle.amqp_link_credit.specs.CreditDeliveries.{Part, with_piece, deliveries, part_of, FollowsOn, IsReply, AreComplete}
-use Rattle.amqp_link_credit.proofs.CreditSteps.{credit_new, credit_granted, credit_sent, credit_answered, credit_covers, credit_completed, credit_continued, credit_told}
+use Rattle.amqp_link_credit.proofs.CreditSteps.{credit_new, credit_granted, credit_sent, credit_answered, credit_covers, credit_completed, credit_continued, credit_reported}
 use Rattle.amqp_link_credit.proofs.WayLemmas.{deliveries-next, deliveries-append, whole-append, IsOne, one-whole, one-leads, one_sent, part-received, named-received, IsShort}
 
 -- ---- a new run
@@ -250,7 +250,7 @@ flows old new flow rest k taken e =
     let a = k.attached in (
       record { flow = flow; rest = rest; taken = taken; world = e; same = ap under_way e ∙ sym way },
       subst IsCreditWorld (sym e) (record {
-        credit = credit_told old.sender.flow_state old.receiver.flow_state flow rest old.back old.stated
+        credit = credit_reported old.sender.flow_state old.receiver.flow_state flow rest old.back old.stated
             (subst (λ frames. IsCredit old.sender.flow_state old.receiver.flow_state frames old.back old.stated) taken k.credit) whole.0;
         attached = record { sender_output = a.sender_output; sender_input = a.sender_input; mode = a.mode; room = a.room; receiver_output = a.receiver_output; receiver_state = a.receiver_state };
         whole = whole.1;

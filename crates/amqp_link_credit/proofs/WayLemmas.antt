@@ -220,7 +220,7 @@ part-received (Some held) id f =
     ap (λ tag. (unwrap_or tag [], concat (held.pieces ++ payload_of f ∷ []))) (fields_tag held.performative id f)
     ∙ ap (λ bytes. (unwrap_or held.performative.delivery_tag [], bytes)) (concat-append held.pieces (payload_of f ∷ []) ∙ ap (λ l. held_bytes held ++ l) (append-nil (payload_of f)))
 
--- it says which delivery it is
+-- it carries the id and tag of its delivery
 pub named-received : (h : Option Held) (id : ℕ) (f : LinkFrame) → IfSome h (λ held. HasIdAndTag held.performative) → FollowsOn (is_some h) f → HasIdAndTag (held_after h id f).performative
 named-received None id (FirstTransfer x) named next = record { id = refl; tag = next.tag; mode = next.mode }
 named-received (Some held) id (TransferContinuation x) named next = named

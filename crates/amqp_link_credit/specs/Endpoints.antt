@@ -45,9 +45,9 @@ attach_refusal_by pair.LimitTooSmall = error.LimitTooSmall
 attach_refusal_by _ = error.OutOfMemory
 
 -- a flow that does not ask for a reply
-abbrev pub IsSilentFlow : LinkFrame → Type 0
-IsSilentFlow (Flow flow) = flow.echo ≡ false
-IsSilentFlow _ = ⊥
+abbrev pub IsFlowWithoutEcho : LinkFrame → Type 0
+IsFlowWithoutEcho (Flow flow) = flow.echo ≡ false
+IsFlowWithoutEcho _ = ⊥
 
 -- the receiver's flow state after a flow of the sender
 abbrev pub after_flow : LinkFrame → LinkFlowStateInner → LinkFlowStateInner

@@ -72,7 +72,7 @@ pub trait FromDeliveryState {
 /// A type with a value for each reason why no state of a delivery will be known.
 pub trait FromDeliveryFailure {
     // The value if nobody is left to return the outcome.
-    ghost untold: { Self };
+    ghost unreported: { Self };
 
     // The value if the session has stopped.
     ghost stopped: { Stop → Self };
@@ -82,7 +82,7 @@ pub trait FromDeliveryFailure {
 
     /// The value for a delivery whose outcome nobody is left to return.
     fn from_oneshot_recv_error(error: RecvError) -> Self
-        ensures { result ≡ untold };
+        ensures { result ≡ unreported };
 
     /// The value for a delivery whose session has stopped.
     fn from_session_stop_reason(reason: SessionStopReason) -> Self
@@ -141,7 +141,7 @@ impl FromDeliveryFailure for SendResult {
     ghost use Rattle.amqp_link_delivery.specs.declared.outcome.SendError.TheVariants as error;
     ghost use Rattle.amqp_link_types.specs.declared.types.errors.LinkStateError.TheVariants as failure;
 
-    ghost untold = { Err (error.LinkStateError failure.IllegalState) };
+    ghost unreported = { Err (error.LinkStateError failure.IllegalState) };
 
     ghost stopped = { λ reason. Err (error.LinkStateError (failure.SessionStopped reason)) };
 

@@ -1,5 +1,5 @@
 pub mod EndingLemmas
 pub mod GroupLemmas
 pub mod ListLemmas
-pub mod SaidLemmas
+pub mod DispositionFrameLemmas
 pub mod Worked

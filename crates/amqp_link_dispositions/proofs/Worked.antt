@@ -10,7 +10,7 @@ use Rattle.amqp_link_types.specs.Entries.{Entries}
 use Rattle.amqp_link_dispositions.specs.Listed.{tags_in_order, firsts, kept_in_order}
 use Rattle.amqp_link_dispositions.specs.Ending.{settled_of, ended_of, does_end, all_closed}
 use Rattle.amqp_link_dispositions.specs.Groups.{group_out}
-use Rattle.amqp_link_dispositions.specs.Said.{settles_at_once, is_settled_by, said_of_run, numbers_named_by}
+use Rattle.amqp_link_dispositions.specs.DispositionFrames.{settles_at_once, is_settled_by, disposition_of_run, numbers_named_by}
 use Rattle.amqp_link_dispositions.specs.Keeping.{is_settled_one, after_dispositions}
 
 tags_by_number : tags_in_order ((5, 1 ∷ []) ∷ (3, 2 ∷ []) ∷ (5, 3 ∷ []) ∷ []) ≡ (2 ∷ []) ∷ (1 ∷ []) ∷ (3 ∷ []) ∷ []
@@ -45,7 +45,7 @@ closed_without_error = refl
 group_of_two : group_out (record { run = record { first = 1; last = 2 }; mode = Some Second }) ≡ (1, Some Second) ∷ (2, Some Second) ∷ []
 group_of_two = refl
 
--- as its user says, else by its own mode, else by the link's
+-- as its user passes, else by its own mode, else by the link's
 user_decides : is_settled_by (Some false) First (Some First) ≡ false
 user_decides = refl
 
@@ -59,7 +59,7 @@ mode_first_settles_at_once : settles_at_once First ≡ true
 mode_first_settles_at_once = refl
 
 -- one number stands alone, and names itself
-one_is_named : numbers_named_by (said_of_run true state.Accepted false (record { first = 7; last = 7 })) ≡ 7 ∷ []
+one_is_named : numbers_named_by (disposition_of_run true state.Accepted false (record { first = 7; last = 7 })) ≡ 7 ∷ []
 one_is_named = refl
 
 -- three deliveries of which the first has no mode of its own, and the others are to be settled after

@@ -7,16 +7,16 @@ use Rattle.amqp_link_types.specs.declared.types.definitions.ReceiverSettleMode.{
 use Rattle.amqp_link_types.specs.declared.types.delivery_state.DeliveryState.{DeliveryState}
 use Rattle.amqp_link_types.specs.Deliveries.{Info}
 use Rattle.amqp_link_types.specs.Entries.{Tag, Entries, entry_at, without_entry, without_entries, changed_at}
-use Rattle.amqp_link_dispositions.specs.Said.{is_settled_by, said_of}
+use Rattle.amqp_link_dispositions.specs.DispositionFrames.{is_settled_by, disposition_frame}
 
 abbrev pub is_settled_one : Option Bool → ReceiverSettleMode → Info → Bool
 is_settled_one given own info = is_settled_by given own info.rcv_settle_mode
 
 -- the disposition of one delivery, if it has an entry
-abbrev pub said_of_one : Option Bool → ReceiverSettleMode → DeliveryState → Bool → Info → Entries (Option DeliveryState) → Option LinkFrame
-said_of_one given own state batchable info es =
+abbrev pub disposition_of_one : Option Bool → ReceiverSettleMode → DeliveryState → Bool → Info → Entries (Option DeliveryState) → Option LinkFrame
+disposition_of_one given own state batchable info es =
     if is_some (entry_at es info.delivery_tag)
-    then Some (said_of role.Receiver info.delivery_id None (is_settled_one given own info) state batchable)
+    then Some (disposition_frame role.Receiver info.delivery_id None (is_settled_one given own info) state batchable)
     else None
 
 -- the map after it: a settled delivery is removed, another one has this state

@@ -8,4 +8,4 @@ pub mod Ending
 pub mod Groups
 pub mod Keeping
 pub mod Listed
-pub mod Said
+pub mod DispositionFrames

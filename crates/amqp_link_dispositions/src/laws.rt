@@ -14,12 +14,12 @@ ghost use Rattle.amqp_link_types.specs.Deliveries.{Info};
 ghost use Rattle.amqp_link_types.specs.Entries.{Tag, Entries, entry_at};
 ghost use Rattle.amqp_link_dispositions.specs.Ending.{settled_of};
 ghost use Rattle.amqp_link_dispositions.specs.Listed.{kept_in_order};
-ghost use Rattle.amqp_link_dispositions.specs.Said.{AreSaid, AreSaidAlike, numbers_named_by};
+ghost use Rattle.amqp_link_dispositions.specs.DispositionFrames.{CoverRuns, CoverGroups, numbers_named_by};
 
 /// The ids that a sender's dispositions cover are the listed ones, sorted, each as often as it is listed.
 pub fn frames_name_what_is_listed()
     ensures { (settled : Bool) (state : DeliveryState) (batchable : Bool) (ids : List ℕ) (frames : List LinkFrame)
-        → AreSaid settled state batchable ids frames → flat_map numbers_named_by frames ≡ sorted_by (λ id. id) ids }
+        → CoverRuns settled state batchable ids frames → flat_map numbers_named_by frames ≡ sorted_by (λ id. id) ids }
 {}
 
 /// The ids that a receiver's dispositions cover are those of the listed deliveries that have an entry,
@@ -27,7 +27,7 @@ pub fn frames_name_what_is_listed()
 pub fn frames_name_what_is_kept<V>()
     ensures { (given : Option Bool) (own : ReceiverSettleMode) (state : DeliveryState) (batchable : Bool)
         (es : Entries V) (infos : List Info) (frames : List LinkFrame)
-        → AreSaidAlike given own state batchable (kept_in_order es infos) frames
+        → CoverGroups given own state batchable (kept_in_order es infos) frames
         → flat_map numbers_named_by frames ≡ sorted_by (λ id. id)
         (map (λ info. info.delivery_id) (filter (λ info. is_some (entry_at es info.delivery_tag)) infos)) }
 {}

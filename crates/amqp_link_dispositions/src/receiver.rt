@@ -3,9 +3,9 @@ ghost use Rattle.std.specs.Prelude.{◌≡◌, ◌∷◌, [], false, not, filter
 ghost use Rattle.amqp_link_types.specs.Entries.{entry_at};
 ghost use Rattle.amqp_link_dispositions.specs.Changes.{StateChange};
 ghost use Rattle.amqp_link_dispositions.specs.Keeping.{is_settled_one, tags_of, after_dispositions};
-ghost use Rattle.amqp_link_dispositions.specs.Keeping.{said_of_one, after_one, map_after_sender_disposition};
+ghost use Rattle.amqp_link_dispositions.specs.Keeping.{disposition_of_one, after_one, map_after_sender_disposition};
 ghost use Rattle.amqp_link_dispositions.specs.Listed.{kept_in_order as kept_by_number};
-ghost use Rattle.amqp_link_dispositions.specs.Said.{AreSaidAlike, is_settled_by, said_of, said_of_group};
+ghost use Rattle.amqp_link_dispositions.specs.DispositionFrames.{CoverGroups, is_settled_by, disposition_frame, disposition_of_group};
 ghost use Rattle.amqp_link_types.specs.declared.types.definitions.Role.TheVariants as role;
 
 use crate::changes::{changes_to, remove_all, set_each};
@@ -51,7 +51,7 @@ impl Settling {
         mode: Option<ReceiverSettleMode>,
         state: DeliveryState,
     ) -> LinkFrame
-        ensures { result ≡ said_of role.Receiver first last (is_settled_by self.given self.own mode) state self.batchable }
+        ensures { result ≡ disposition_frame role.Receiver first last (is_settled_by self.given self.own mode) state self.batchable }
     {
         LinkFrame::Disposition(Disposition {
             role: Role::Receiver,
@@ -70,7 +70,7 @@ impl Settling {
         groups: &[Group],
         state: &DeliveryState,
     ) -> Result<Vec<LinkFrame>, AllocError>
-        ensures { IfOk result (λ frames. frames.items ≡ map (said_of_group self.given self.own state.now self.batchable) groups.now) }
+        ensures { IfOk result (λ frames. frames.items ≡ map (disposition_of_group self.given self.own state.now self.batchable) groups.now) }
     {
         let mut frames = Vec::with_capacity(alloc, groups.len())?;
         for group in groups {
@@ -135,7 +135,7 @@ pub fn dispose(
     state: DeliveryState,
 ) -> Result<Option<LinkFrame>, AllocError>
     ensures frame { IfOk result (λ frame.
-        frame ≡ said_of_one how.given how.own state how.batchable info.now unsettled.old) }
+        frame ≡ disposition_of_one how.given how.own state how.batchable info.now unsettled.old) }
     ensures after { OnOk result (unsettled.new ≡ after_one (is_settled_one how.given how.own info.now) state
         info.now.delivery_tag unsettled.old) }
     ensures kept_on { OnErr result (is_settled_one how.given how.own info.now ≡ false) }
@@ -172,7 +172,7 @@ pub fn dispose_all(
     how: Settling,
     state: DeliveryState,
 ) -> Result<Vec<LinkFrame>, AllocError>
-    ensures frames { IfOk result (λ frames. AreSaidAlike how.given how.own state how.batchable
+    ensures frames { IfOk result (λ frames. CoverGroups how.given how.own state how.batchable
         (kept_by_number unsettled.old infos.now) frames.items) }
     ensures after { OnOk result (unsettled.new ≡ after_dispositions (is_settled_one how.given how.own) state
         (kept_by_number unsettled.old infos.now) unsettled.old) }
@@ -206,7 +206,7 @@ fn planned<'a>(
     how: Settling,
     state: &DeliveryState,
 ) -> Result<Plan<'a>, AllocError>
-    ensures frames { IfOk result (λ plan. AreSaidAlike how.given how.own state.now how.batchable
+    ensures frames { IfOk result (λ plan. CoverGroups how.given how.own state.now how.batchable
         (kept_by_number unsettled.now infos.now) plan.frames.items) }
     ensures settled { IfOk result (λ plan. map (λ tag. tag.now) plan.settled.items
         ≡ tags_of (filter (is_settled_one how.given how.own) (kept_by_number unsettled.now infos.now))) }

@@ -3,7 +3,7 @@ ghost use Rattle.std.specs.Prelude.{◌≡◌, ◌∷◌, [], List, ℕ, false, 
 ghost use Rattle.amqp_link_runs.specs.Order.{sorted_by};
 ghost use Rattle.amqp_link_dispositions.specs.Listed.{tags_in_order};
 ghost use Rattle.amqp_link_dispositions.specs.Ending.{ended_of, disposed, ended_by, map_after_receiver_disposition};
-ghost use Rattle.amqp_link_dispositions.specs.Said.{AreSaid, said_of_run};
+ghost use Rattle.amqp_link_dispositions.specs.DispositionFrames.{CoverRuns, disposition_of_run};
 
 use crate::changes::{changes_to, set_each, settle_all};
 use crate::listed::elements_of;
@@ -17,7 +17,7 @@ use amqp_link_types::types::{
 use std::alloc::{AllocError, Global};
 
 fn frame_of(run: Run, settled: bool, state: DeliveryState, batchable: bool) -> LinkFrame
-    ensures { result ≡ said_of_run settled state batchable run }
+    ensures { result ≡ disposition_of_run settled state batchable run }
 {
     let last = if run.first == run.last {
         None
@@ -42,7 +42,7 @@ fn frames_of_runs(
     state: &DeliveryState,
     batchable: bool,
 ) -> Result<Vec<LinkFrame>, AllocError>
-    ensures { IfOk result (λ frames. frames.items ≡ map (said_of_run settled state.now batchable) runs.now) }
+    ensures { IfOk result (λ frames. frames.items ≡ map (disposition_of_run settled state.now batchable) runs.now) }
 {
     let mut frames = Vec::with_capacity(alloc, runs.len())?;
     for run in runs {
@@ -60,7 +60,7 @@ fn frames_of(
     batchable: bool,
 ) -> Result<Vec<LinkFrame>, AllocError>
     ensures { IfOk result (λ frames. (listed : List ℕ) → sorted_by (λ id. id) listed ≡ ids.now
-        → AreSaid settled state.now batchable listed frames.items) }
+        → CoverRuns settled state.now batchable listed frames.items) }
 {
     let runs = runs_of(alloc, ids)?;
     frames_of_runs(alloc, runs.as_slice(), settled, state, batchable)
@@ -96,9 +96,9 @@ fn dispose_sorted(
     state: DeliveryState,
     batchable: bool,
 ) -> Result<(Vec<LinkFrame>, Outcomes), AllocError>
-    ensures frames { IfOk result (λ said. (listed : List ℕ) → sorted_by (λ id. id) listed ≡ ids.now
-        → AreSaid settled state batchable listed said.0.items) }
-    ensures outcomes { IfOk result (λ said. said.1.items
+    ensures frames { IfOk result (λ answer. (listed : List ℕ) → sorted_by (λ id. id) listed ≡ ids.now
+        → CoverRuns settled state batchable listed answer.0.items) }
+    ensures outcomes { IfOk result (λ answer. answer.1.items
         ≡ ended_of settled (map (λ tag. tag.now) tags.now) unsettled.old) }
     ensures after { OnOk result (unsettled.new
         ≡ disposed settled state (map (λ tag. tag.now) tags.now) unsettled.old) }
@@ -131,7 +131,7 @@ fn frame_of_one(
     state: DeliveryState,
     batchable: bool,
 ) -> Result<Vec<LinkFrame>, AllocError>
-    ensures { IfOk result (λ frames. AreSaid settled state batchable (id ∷ []) frames.items) }
+    ensures { IfOk result (λ frames. CoverRuns settled state batchable (id ∷ []) frames.items) }
 {
     let mut frames = match Vec::with_capacity(alloc, 1) {
         Ok(frames) => frames,
@@ -157,9 +157,9 @@ fn state_of_one(
     state: DeliveryState,
     batchable: bool,
 ) -> Result<(Vec<LinkFrame>, Outcomes), AllocError>
-    ensures frames { IfOk result (λ said.
-        AreSaid false state batchable (delivery_id ∷ []) said.0.items) }
-    ensures outcomes { IfOk result (λ said. said.1.items ≡ []) }
+    ensures frames { IfOk result (λ answer.
+        CoverRuns false state batchable (delivery_id ∷ []) answer.0.items) }
+    ensures outcomes { IfOk result (λ answer. answer.1.items ≡ []) }
     ensures after { OnOk result (unsettled.new
         ≡ disposed false state (delivery_tag.now ∷ []) unsettled.old) }
     ensures left { OnErr result (unsettled.new ≡ unsettled.old) }
@@ -197,9 +197,9 @@ pub fn dispose(
     state: DeliveryState,
     batchable: bool,
 ) -> Result<(Vec<LinkFrame>, Outcomes), AllocError>
-    ensures frames { IfOk result (λ said.
-        AreSaid settled state batchable (delivery_id ∷ []) said.0.items) }
-    ensures outcomes { IfOk result (λ said. said.1.items
+    ensures frames { IfOk result (λ answer.
+        CoverRuns settled state batchable (delivery_id ∷ []) answer.0.items) }
+    ensures outcomes { IfOk result (λ answer. answer.1.items
         ≡ ended_of settled (delivery_tag.now ∷ []) unsettled.old) }
     ensures after { OnOk result (unsettled.new
         ≡ disposed settled state (delivery_tag.now ∷ []) unsettled.old) }
@@ -242,9 +242,9 @@ pub fn batch_dispose(
     state: DeliveryState,
     batchable: bool,
 ) -> Result<(Vec<LinkFrame>, Outcomes), AllocError>
-    ensures frames { IfOk result (λ said.
-        AreSaid settled state batchable (map (λ pair. pair.0) listed.now) said.0.items) }
-    ensures outcomes { IfOk result (λ said. said.1.items
+    ensures frames { IfOk result (λ answer.
+        CoverRuns settled state batchable (map (λ pair. pair.0) listed.now) answer.0.items) }
+    ensures outcomes { IfOk result (λ answer. answer.1.items
         ≡ ended_of settled (tags_in_order listed.now) unsettled.old) }
     ensures after { OnOk result (unsettled.new
         ≡ disposed settled state (tags_in_order listed.now) unsettled.old) }

@@ -19,29 +19,29 @@ fn error(rt: &(impl Abort + AllocGlobal)) -> Error {
 }
 
 // The fields of a disposition: the first and the last id, and whether it settles.
-type Said = Option<(u32, Option<u32>, bool)>;
+type DispositionFields = Option<(u32, Option<u32>, bool)>;
 
-fn said(frame: Option<&LinkFrame>) -> Said {
+fn fields(frame: Option<&LinkFrame>) -> DispositionFields {
     match frame {
-        Some(LinkFrame::Disposition(said)) => Some((said.first, said.last, said.settled)),
+        Some(LinkFrame::Disposition(fields)) => Some((fields.first, fields.last, fields.settled)),
         _ => None,
     }
 }
 
 // How many frames there are, and the fields of the first four.
-fn all_said(frames: &[LinkFrame]) -> (usize, [Said; 4]) {
-    let said = [
-        said(frames.first()),
-        said(frames.get(1)),
-        said(frames.get(2)),
-        said(frames.get(3)),
+fn all_fields(frames: &[LinkFrame]) -> (usize, [DispositionFields; 4]) {
+    let fields = [
+        fields(frames.first()),
+        fields(frames.get(1)),
+        fields(frames.get(2)),
+        fields(frames.get(3)),
     ];
-    (frames.len(), said)
+    (frames.len(), fields)
 }
 
 // What is known of a delivery, or its outcome.
 #[derive(Clone, Copy, Debug, PartialEq, Eq)]
-enum Told {
+enum Shown {
     Absent,
     NoState,
     Accepted,
@@ -52,27 +52,27 @@ enum Told {
     Other,
 }
 
-fn told_by_state(state: &Option<DeliveryState>) -> Told {
+fn shown_by_state(state: &Option<DeliveryState>) -> Shown {
     match state {
-        None => Told::NoState,
-        Some(DeliveryState::Accepted) => Told::Accepted,
-        Some(DeliveryState::Released) => Told::Released,
+        None => Shown::NoState,
+        Some(DeliveryState::Accepted) => Shown::Accepted,
+        Some(DeliveryState::Released) => Shown::Released,
         Some(
             DeliveryState::Received {
                 section_number,
                 section_offset,
             },
-        ) => Told::Received(*section_number, *section_offset),
-        _ => Told::Other,
+        ) => Shown::Received(*section_number, *section_offset),
+        _ => Shown::Other,
     }
 }
 
-fn told_by(outcome: Option<&(DeliveryTag, DeliveryOutcome)>) -> Told {
+fn shown_by(outcome: Option<&(DeliveryTag, DeliveryOutcome)>) -> Shown {
     match outcome {
-        None => Told::Absent,
-        Some((_, Ok(state))) => told_by_state(state),
-        Some((_, Err(LinkStateError::RemoteClosed))) => Told::RemoteClosed,
-        Some((_, Err(LinkStateError::RemoteClosedWithError(_)))) => Told::RemoteClosedWithError,
-        _ => Told::Other,
+        None => Shown::Absent,
+        Some((_, Ok(state))) => shown_by_state(state),
+        Some((_, Err(LinkStateError::RemoteClosed))) => Shown::RemoteClosed,
+        Some((_, Err(LinkStateError::RemoteClosedWithError(_)))) => Shown::RemoteClosedWithError,
+        _ => Shown::Other,
     }
 }

@@ -150,12 +150,12 @@ fn either_end_is_cut(rt: HostRuntime) {
     let mode = SenderSettleMode::Mixed;
     let sender = SenderLink::new(rt.alloc(), parts(&rt, mode, 512));
     let mut sender = sender.with_output_handle(OutputHandle(0));
-    let told = attached_and_cut(&rt, &mut sender, Role::Receiver);
-    assert_eq!(rt; told, (true, LinkState::Detached));
+    let actual = attached_and_cut(&rt, &mut sender, Role::Receiver);
+    assert_eq!(rt; actual, (true, LinkState::Detached));
     let receiver = ReceiverLink::new(rt.alloc(), parts(&rt, mode, 512));
     let mut receiver = receiver.with_output_handle(OutputHandle(0));
-    let told = attached_and_cut(&rt, &mut receiver, Role::Sender);
-    assert_eq!(rt; told, (true, LinkState::Detached));
+    let actual = attached_and_cut(&rt, &mut receiver, Role::Sender);
+    assert_eq!(rt; actual, (true, LinkState::Detached));
 }
 
 #[test]
@@ -163,10 +163,10 @@ fn either_end_is_attached_anew(rt: HostRuntime) {
     let mode = SenderSettleMode::Mixed;
     let sender = SenderLink::new(rt.alloc(), parts(&rt, mode, 512));
     let mut sender = sender.with_output_handle(OutputHandle(0));
-    let told = attached_anew(&rt, &mut sender, Role::Receiver);
-    assert_eq!(rt; told, (true, LinkState::AttachSent));
+    let actual = attached_anew(&rt, &mut sender, Role::Receiver);
+    assert_eq!(rt; actual, (true, LinkState::AttachSent));
     let receiver = ReceiverLink::new(rt.alloc(), parts(&rt, mode, 512));
     let mut receiver = receiver.with_output_handle(OutputHandle(0));
-    let told = attached_anew(&rt, &mut receiver, Role::Sender);
-    assert_eq!(rt; told, (true, LinkState::AttachSent));
+    let actual = attached_anew(&rt, &mut receiver, Role::Sender);
+    assert_eq!(rt; actual, (true, LinkState::AttachSent));
 }

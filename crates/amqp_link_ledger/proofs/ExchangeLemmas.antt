@@ -219,7 +219,7 @@ module _ {T : Type 0} (admitted : TargetArchetype → Option T) (refused : T →
 -- ---- an attach that is taken as it was planned
 
 module _ {T : Type 0} (admitted : TargetArchetype → Option T) (before now : Ledger T) (attach : Attach) (plan : AttachPlan T) (follows : SenderAttachExchange) (outcomes : List Ended) where
-  -- what follows is told by the state in the plan, which is that of the ledger afterwards
+  -- what follows depends on the state in the plan, which is that of the ledger afterwards
   pub taken_by_plan : IsAttachPlan admitted before.link attach plan → now ≡ ledger_taken admitted before attach
       → follows ≡ exchange_in plan.next before.link.unsettled (remote_entries attach) → outcomes ≡ outcomes_returned before.link.unsettled (remote_entries attach)
       → (now ≡ ledger_taken admitted before attach) × ((follows ≡ exchange_in now.link.local_state before.link.unsettled (remote_entries attach))

@@ -19,7 +19,7 @@ pub by_test : {A : Type 0} (b : Bool) → (b ≡ true → A) → (b ≡ false �
 by_test true here there = here refl
 by_test false here there = there refl
 
--- what a test of tags says
+-- what follows from a test of tags
 pub tag_is : (tag other : Tag) → bytes_eq tag other ≡ true → tag ≡ other
 tag_is tag other h = (bytes_eq-Decides tag other).0 h
 

@@ -1,4 +1,4 @@
--- What the index of the numbers tells of the records, and what keeps it.
+-- What the index of the numbers shows of the records, and what keeps it.
 use Rattle.std.proofs.Common.{◌≡◌, ◌∙◌, sym, ap, true, false, cond, [], ◌∷◌, refl, ℕ, ◌<◌, length, length-append, Option, Some, None, is_some, slice_get, slice_set, arith, if◌then◌else◌}
 use native.Mathlib.Decide.{ℕ_discrete, dec_lt}
 use Rattle.std.specs.Prelude.{bytes_eq}
@@ -12,7 +12,7 @@ use Rattle.amqp_link_ledger.proofs.FateLemmas.{IsPendingAt, IsNowhere, untouched
 use Rattle.amqp_link_ledger.proofs.CountLemmas.{count-nowhere, count-pending_at}
 
 module _ (records : Records) (numbers : Entries ℕ) (h : IsNumbered records numbers) where
-  -- ---- what it tells
+  -- ---- what it shows
 
   pub pending_at : (tag : Tag) (n : ℕ) → entry_at numbers tag ≡ Some n → IsPendingAt tag records n
   pending_at tag n e = (

@@ -20,7 +20,7 @@ use Rattle.amqp_link_sender.specs.declared.sender_link.Sending.TheVariants as se
 use Rattle.amqp_link_sender.specs.declared.sender_link.Waiting.{Waiting}
 use Rattle.amqp_link_sender.specs.declared.sender_link.Waiting.TheVariants as waiting
 use Rattle.amqp_link_sender.specs.Senders.{Sender, Delivery, refused, missing_credit, new_transfer, next_tag, new_entry, settled_by_mode, settled_on_send, is_pending, settlement_of, payload_tests, tagged_transfer_tests, SendsPayload, SendsTransfer}
-use Rattle.amqp_link_sender.specs.Waits.{waiting_error, after_waiting, let_go}
+use Rattle.amqp_link_sender.specs.Waits.{waiting_error, after_waiting, handle_released}
 use Rattle.amqp_link_ledger.specs.Fates.{Records, IsRecorded}
 use Rattle.amqp_link_ledger.specs.Sends.{after_settlement}
 use Rattle.amqp_link_ledger.proofs.ListSteps.{false_true}
@@ -55,25 +55,25 @@ is_no_error x e h = cc
 
 -- ---- the records by the settlement of a delivery
 
-recorded_from : (tag : Tag) (b : Bool) (told : Settlement) (m left : Entries UnsettledMessage) (records : Records) (entry : UnsettledMessage) → told ≡ settlement_of b tag
-    → left ≡ (if b then m else with_entry m tag entry) → IsRecorded m records → (b ≡ false → is_some (entry_at m tag) ≡ false) → IsRecorded left (after_settlement told records)
-recorded_from tag true told m left records entry is put h free =
-    subst (λ l. IsRecorded l (after_settlement told records)) (sym put) (subst (λ t. IsRecorded m (after_settlement t records)) (sym is) h)
-recorded_from tag false told m left records entry is put h free =
-    subst (λ l. IsRecorded l (after_settlement told records)) (sym put)
+recorded_from : (tag : Tag) (b : Bool) (settlement : Settlement) (m left : Entries UnsettledMessage) (records : Records) (entry : UnsettledMessage) → settlement ≡ settlement_of b tag
+    → left ≡ (if b then m else with_entry m tag entry) → IsRecorded m records → (b ≡ false → is_some (entry_at m tag) ≡ false) → IsRecorded left (after_settlement settlement records)
+recorded_from tag true settlement m left records entry is put h free =
+    subst (λ l. IsRecorded l (after_settlement settlement records)) (sym put) (subst (λ t. IsRecorded m (after_settlement t records)) (sym is) h)
+recorded_from tag false settlement m left records entry is put h free =
+    subst (λ l. IsRecorded l (after_settlement settlement records)) (sym put)
     (subst (λ t. IsRecorded (with_entry m tag entry) (after_settlement t records)) (sym is) (IsRecorded-enters m records tag entry h (none_from (entry_at m tag) (free refl))))
 
 module _ {T : Type 0} (s : Sender T) where
   -- ---- a payload
 
-  module _ (d : Delivery) (payload : List ℕ) (told : Settlement) (frames : Vec LinkFrame Global) (new : Sender T) where
+  module _ (d : Delivery) (payload : List ℕ) (settlement : Settlement) (frames : Vec LinkFrame Global) (new : Sender T) where
     Sent : Option OutputHandle → Type 0
-    Sent o = IsSomeAnd o (λ handle. SendsPayload s handle d payload told frames.items new)
+    Sent o = IsSomeAnd o (λ handle. SendsPayload s handle d payload settlement frames.items new)
 
-    told_is : (o : Option OutputHandle) → Sent o → told ≡ settlement_of (settled_by_mode s.snd_settle_mode d.settled) (next_tag s)
+    settlement_is : (o : Option OutputHandle) → Sent o → settlement ≡ settlement_of (settled_by_mode s.snd_settle_mode d.settled) (next_tag s)
     unfolding Sent
-    told_is None h = absurd h
-    told_is (Some handle) h = h.answered
+    settlement_is None h = absurd h
+    settlement_is (Some handle) h = h.answered
 
     put_is : (o : Option OutputHandle) → Sent o
         → new.unsettled ≡ (if settled_by_mode s.snd_settle_mode d.settled then s.unsettled else with_entry s.unsettled (next_tag s) (new_entry d.message_format payload))
@@ -82,38 +82,38 @@ module _ {T : Type 0} (s : Sender T) where
     put_is (Some handle) h = ap (λ (x : Sender T). x.unsettled) h.world
 
     -- nothing waits, and no test holds
-    no_test : (w : Waiting) → MatchOption (waiting_error s.local_state w) (refusal (payload_tests s d payload) ≡ None) (λ e. done (sending.Sent told frames) ≡ Err e)
+    no_test : (w : Waiting) → MatchOption (waiting_error s.local_state w) (refusal (payload_tests s d payload) ≡ None) (λ e. done (sending.Sent settlement frames) ≡ Err e)
         → refusal (payload_tests s d payload) ≡ None
     no_test waiting.Nothing h = h
-    no_test (waiting.Frame f) h = absurd (is_no_error (sending.Sent told frames) _ h)
-    no_test (waiting.Stopped reason) h = absurd (is_no_error (sending.Sent told frames) _ h)
+    no_test (waiting.Frame f) h = absurd (is_no_error (sending.Sent settlement frames) _ h)
+    no_test (waiting.Stopped reason) h = absurd (is_no_error (sending.Sent settlement frames) _ h)
 
-    pub recorded-payload : IsSomeAnd s.output_handle (λ handle. SendsPayload s handle d payload told frames.items new)
-        → (w : Waiting) → MatchOption (waiting_error s.local_state w) (refusal (payload_tests s d payload) ≡ None) (λ e. done (sending.Sent told frames) ≡ Err e)
-        → (records : Records) → IsRecorded s.unsettled records → IsRecorded new.unsettled (after_settlement told records)
+    pub recorded-payload : IsSomeAnd s.output_handle (λ handle. SendsPayload s handle d payload settlement frames.items new)
+        → (w : Waiting) → MatchOption (waiting_error s.local_state w) (refusal (payload_tests s d payload) ≡ None) (λ e. done (sending.Sent settlement frames) ≡ Err e)
+        → (records : Records) → IsRecorded s.unsettled records → IsRecorded new.unsettled (after_settlement settlement records)
     unfolding Sent
     recorded-payload sent w answer records recorded =
-        recorded_from (next_tag s) (settled_by_mode s.snd_settle_mode d.settled) told s.unsettled new.unsettled records (new_entry d.message_format payload)
-        (told_is s.output_handle sent) (put_is s.output_handle sent) recorded
+        recorded_from (next_tag s) (settled_by_mode s.snd_settle_mode d.settled) settlement s.unsettled new.unsettled records (new_entry d.message_format payload)
+        (settlement_is s.output_handle sent) (put_is s.output_handle sent) recorded
         (if_unsettled (settled_by_mode s.snd_settle_mode d.settled) (is_pending s (next_tag s))
         (fourth_fails (is_none s.output_handle) (is_none s.input_handle) (s.flow_state.link_credit == 0) (not (settled_by_mode s.snd_settle_mode d.settled) && is_pending s (next_tag s))
         (refused error.IllegalState) (refused error.IllegalState) missing_credit (refused error.TagPending)
         ((not (has_room (new_transfer s (unwrap_or s.output_handle (record { 0 = 0 })) (next_tag s) d) s.max_frame_size payload), refused error.NoRoom) ∷ []) (no_test w answer)))
 
   -- what waits leaves the unsettled deliveries
-  let_go-unsettled : (o : Option LinkState) → (let_go o s).unsettled ≡ s.unsettled
-  let_go-unsettled None = refl
-  let_go-unsettled (Some next) = refl
+  released-unsettled : (o : Option LinkState) → (handle_released o s).unsettled ≡ s.unsettled
+  released-unsettled None = refl
+  released-unsettled (Some next) = refl
 
   pub unsettled-waiting : (w : Waiting) → (after_waiting s w).unsettled ≡ s.unsettled
   unsettled-waiting waiting.Nothing = refl
-  unsettled-waiting (waiting.Frame (frame.Detach detach)) = let_go-unsettled (next_state Call.RemoteDetach detach.closed s.local_state)
+  unsettled-waiting (waiting.Frame (frame.Detach detach)) = released-unsettled (next_state Call.RemoteDetach detach.closed s.local_state)
   unsettled-waiting (waiting.Frame _) = refl
   unsettled-waiting (waiting.Stopped reason) = refl
 
   -- ---- a transfer that names its delivery
 
-  module _ (t : Transfer) (payload : List ℕ) (format : ℕ) (told : Settlement) (frames : List LinkFrame) (new : Sender T) (none : refusal (tagged_transfer_tests s t payload) ≡ None) where
+  module _ (t : Transfer) (payload : List ℕ) (format : ℕ) (settlement : Settlement) (frames : List LinkFrame) (new : Sender T) (none : refusal (tagged_transfer_tests s t payload) ≡ None) where
     free_named : (tag : Tag) → t.delivery_tag ≡ Some tag → settled_on_send s t ≡ false → is_pending s tag ≡ false
     free_named tag names is =
         sym (ap (λ o. option_map_or (is_pending s) o false) names)
@@ -121,10 +121,10 @@ module _ {T : Type 0} (s : Sender T) where
         (third_fails (is_none t.delivery_tag) (is_none s.input_handle) (not (settled_on_send s t) && option_map_or (is_pending s) t.delivery_tag false)
         error.IllegalState error.IllegalState error.TagPending ((not (has_room t s.max_frame_size payload), error.NoRoom) ∷ []) none) is
 
-    pub recorded-transfer : IsSomeAnd t.delivery_tag (λ tag. SendsTransfer s format t tag payload told frames new) → (records : Records) → IsRecorded s.unsettled records → IsRecorded new.unsettled (after_settlement told records)
+    pub recorded-transfer : IsSomeAnd t.delivery_tag (λ tag. SendsTransfer s format t tag payload settlement frames new) → (records : Records) → IsRecorded s.unsettled records → IsRecorded new.unsettled (after_settlement settlement records)
     recorded-transfer sent records recorded = by t.delivery_tag refl sent
       where
-        by : (o : Option Tag) → t.delivery_tag ≡ o → IsSomeAnd o (λ tag. SendsTransfer s format t tag payload told frames new) → IsRecorded new.unsettled (after_settlement told records)
+        by : (o : Option Tag) → t.delivery_tag ≡ o → IsSomeAnd o (λ tag. SendsTransfer s format t tag payload settlement frames new) → IsRecorded new.unsettled (after_settlement settlement records)
         by None names h = absurd h
         by (Some tag) names h =
-            recorded_from tag (settled_on_send s t) told s.unsettled new.unsettled records (new_entry format payload) h.answered (ap (λ (x : Sender T). x.unsettled) h.world) recorded (free_named tag names)
+            recorded_from tag (settled_on_send s t) settlement s.unsettled new.unsettled records (new_entry format payload) h.answered (ap (λ (x : Sender T). x.unsettled) h.world) recorded (free_named tag names)

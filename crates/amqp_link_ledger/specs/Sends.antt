@@ -20,7 +20,7 @@ after_settlement (settlement.Settled tag) records = records
 after_settlement (settlement.Unsettled tag) records = after (Enters tag) records
 
 abbrev pub records_after_sending : Sending → Records → Records
-records_after_sending (sending.Sent told frames) records = after_settlement told records
+records_after_sending (sending.Sent settlement frames) records = after_settlement settlement records
 records_after_sending sending.CreditMissing records = records
 
 -- ---- whether a send needs room for a registration

@@ -138,7 +138,7 @@ fn closed_for_a_failed_attach_resolves_nothing(rt: HostRuntime) {
     let mut ledger = three_sent(&rt, SenderSettleMode::Mixed);
     let answer = ledger.handle_attach_error(SenderAttachError::CoordinatorIsNotImplemented);
     let (error, action) = answer.expect(&rt, "memory");
-    let told = (at_sender(&error), asked_by(&action));
+    let actual = (at_sender(&error), asked_by(&action));
     drop((error, action));
     assert_eq!(rt; *ledger.local_state(), LinkState::CloseSent);
     assert_pending(&rt, &ledger);
@@ -147,7 +147,7 @@ fn closed_for_a_failed_attach_resolves_nothing(rt: HostRuntime) {
         Refusal::CoordinatorIsNotImplemented,
         Asked::CloseAsNotImplemented,
     );
-    assert_eq!(rt; told, wanted);
+    assert_eq!(rt; actual, wanted);
 }
 
 // A detach that the peer initiates, and that closes, resolves all; the reply closes as well.

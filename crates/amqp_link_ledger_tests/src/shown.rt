@@ -3,7 +3,7 @@ use crate::ledgers::{assert_fates, attached, new_ledger, three_sent};
 use crate::samples::fields;
 use amqp_link_core::endpoint::LinkExt;
 use amqp_link_ledger::fate::Fate;
-use amqp_link_tests_support::links::{FlowTold, told_back};
+use amqp_link_tests_support::links::{FlowFields, reply_fields};
 use amqp_link_types::types::{
     InputHandle, LinkFlow, LinkRelayError, OutputHandle, ReceiverSettleMode, SenderSettleMode,
 };
@@ -51,7 +51,7 @@ fn flow_is_answered(rt: HostRuntime) {
         echo: true,
         ..LinkFlow::default()
     };
-    let wanted = FlowTold {
+    let wanted = FlowFields {
         handle: 0,
         count: Some(3),
         credit: Some(8),
@@ -59,12 +59,12 @@ fn flow_is_answered(rt: HostRuntime) {
         drain: false,
         echo: false,
     };
-    let answer = told_back(ledger.on_incoming_flow(flow));
+    let answer = reply_fields(ledger.on_incoming_flow(flow));
     assert_eq!(rt; answer, Ok(Some(wanted)));
     assert_eq!(rt; ledger.flow_state().link_credit(), 8);
     assert_fates(&rt, &ledger, &[Fate::Pending, Fate::Pending, Fate::Pending]);
     *ledger.output_handle_mut() = None;
-    let answer = told_back(ledger.on_incoming_flow(LinkFlow::default()));
+    let answer = reply_fields(ledger.on_incoming_flow(LinkFlow::default()));
     assert_eq!(rt; answer, Err(LinkRelayError::UnattachedHandle));
     assert_fates(&rt, &ledger, &[Fate::Pending, Fate::Pending, Fate::Pending]);
     drop(ledger);

@@ -19,12 +19,12 @@ use Rattle.amqp_link_worlds.specs.Worlds.{World, is_together, receiver_entry}
 use Rattle.amqp_link_worlds.specs.declared.progress.Progress.{Progress}
 use Rattle.amqp_link_worlds.proofs.WorldLemmas.{IsWorld-receives}
 use Rattle.amqp_link_pair.specs.Keeping.{IsReceived, kept_after, progress_of}
-use Rattle.amqp_link_pair.specs.Queues.{first_lent}
+use Rattle.amqp_link_pair.specs.Queues.{first_element}
 use Rattle.amqp_link_pair.specs.declared.deliveries.Kept.{Kept}
 use Rattle.amqp_link_pair.proofs.ProgressLemmas.{known_at, progress_at, progress_in, progress_of-put}
 
 -- a list that has a first item
-pub first_and_rest : {A : Type 0} (xs : List A) (x : A) → first_lent xs ≡ Some x → xs ≡ x ∷ drop 1 xs
+pub first_and_rest : {A : Type 0} (xs : List A) (x : A) → first_element xs ≡ Some x → xs ≡ x ∷ drop 1 xs
 first_and_rest [] x h = absurd (cc)
 first_and_rest (y ∷ xs) x h = let is : y ≡ x = cc in ap (λ z. z ∷ xs) is
 

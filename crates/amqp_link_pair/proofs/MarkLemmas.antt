@@ -1,4 +1,4 @@
--- What a pair keeps of each pending delivery tells, after each call, whether transfers of it are under way.
+-- What a pair keeps of each pending delivery shows, after each call, whether transfers of it are under way.
 use Rattle.std.proofs.Common.{◌≡◌, ◌∙◌, sym, ap, subst, refl, Bool, true, false, not, ◌&&◌, ℕ, ◌<◌, List, [], ◌∷◌, ◌++◌, length, None, Some, Option, arith}
 use Rattle.std.specs.Prelude.{is_some, IsSome, IfSome}
 use Rattle.amqp_link_types.specs.Entries.{Tag, Entries, IsMap, entry_at, with_entry, without_entry}

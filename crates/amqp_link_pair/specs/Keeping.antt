@@ -6,7 +6,7 @@ use Rattle.amqp_link_types.specs.Frames.{payload_of, performative_of}
 use Rattle.amqp_link_types.specs.declared.frame.LinkFrame.{LinkFrame}
 use Rattle.amqp_link_types.specs.declared.types.terminus.Target.{Target}
 use Rattle.amqp_link_receiver.specs.Receivers.{Receiver}
-use Rattle.amqp_link_worlds.specs.Steps.{begun, received}
+use Rattle.amqp_link_worlds.specs.Steps.{initial_progress, received}
 use Rattle.amqp_link_worlds.specs.Worlds.{bytes_in, received_at}
 use Rattle.amqp_link_worlds.specs.declared.progress.Progress.{Progress}
 use Rattle.amqp_link_pair.specs.declared.deliveries.Kept.{Kept}
@@ -17,7 +17,7 @@ progress_of kept = map (λ e. (e.0, e.1.progress)) kept
 
 -- a delivery that was just sent
 abbrev pub just_sent : Kept
-just_sent = record { progress = begun; is_under_way = true }
+just_sent = record { progress = initial_progress; is_under_way = true }
 
 -- its entry was put back unsent, or its transfers are under way
 abbrev pub marked : Bool → Kept → Kept

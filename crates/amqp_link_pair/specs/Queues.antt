@@ -12,9 +12,9 @@ use Rattle.amqp_link_worlds.specs.Wires.{OnWire}
 use Rattle.amqp_link_pair.specs.declared.sending.Resumption.{Resumption}
 
 -- a reference to the first of a list, if there is one
-abbrev pub first_lent : {A : Type 0} → List A → Option A
-first_lent [] = None
-first_lent (x ∷ xs) = Some x
+abbrev pub first_element : {A : Type 0} → List A → Option A
+first_element [] = None
+first_element (x ∷ xs) = Some x
 
 -- a wire: the transfers under way, and for how many more deliveries there is room
 pub record WireAndRoom : Type 0 where
@@ -22,8 +22,8 @@ pub record WireAndRoom : Type 0 where
   pub room : ℕ
 
 -- a transfer to which there are references
-abbrev pub lent_on_wire : Bor Tag × Bor LinkFrame → OnWire
-lent_on_wire p = record { tag = p.0.now; frame = p.1.now }
+abbrev pub on_wire_of : Bor Tag × Bor LinkFrame → OnWire
+on_wire_of p = record { tag = p.0.now; frame = p.1.now }
 
 -- a list to resume, and for how many more there is room
 pub record ListAndRoom : Type 0 where
@@ -31,8 +31,8 @@ pub record ListAndRoom : Type 0 where
   pub room : ℕ
 
 -- a delivery of the list to which there are references
-abbrev pub lent_to_resume : Bor Tag × Bor ResumingDelivery → Tag × ResumingDelivery
-lent_to_resume p = (p.0.now, p.1.now)
+abbrev pub tag_and_delivery : Bor Tag × Bor ResumingDelivery → Tag × ResumingDelivery
+tag_and_delivery p = (p.0.now, p.1.now)
 
 -- the delivery with this entry, which is resumed with a rest, or sent again without one
 abbrev pub resuming_of : UnsettledMessage → Option (List ℕ) → ResumingDelivery

@@ -3,7 +3,7 @@ ghost use Rattle.std.specs.Prelude.{◌≡◌, ◌∷◌, ◌<◌, [], length, d
 ghost use Rattle.amqp_link_worlds.specs.Attachable.{list_in};
 ghost use Rattle.amqp_link_worlds.specs.Resumptions.{entry_of};
 ghost use Rattle.amqp_link_worlds.specs.Steps.{is_empty as has_none};
-ghost use Rattle.amqp_link_pair.specs.Queues.{first_lent, lent_to_resume, resuming_of};
+ghost use Rattle.amqp_link_pair.specs.Queues.{first_element, tag_and_delivery, resuming_of};
 
 use amqp_link_core::resumption::ResumingDelivery;
 use amqp_link_sender::sender_link::SenderAttachExchange;
@@ -73,7 +73,7 @@ impl Resuming {
 
     // The next delivery, with its tag.
     pub(crate) fn first(&self) -> Option<(&DeliveryTag, &ResumingDelivery)>
-        ensures { option_map lent_to_resume result ≡ first_lent self.now.list }
+        ensures { option_map tag_and_delivery result ≡ first_element self.now.list }
     {
         let (tag, next) = self.deliveries.front()?;
         Some((tag, next))
@@ -81,7 +81,7 @@ impl Resuming {
 
     // Removes the next delivery, so that there is room to put it back.
     pub(crate) fn take_first(&mut self) -> (DeliveryTag, ResumingDelivery)
-        requires { IsSome (first_lent self.old.list) }
+        requires { IsSome (first_element self.old.list) }
         ensures taken { self.old.list ≡ result ∷ self.new.list }
         ensures room { 0 < self.new.room }
     {

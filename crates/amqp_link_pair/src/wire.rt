@@ -4,7 +4,7 @@
 //! frames of one send stand together, and are moved in and out without an allocation.
 ghost use Rattle.std.specs.Prelude.{◌≡◌, ◌++◌, ◌∷◌, ◌<◌, [], length, drop, OnOk, option_map};
 ghost use Rattle.amqp_link_worlds.specs.Wires.{under};
-ghost use Rattle.amqp_link_pair.specs.Queues.{first_lent, lent_on_wire};
+ghost use Rattle.amqp_link_pair.specs.Queues.{first_element, on_wire_of};
 
 use amqp_link_types::frame::LinkFrame;
 use amqp_link_types::types::DeliveryTag;
@@ -56,7 +56,7 @@ impl Wire {
 
     // The next transfer to arrive, and the tag of its delivery.
     pub(crate) fn first(&self) -> Option<(&DeliveryTag, &LinkFrame)>
-        ensures { option_map lent_on_wire result ≡ first_lent self.now.transfers }
+        ensures { option_map on_wire_of result ≡ first_element self.now.transfers }
     {
         let batch = self.batches.front()?;
         let frame = batch.frames.front()?;

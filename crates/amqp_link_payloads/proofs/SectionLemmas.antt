@@ -10,7 +10,7 @@ use Rattle.std.proofs.lemmas.Slice.Eq.{bytes_eq-Decides}
 use Rattle.amqp_link_payloads.specs.Section.{Form, descriptor, binary, limit, section, IsDataSection, contents_in, contents_of}
 use Rattle.amqp_link_payloads.specs.Section.Form.{Short, Long}
 
--- the descriptors are told apart by their second bytes
+-- the descriptors differ in their second bytes
 pub descriptor-cancel : (d e : Form) (xs ys : List ℕ) → descriptor d ++ xs ≡ descriptor e ++ ys → xs ≡ ys
 descriptor-cancel Short Short xs ys h = ap (drop 3) h
 descriptor-cancel Short Long xs ys h = absurd (omega (arith, ap (λ zs. get_or zs 1 0) h))

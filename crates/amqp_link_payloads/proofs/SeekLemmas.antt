@@ -25,8 +25,8 @@ get_before (y ∷ xs) x zero ne = refl
 get_before (y ∷ xs) x (suc k) ne = get_before xs x k (λ e. ne (ap suc e))
 
 -- the start of number k, as the starts grow by n
-pub start_told : (xs : List ℕ) (n k : ℕ) → slice_get (xs ++ n ∷ []) k ≡ cond (nat_eq (length xs) k) (Some n) (slice_get xs k)
-start_told xs n k = elim (cases_eq (length xs) k) [
+pub start_appended : (xs : List ℕ) (n k : ℕ) → slice_get (xs ++ n ∷ []) k ≡ cond (nat_eq (length xs) k) (Some n) (slice_get xs k)
+start_appended xs n k = elim (cases_eq (length xs) k) [
   | inl e ↦ rw (eq-eqb (length xs) k e) (ap (slice_get (xs ++ n ∷ [])) (sym e) ∙ get_pushed xs n)
   | inr ne ↦ rw (ne_eqb (length xs) k ne) (get_before xs n k (λ e. ne (sym e)))
 ]
@@ -50,12 +50,12 @@ end_kept F b k (Some n) e =
 pub end_stays : (F : List ℕ) (b k : ℕ) → starts (F ++ b ∷ []) ≡ starts F → header_end (F ++ b ∷ []) (suc k) ≡ header_end F (suc k)
 end_stays F b k same = ap (λ xs. end_of (F ++ b ∷ []) (slice_get xs (suc k))) same ∙ end_kept F b k (slice_get (starts F) (suc k)) refl
 
-pub end_told : (F : List ℕ) (b n k : ℕ) → starts (F ++ b ∷ []) ≡ starts F ++ n ∷ [] → EndsAt (F ++ b ∷ []) n
+pub end_appended : (F : List ℕ) (b n k : ℕ) → starts (F ++ b ∷ []) ≡ starts F ++ n ∷ [] → EndsAt (F ++ b ∷ []) n
     → header_end (F ++ b ∷ []) (suc k) ≡ cond (nat_eq (length (starts F)) (suc k)) (Some (length F + 1)) (header_end F (suc k))
-end_told F b n k grown at =
-    let told : slice_get (starts (F ++ b ∷ [])) (suc k) ≡ cond (nat_eq (length (starts F)) (suc k)) (Some n) (slice_get (starts F) (suc k))
-    = ap (λ xs. slice_get xs (suc k)) grown ∙ start_told (starts F) n (suc k) in
-    ap (end_of (F ++ b ∷ [])) told
+end_appended F b n k grown at =
+    let appended : slice_get (starts (F ++ b ∷ [])) (suc k) ≡ cond (nat_eq (length (starts F)) (suc k)) (Some n) (slice_get (starts F) (suc k))
+    = ap (λ xs. slice_get xs (suc k)) grown ∙ start_appended (starts F) n (suc k) in
+    ap (end_of (F ++ b ∷ [])) appended
     ∙ both (nat_eq (length (starts F)) (suc k)) (slice_get (starts F) (suc k)) (end_kept F b k (slice_get (starts F) (suc k)) refl)
   where
     both : (is : Bool) (o : Option ℕ) → end_of (F ++ b ∷ []) o ≡ end_of F o
@@ -92,13 +92,13 @@ sought_new s t F b h has ends tail is number len seen start end =
       start_is = start ∙ ap (λ k. cond (nat_eq k s.number) (Some (s.length + 1 - h)) s.start) has.seen_is
           ∙ ap (λ i. cond (nat_eq (length (starts F)) s.number) (Some i) s.start) place
           ∙ ap (λ o. cond (nat_eq (length (starts F)) s.number) (Some n) o) has.start_is
-          ∙ sym (start_told (starts F) n s.number)
+          ∙ sym (start_appended (starts F) n s.number)
           ∙ ap (λ xs. slice_get xs s.number) (sym grown) ∙ ap (slice_get (starts (F ++ b ∷ []))) (sym number);
       end_is = end ∙ ap (λ k. cond (nat_eq k (s.number + 1)) (Some (s.length + 1)) s.end) has.seen_is
           ∙ ap (λ i. cond (nat_eq (length (starts F)) (s.number + 1)) (Some i) s.end) (ap (λ i. i + 1) has.length_is)
           ∙ ap (λ o. cond (nat_eq (length (starts F)) (s.number + 1)) (Some (length F + 1)) o) has.end_is
           ∙ ap (λ k. cond (nat_eq (length (starts F)) k) (Some (length F + 1)) (header_end F k)) (add-one s.number)
-          ∙ sym (end_told F b n s.number grown at)
+          ∙ sym (end_appended F b n s.number grown at)
           ∙ ap (header_end (F ++ b ∷ [])) (sym (add-one s.number) ∙ ap (λ k. k + 1) (sym number));
       tail_is = tail;
     }

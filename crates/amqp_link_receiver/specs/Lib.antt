@@ -10,7 +10,7 @@ pub use Rattle.amqp_link_core.specs.Targets
 pub use Rattle.amqp_link_dispositions.specs.Ending
 pub use Rattle.amqp_link_dispositions.specs.Keeping
 pub use Rattle.amqp_link_dispositions.specs.Listed
-pub use Rattle.amqp_link_dispositions.specs.Said
+pub use Rattle.amqp_link_dispositions.specs.DispositionFrames
 pub use Rattle.amqp_link_state.specs.Counts
 pub use Rattle.amqp_link_types.specs.Deliveries
 pub use Rattle.amqp_link_types.specs.DeliveryStates

@@ -7,7 +7,7 @@ use Rattle.amqp_link_types.specs.declared.types.delivery_state.DeliveryState.{De
 use Rattle.amqp_link_types.specs.declared.types.transfer.Transfer.{Transfer}
 use Rattle.amqp_link_types.specs.DeliveryStates.{is_terminal}
 use Rattle.amqp_link_types.specs.Entries.{Tag, entry_at, with_entry, without_entry}
-use Rattle.amqp_link_dispositions.specs.Said.{settles_at_once}
+use Rattle.amqp_link_dispositions.specs.DispositionFrames.{settles_at_once}
 use Rattle.amqp_link_receiver.specs.Receivers.{Receiver}
 
 -- a transfer without a settled flag is not settled
@@ -50,7 +50,7 @@ module _ {T : Type 0} where
 
   -- the delivery id and tag that the session gets with a transfer that begins an unsettled delivery, if the
   -- receiver settles only after the sender
-  abbrev pub told_of : Receiver T → Transfer → Option (ℕ × Tag)
-  told_of r t =
+  abbrev pub session_record : Receiver T → Transfer → Option (ℕ × Tag)
+  session_record r t =
       if is_settled t || r.more || settles_at_once r.rcv_settle_mode then None
       else number_and_tag t.delivery_id t.delivery_tag

@@ -14,7 +14,7 @@ use amqp_link_types::types::{
 use std::process::Abort;
 
 #[test]
-fn smaller_limit_of_a_message_stands(rt: HostRuntime) {
+fn smaller_message_limit_holds(rt: HostRuntime) {
     for (own, theirs, wanted) in [
         (0u64, Some(5u64), 5u64),
         (7, None, 7),
@@ -33,7 +33,7 @@ fn smaller_limit_of_a_message_stands(rt: HostRuntime) {
 
 // A property of the peer's attach becomes the link's.
 #[test]
-fn properties_that_come_are_taken(rt: HostRuntime) {
+fn incoming_properties_are_taken(rt: HostRuntime) {
     let mut link = ReceiverLink::new(rt.alloc(), parts(&rt, SenderSettleMode::Mixed, 512));
     let mut attach = coming(&rt, Role::Sender, false);
     attach.properties = Some(fields(&rt, "k"));

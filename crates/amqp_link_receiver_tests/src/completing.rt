@@ -153,14 +153,14 @@ fn given_unsettled(rt: &(impl Abort + AllocGlobal)) -> (Option<Given>, bool, Lef
     let pieces = pieces(rt, b"h", b"i");
     let transfer = third(rt, None);
     let answer = completed(&mut link, &transfer, pieces.as_slice(), 2);
-    let told = (
+    let actual = (
         given_by(&answer),
         has_bytes(&answer, b"hi"),
         left_of(rt, &link),
     );
     drop((answer, pieces));
     drop((transfer, link));
-    told
+    actual
 }
 
 #[test]
@@ -204,14 +204,14 @@ fn given_settled(rt: &(impl Abort + AllocGlobal)) -> (Option<Given>, bool, Left)
     let mut transfer = third(rt, Some(true));
     transfer.rcv_settle_mode = Some(ReceiverSettleMode::Second);
     let answer = completed(&mut link, &transfer, pieces.as_slice(), 7);
-    let told = (
+    let actual = (
         given_by(&answer),
         has_data(&answer, b"ab"),
         left_of(rt, &link),
     );
     drop((answer, pieces));
     drop((transfer, link));
-    told
+    actual
 }
 
 #[test]
@@ -293,7 +293,7 @@ fn refused_body_costs_the_credit_and_is_kept(rt: HostRuntime) {
 
 // The name of the error of a refused transfer.
 #[derive(Clone, Copy, Debug, PartialEq, Eq)]
-enum Told {
+enum Shown {
     Given,
     IllegalState,
     TransferLimitExceeded,
@@ -303,40 +303,40 @@ enum Told {
     Other,
 }
 
-fn told_by(answer: &Result<Delivery<Whole>, ReceiverTransferError>) -> Told {
+fn shown_by(answer: &Result<Delivery<Whole>, ReceiverTransferError>) -> Shown {
     match answer {
-        Ok(_) => Told::Given,
-        Err(ReceiverTransferError::IllegalState) => Told::IllegalState,
-        Err(ReceiverTransferError::TransferLimitExceeded) => Told::TransferLimitExceeded,
-        Err(ReceiverTransferError::DeliveryIdIsNone) => Told::DeliveryIdIsNone,
-        Err(ReceiverTransferError::DeliveryTagIsNone) => Told::DeliveryTagIsNone,
-        Err(ReceiverTransferError::IllegalRcvSettleModeInTransfer) => Told::IllegalMode,
-        Err(_) => Told::Other,
+        Ok(_) => Shown::Given,
+        Err(ReceiverTransferError::IllegalState) => Shown::IllegalState,
+        Err(ReceiverTransferError::TransferLimitExceeded) => Shown::TransferLimitExceeded,
+        Err(ReceiverTransferError::DeliveryIdIsNone) => Shown::DeliveryIdIsNone,
+        Err(ReceiverTransferError::DeliveryTagIsNone) => Shown::DeliveryTagIsNone,
+        Err(ReceiverTransferError::IllegalRcvSettleModeInTransfer) => Shown::IllegalMode,
+        Err(_) => Shown::Other,
     }
 }
 
 // A transfer ends a delivery of two bytes on this link.
-fn told_at(
+fn shown_at(
     rt: &(impl Abort + AllocGlobal),
     link: &mut ReceiverLink<Target>,
     transfer: &Transfer,
-) -> (Told, Left) {
+) -> (Shown, Left) {
     let pieces = pieces(rt, b"h", b"i");
     let answer = completed(link, transfer, pieces.as_slice(), 2);
-    let told = told_by(&answer);
+    let actual = shown_by(&answer);
     drop((answer, pieces));
-    (told, left_of(rt, link))
+    (actual, left_of(rt, link))
 }
 
 // The same of a link that takes no more.
-fn told_once(
+fn shown_once(
     rt: &(impl Abort + AllocGlobal),
     mut link: ReceiverLink<Target>,
     transfer: Transfer,
-) -> (Told, Left) {
-    let told = told_at(rt, &mut link, &transfer);
+) -> (Shown, Left) {
+    let actual = shown_at(rt, &mut link, &transfer);
     drop((transfer, link));
-    told
+    actual
 }
 
 // A link at the last count with its credit, that keeps nothing.
@@ -358,50 +358,50 @@ fn spent(credit: u32) -> Left {
 }
 
 // A transfer without number ends a delivery, twice, where there is one credit.
-fn told_twice(rt: &(impl Abort + AllocGlobal)) -> [(Told, Left); 2] {
+fn shown_twice(rt: &(impl Abort + AllocGlobal)) -> [(Shown, Left); 2] {
     let mut link = link_in(rt, ReceiverSettleMode::First, 1);
     let mut transfer = third(rt, None);
     transfer.delivery_id = None;
-    let first = told_at(rt, &mut link, &transfer);
-    let again = told_at(rt, &mut link, &transfer);
+    let first = shown_at(rt, &mut link, &transfer);
+    let again = shown_at(rt, &mut link, &transfer);
     drop((transfer, link));
     [first, again]
 }
 
 // A transfer without tag ends a delivery.
-fn told_untagged(rt: &(impl Abort + AllocGlobal)) -> (Told, Left) {
+fn shown_untagged(rt: &(impl Abort + AllocGlobal)) -> (Shown, Left) {
     let mut transfer = third(rt, None);
     transfer.delivery_tag = None;
-    told_once(rt, link_in(rt, ReceiverSettleMode::First, 2), transfer)
+    shown_once(rt, link_in(rt, ReceiverSettleMode::First, 2), transfer)
 }
 
 // A transfer in mode second ends a delivery on a link of this mode.
-fn told_second(rt: &(impl Abort + AllocGlobal), mode: ReceiverSettleMode) -> (Told, Left) {
+fn shown_second(rt: &(impl Abort + AllocGlobal), mode: ReceiverSettleMode) -> (Shown, Left) {
     let mut transfer = third(rt, None);
     transfer.rcv_settle_mode = Some(ReceiverSettleMode::Second);
-    told_once(rt, link_in(rt, mode, 2), transfer)
+    shown_once(rt, link_in(rt, mode, 2), transfer)
 }
 
 #[test]
 fn wrong_transfers_cost_the_credit(rt: HostRuntime) {
-    let first = (Told::DeliveryIdIsNone, spent(0));
-    let again = (Told::TransferLimitExceeded, spent(0));
-    assert_eq!(rt; told_twice(&rt), [first, again]);
-    let untagged = told_untagged(&rt);
-    let second = told_second(&rt, ReceiverSettleMode::First);
+    let first = (Shown::DeliveryIdIsNone, spent(0));
+    let again = (Shown::TransferLimitExceeded, spent(0));
+    assert_eq!(rt; shown_twice(&rt), [first, again]);
+    let untagged = shown_untagged(&rt);
+    let second = shown_second(&rt, ReceiverSettleMode::First);
     let refused = [
-        (Told::DeliveryTagIsNone, spent(1)),
-        (Told::IllegalMode, spent(1)),
+        (Shown::DeliveryTagIsNone, spent(1)),
+        (Shown::IllegalMode, spent(1)),
     ];
     assert_eq!(rt; [untagged, second], refused);
-    let given = told_second(&rt, ReceiverSettleMode::Second);
-    assert!(rt; given.0 == Told::Given);
+    let given = shown_second(&rt, ReceiverSettleMode::Second);
+    assert!(rt; given.0 == Shown::Given);
 }
 
 // A transfer ends a delivery in this state.
-fn told_in(rt: &(impl Abort + AllocGlobal), state: LinkState) -> (Told, Left) {
+fn shown_in(rt: &(impl Abort + AllocGlobal), state: LinkState) -> (Shown, Left) {
     let link = link_at(rt, ReceiverSettleMode::First, 2, state);
-    told_once(rt, link, third(rt, None))
+    shown_once(rt, link, third(rt, None))
 }
 
 #[test]
@@ -416,24 +416,24 @@ fn link_that_is_not_attached_takes_nothing(rt: HostRuntime) {
         LinkState::CloseSent,
         LinkState::Closed,
     ] {
-        let told = told_in(&rt, state);
-        assert_eq!(rt; told, (Told::IllegalState, untouched(2)), "in {state:?}");
+        let actual = shown_in(&rt, state);
+        assert_eq!(rt; actual, (Shown::IllegalState, untouched(2)), "in {state:?}");
     }
     let left = Left {
         entries: 1,
         ..untouched(2)
     };
-    let told = told_in(&rt, LinkState::IncompleteAttachSent);
-    assert_eq!(rt; told, (Told::IllegalState, left));
-    let (told, _) = told_in(&rt, LinkState::IncompleteAttachExchanged);
-    assert_eq!(rt; told, Told::Given);
+    let actual = shown_in(&rt, LinkState::IncompleteAttachSent);
+    assert_eq!(rt; actual, (Shown::IllegalState, left));
+    let (actual, _) = shown_in(&rt, LinkState::IncompleteAttachExchanged);
+    assert_eq!(rt; actual, Shown::Given);
 }
 
 // A transfer ends a delivery on a link without output handle.
-fn told_without_handle(rt: &(impl Abort + AllocGlobal)) -> (Told, Left) {
+fn shown_without_handle(rt: &(impl Abort + AllocGlobal)) -> (Shown, Left) {
     let mut link = link_in(rt, ReceiverSettleMode::First, 2);
     *link.output_handle_mut() = None;
-    told_once(rt, link, third(rt, None))
+    shown_once(rt, link, third(rt, None))
 }
 
 #[test]
@@ -443,8 +443,8 @@ fn without_handle_the_delivery_is_kept_and_not_given(rt: HostRuntime) {
         place: Some((0, 2)),
         ..spent(1)
     };
-    let told = told_without_handle(&rt);
-    assert_eq!(rt; told, (Told::IllegalState, left));
+    let actual = shown_without_handle(&rt);
+    assert_eq!(rt; actual, (Shown::IllegalState, left));
 }
 
 // A body that refuses all bytes.

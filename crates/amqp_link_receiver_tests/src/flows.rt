@@ -3,7 +3,7 @@ use crate::samples::{fields, parts};
 use amqp_link_core::endpoint::LinkExt;
 use amqp_link_receiver::ReceiverLink;
 use amqp_link_state::state::LinkFlowStateInner;
-use amqp_link_tests_support::links::{FlowTold, told, told_back};
+use amqp_link_tests_support::links::{FlowFields, actual, reply_fields};
 use amqp_link_types::frame::LinkFrame;
 use amqp_link_types::types::{
     FlowError, LinkFlow, LinkRelayError, OutputHandle, SenderSettleMode, Target,
@@ -37,8 +37,8 @@ fn named(
 }
 
 // The flow of a link with these fields; a receiver leaves `available` out.
-fn stated(count: u32, credit: u32, drain: bool, echo: bool) -> FlowTold {
-    FlowTold {
+fn stated(count: u32, credit: u32, drain: bool, echo: bool) -> FlowFields {
+    FlowFields {
         handle: 7,
         count: Some(count),
         credit: Some(credit),
@@ -56,9 +56,9 @@ fn flow_in(frame: &LinkFrame) -> Option<&LinkFlow> {
 }
 
 // The fields of the flow that was sent, if one was.
-fn told_by(sent: &Result<LinkFrame, FlowError>) -> Result<Option<FlowTold>, FlowError> {
+fn shown_by(sent: &Result<LinkFrame, FlowError>) -> Result<Option<FlowFields>, FlowError> {
     match sent {
-        Ok(frame) => Ok(flow_in(frame).and_then(told)),
+        Ok(frame) => Ok(flow_in(frame).and_then(actual)),
         Err(error) => Err(*error),
     }
 }
@@ -68,19 +68,19 @@ fn sent_by(
     credit: Option<u32>,
     drain: Option<bool>,
     echo: bool,
-) -> Result<Option<FlowTold>, FlowError> {
+) -> Result<Option<FlowFields>, FlowError> {
     let sent = link.send_flow(credit, drain, echo, false);
-    let told = told_by(&sent);
+    let actual = shown_by(&sent);
     drop(sent);
-    told
+    actual
 }
 
 // The reply to a flow of the sender, and the flow that the receiver sends then.
 fn back_and_out(
     rt: &(impl Abort + AllocGlobal),
 ) -> (
-    Result<Option<FlowTold>, LinkRelayError>,
-    Result<Option<FlowTold>, FlowError>,
+    Result<Option<FlowFields>, LinkRelayError>,
+    Result<Option<FlowFields>, FlowError>,
 ) {
     let mut link = named(rt, 5, 0);
     let flow = LinkFlow {
@@ -90,15 +90,15 @@ fn back_and_out(
         echo: true,
         ..LinkFlow::default()
     };
-    let back = told_back(link.on_incoming_flow(flow));
+    let back = reply_fields(link.on_incoming_flow(flow));
     let out = sent_by(&mut link, None, None, true);
     drop(link);
     (back, out)
 }
 
 #[test]
-fn sender_tells_its_count_and_what_waits(rt: HostRuntime) {
-    let reply = FlowTold {
+fn sender_flow_carries_its_count_and_available(rt: HostRuntime) {
+    let reply = FlowFields {
         available: Some(3),
         ..stated(7, 4, false, false)
     };
@@ -114,7 +114,7 @@ fn left_by(
     own: u32,
     delivery_count: Option<u32>,
     link_credit: Option<u32>,
-) -> (Result<Option<FlowTold>, LinkRelayError>, u32, u32, bool) {
+) -> (Result<Option<FlowFields>, LinkRelayError>, u32, u32, bool) {
     let mut link = named(rt, own, 6);
     let flow = LinkFlow {
         delivery_count,
@@ -122,12 +122,12 @@ fn left_by(
         drain: true,
         ..LinkFlow::default()
     };
-    let told = told_back(link.on_incoming_flow(flow));
+    let actual = reply_fields(link.on_incoming_flow(flow));
     let count = link.flow_state().delivery_count();
     let credit = link.flow_state().link_credit();
     let drain = link.flow_state().drain();
     drop(link);
-    (told, count, credit, drain)
+    (actual, count, credit, drain)
 }
 
 // The counts at which a difference changes its sign.
@@ -166,7 +166,7 @@ fn sent_in_turn(
     rt: &(impl Abort + AllocGlobal),
     count: u32,
     credit: u32,
-) -> [Result<Option<FlowTold>, FlowError>; 3] {
+) -> [Result<Option<FlowFields>, FlowError>; 3] {
     let mut link = named(rt, count, 6);
     let both = sent_by(&mut link, Some(credit), Some(true), false);
     let neither = sent_by(&mut link, None, None, true);
@@ -226,8 +226,8 @@ fn properties_go_out_where_they_are_asked_for(rt: HostRuntime) {
 fn without_handle(
     rt: &(impl Abort + AllocGlobal),
 ) -> (
-    Result<Option<FlowTold>, FlowError>,
-    Result<Option<FlowTold>, LinkRelayError>,
+    Result<Option<FlowFields>, FlowError>,
+    Result<Option<FlowFields>, LinkRelayError>,
     (u32, u32, bool),
 ) {
     let mut link = unnamed(rt, 5, 6);
@@ -237,7 +237,7 @@ fn without_handle(
         echo: true,
         ..LinkFlow::default()
     };
-    let back = told_back(link.on_incoming_flow(flow));
+    let back = reply_fields(link.on_incoming_flow(flow));
     let state = link.flow_state();
     let left = (state.delivery_count(), state.link_credit(), state.drain());
     drop(link);
@@ -245,7 +245,7 @@ fn without_handle(
 }
 
 #[test]
-fn without_handle_no_flow_comes_or_goes(rt: HostRuntime) {
+fn without_handle_no_flow_is_taken_or_sent(rt: HostRuntime) {
     let out = Err(FlowError::IllegalState);
     let back = Err(LinkRelayError::UnattachedHandle);
     assert_eq!(rt; without_handle(&rt), (out, back, (5, 4, false)));

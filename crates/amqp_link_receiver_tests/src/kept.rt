@@ -30,8 +30,8 @@ fn place_at(link: &ReceiverLink<Target>, tag: &DeliveryTag) -> Option<(u32, u64)
 #[test]
 fn state_without_tag_is_refused(rt: HostRuntime) {
     let mut link = link_in(&rt);
-    let told = link.on_transfer_state(&None, Some(true), DeliveryState::Accepted);
-    assert!(rt; matches!(told, Err(ReceiverTransferError::DeliveryTagIsNone)));
+    let actual = link.on_transfer_state(&None, Some(true), DeliveryState::Accepted);
+    assert!(rt; matches!(actual, Err(ReceiverTransferError::DeliveryTagIsNone)));
     assert_eq!(rt; link.unsettled().len(), 0);
     drop(link);
 }

@@ -8,8 +8,8 @@ use amqp_link_receiver::{ReceiverAttachExchange, ReceiverLink};
 use amqp_link_state::state::LinkState;
 use amqp_link_tests_support::refusals::Refusal;
 use amqp_link_tests_support::table::{
-    Call, STATES, answered, attached, detach, is_illegal, is_illegal_outcome, left, let_go, taken,
-    wanted,
+    Call, STATES, answered, attached, detach, detach_by, is_illegal, is_illegal_outcome, left,
+    taken, wanted,
 };
 use amqp_link_types::delivery::Outcomes;
 use amqp_link_types::frame::LinkFrame;
@@ -32,9 +32,9 @@ fn link_in(rt: &(impl Abort + AllocGlobal), state: LinkState, limit: u32) -> Rec
 
 fn attached_in(rt: &(impl Abort + AllocGlobal), state: LinkState, limit: u32) -> (bool, LinkState) {
     let mut link = link_in(rt, state, limit);
-    let told = attached(&mut link);
+    let actual = attached(&mut link);
     drop(link);
-    told
+    actual
 }
 
 #[test]
@@ -42,8 +42,8 @@ fn attaches_that_are_sent(rt: HostRuntime) {
     for (incomplete, limit) in [(false, 512), (true, 30)] {
         let call = Call::SendAttach(incomplete);
         for (place, state) in STATES.iter().enumerate() {
-            let told = attached_in(&rt, *state, limit);
-            assert_eq!(rt; told, wanted(call, place), "{call:?} in {state:?}");
+            let actual = attached_in(&rt, *state, limit);
+            assert_eq!(rt; actual, wanted(call, place), "{call:?} in {state:?}");
         }
     }
 }
@@ -54,27 +54,27 @@ fn taken_in(
     incomplete: bool,
 ) -> (bool, LinkState) {
     let mut link = link_in(rt, state, 512);
-    let told = taken(&mut link, coming(rt, Role::Sender, incomplete));
+    let actual = taken(&mut link, coming(rt, Role::Sender, incomplete));
     drop(link);
-    told
+    actual
 }
 
 #[test]
-fn attaches_that_come(rt: HostRuntime) {
+fn incoming_attaches(rt: HostRuntime) {
     for incomplete in [false, true] {
         let call = Call::IncomingAttach(incomplete);
         for (place, state) in STATES.iter().enumerate() {
-            let told = taken_in(&rt, *state, incomplete);
-            assert_eq!(rt; told, wanted(call, place), "{call:?} in {state:?}");
+            let actual = taken_in(&rt, *state, incomplete);
+            assert_eq!(rt; actual, wanted(call, place), "{call:?} in {state:?}");
         }
     }
 }
 
-fn let_go_in(rt: &(impl Abort + AllocGlobal), state: LinkState, closed: bool) -> (bool, LinkState) {
+fn detach_in(rt: &(impl Abort + AllocGlobal), state: LinkState, closed: bool) -> (bool, LinkState) {
     let mut link = link_in(rt, state, 512);
-    let told = let_go(&mut link, closed);
+    let actual = detach_by(&mut link, closed);
     drop(link);
-    told
+    actual
 }
 
 #[test]
@@ -82,8 +82,8 @@ fn detaches_that_are_sent(rt: HostRuntime) {
     for closed in [false, true] {
         let call = Call::SendDetach(closed);
         for (place, state) in STATES.iter().enumerate() {
-            let told = let_go_in(&rt, *state, closed);
-            assert_eq!(rt; told, wanted(call, place), "{call:?} in {state:?}");
+            let actual = detach_in(&rt, *state, closed);
+            assert_eq!(rt; actual, wanted(call, place), "{call:?} in {state:?}");
         }
     }
 }
@@ -94,9 +94,9 @@ fn answered_in(
     closed: bool,
 ) -> (bool, LinkState) {
     let mut link = link_in(rt, state, 512);
-    let told = answered(&mut link, closed);
+    let actual = answered(&mut link, closed);
     drop(link);
-    told
+    actual
 }
 
 #[test]
@@ -104,17 +104,17 @@ fn detaches_that_answer(rt: HostRuntime) {
     for closed in [false, true] {
         let call = Call::DetachReply(closed);
         for (place, state) in STATES.iter().enumerate() {
-            let told = answered_in(&rt, *state, closed);
-            assert_eq!(rt; told, wanted(call, place), "{call:?} in {state:?}");
+            let actual = answered_in(&rt, *state, closed);
+            assert_eq!(rt; actual, wanted(call, place), "{call:?} in {state:?}");
         }
     }
 }
 
 fn left_in(rt: &(impl Abort + AllocGlobal), state: LinkState, closed: bool) -> (bool, LinkState) {
     let mut link = link_in(rt, state, 512);
-    let told = left(&mut link, closed);
+    let actual = left(&mut link, closed);
     drop(link);
-    told
+    actual
 }
 
 #[test]
@@ -122,8 +122,8 @@ fn detaches_of_the_other_end(rt: HostRuntime) {
     for closed in [false, true] {
         let call = Call::RemoteDetach(closed);
         for (place, state) in STATES.iter().enumerate() {
-            let told = left_in(&rt, *state, closed);
-            assert_eq!(rt; told, wanted(call, place), "{call:?} in {state:?}");
+            let actual = left_in(&rt, *state, closed);
+            assert_eq!(rt; actual, wanted(call, place), "{call:?} in {state:?}");
         }
     }
 }
@@ -157,13 +157,13 @@ fn refused_detaches_name_the_state(rt: HostRuntime) {
 #[test]
 fn attach_that_fits_no_frame_is_refused(rt: HostRuntime) {
     for (limit, fits) in [(29u32, false), (30, true)] {
-        let told = attached_in(&rt, LinkState::Detached, limit);
+        let actual = attached_in(&rt, LinkState::Detached, limit);
         let state = if fits {
             LinkState::IncompleteAttachSent
         } else {
             LinkState::Detached
         };
-        assert_eq!(rt; told, (fits, state), "at {limit}");
+        assert_eq!(rt; actual, (fits, state), "at {limit}");
     }
     let mut link = link_in(&rt, LinkState::Detached, 29);
     let is_too_large = matches!(
@@ -185,9 +185,9 @@ fn exchanged(
     let mut attach = coming(rt, Role::Sender, incomplete);
     attach.unsettled = Some(entries);
     let mut link = link_in(rt, state, 512);
-    let told = taken_by(link.on_incoming_attach(attach));
+    let actual = taken_by(link.on_incoming_attach(attach));
     drop(link);
-    told
+    actual
 }
 
 #[test]
@@ -220,40 +220,40 @@ fn named_deliveries_are_resumed(rt: HostRuntime) {
 }
 
 // The length of an attach, and whether it has a map.
-fn said_by(frame: &LinkFrame) -> Option<(Option<u64>, bool)> {
+fn fields_by(frame: &LinkFrame) -> Option<(Option<u64>, bool)> {
     match frame {
         LinkFrame::Attach(attach) => Some((attach.encoded_len(), attach.unsettled.is_some())),
         _ => None,
     }
 }
 
-fn said_of(
+fn fields_of(
     sent: &Result<(LinkFrame, Outcomes), ReceiverAttachError>,
 ) -> Option<(Option<u64>, bool)> {
     match sent {
-        Ok((frame, _)) => said_by(frame),
+        Ok((frame, _)) => fields_by(frame),
         Err(_) => None,
     }
 }
 
-fn said_in(
+fn fields_in(
     sent: Result<(LinkFrame, Outcomes), ReceiverAttachError>,
 ) -> Option<(Option<u64>, bool)> {
-    let said = said_of(&sent);
+    let fields = fields_of(&sent);
     drop(sent);
-    said
+    fields
 }
 
 // The attach of a detached link, and how many deliveries are left.
-fn said_after_a_detach(
+fn fields_after_a_detach(
     rt: &(impl Abort + AllocGlobal),
     is_reattaching: bool,
 ) -> (Option<(Option<u64>, bool)>, usize) {
     let mut link = link_in(rt, LinkState::Detached, 512);
-    let said = said_in(link.send_attach(is_reattaching));
+    let fields = fields_in(link.send_attach(is_reattaching));
     let left = link.unsettled().len();
     drop(link);
-    (said, left)
+    (fields, left)
 }
 
 // The map takes three bytes in place of one, and its entry fourteen: six of the tag, eight of the state. A
@@ -261,11 +261,11 @@ fn said_after_a_detach(
 #[test]
 fn reattach_forgets_what_was_unsettled(rt: HostRuntime) {
     assert_eq!(rt;
-        said_after_a_detach(&rt, false),
+        fields_after_a_detach(&rt, false),
         (Some((Some(40), true)), 1)
     );
     assert_eq!(rt;
-        said_after_a_detach(&rt, true),
+        fields_after_a_detach(&rt, true),
         (Some((Some(24), false)), 0)
     );
 }

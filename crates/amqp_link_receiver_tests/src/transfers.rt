@@ -62,7 +62,7 @@ fn link_in(
 }
 
 // The handles and the bytes of the frame for the link's user.
-fn frame_told(frame: &LinkFrame) -> Option<(u32, u32, usize)> {
+fn frame_shown(frame: &LinkFrame) -> Option<(u32, u32, usize)> {
     match frame {
         LinkFrame::RemoteTransfer(came) => Some((
             came.input_handle.0,
@@ -75,22 +75,22 @@ fn frame_told(frame: &LinkFrame) -> Option<(u32, u32, usize)> {
 
 // The result of a transfer: its frame, and the id and the last byte of the tag for the session.
 #[derive(Clone, Copy, Debug, PartialEq, Eq)]
-struct Told {
+struct Shown {
     frame: Option<(u32, u32, usize)>,
     name: Option<(u32, Option<u8>)>,
 }
 
-fn told_by(came: &Came) -> Option<Told> {
+fn shown_by(came: &Came) -> Option<Shown> {
     let Ok((frame, name)) = came else {
         return None;
     };
-    let frame = frame_told(frame);
+    let frame = frame_shown(frame);
     match name {
-        Some((id, tag)) => Some(Told {
+        Some((id, tag)) => Some(Shown {
             frame,
             name: Some((*id, tag.as_bytes().last().copied())),
         }),
-        None => Some(Told { frame, name: None }),
+        None => Some(Shown { frame, name: None }),
     }
 }
 
@@ -120,18 +120,18 @@ fn named_after(
     (mode, more): (ReceiverSettleMode, bool),
     transfer: (Option<bool>, Option<u32>, bool),
     more_after: bool,
-) -> (Option<Told>, bool) {
+) -> (Option<Shown>, bool) {
     let mut link = link_in(rt, mode, more);
     let transfer = transfer_of(rt, transfer, more_after);
     let came = link.on_incoming_transfer(transfer, payload_of(rt, &[1, 2]));
-    let told = told_by(&came);
+    let actual = shown_by(&came);
     let begins = begins_next(rt, &mut link);
     drop((came, link));
-    (told, begins)
+    (actual, begins)
 }
 
 #[test]
-fn session_is_told_of_unsettled_transfers_in_mode_second(rt: HostRuntime) {
+fn session_gets_unsettled_transfers_in_mode_second(rt: HostRuntime) {
     let first = (ReceiverSettleMode::First, false);
     let second = (ReceiverSettleMode::Second, false);
     let under_way = (ReceiverSettleMode::Second, true);
@@ -145,14 +145,14 @@ fn session_is_told_of_unsettled_transfers_in_mode_second(rt: HostRuntime) {
         (first, (None, Some(3), true), None),
     ] {
         for more in [false, true] {
-            let told = Told {
+            let actual = Shown {
                 frame: Some((6, 6, 2)),
                 name,
             };
             let begins = link != first && !more;
             assert_eq!(rt;
                 named_after(&rt, link, transfer, more),
-                (Some(told), begins),
+                (Some(actual), begins),
                 "{transfer:?} at {link:?}"
             );
         }

@@ -52,14 +52,14 @@ fn missing_filters_are_named_in_order(rt: HostRuntime) {
     let some = verify_filter(&desired, &supported);
     let all = verify_filter(&desired, &None);
     let none = verify_filter(&supported, &desired).is_ok() && verify_filter(&None, &None).is_ok();
-    let told = (
+    let actual = (
         are_missing(&some, &["d", "c"]),
         are_missing(&all, &["d", "b", "c", "a"]),
         none,
     );
     drop((some, all));
     drop((desired, supported));
-    assert_eq!(rt; told, (true, true, true));
+    assert_eq!(rt; actual, (true, true, true));
 }
 
 // What is wrong of a sender's attach.
@@ -200,10 +200,10 @@ fn handled(
     let mut link = attaching(rt, false);
     drop(link.on_incoming_attach(attach_with(rt, Fault::Nothing)));
     let (error, action) = link.handle_attach_error(error).expect(rt, "memory");
-    let told = (at_receiver(&error), asked_by(&action), *link.local_state());
+    let actual = (at_receiver(&error), asked_by(&action), *link.local_state());
     drop((error, action));
     drop(link);
-    told
+    actual
 }
 
 #[test]

@@ -40,8 +40,8 @@ module _ {T : Type 0} (s : Sender T) (d : Delivery) (payload : List ℕ) where
       ∙ last_two pending (crowded (Some h)) error.TagPending error.NoRoom
 
 -- a refused transfer refuses the delivery
-pub told : (r : Result Sending LinkStateError) (tests : List (Bool × LinkStateError)) (stops : List (Bool × SendStop)) (e : LinkStateError) → IsErrAnd r (λ x. x ≡ e)
+pub stop_named : (r : Result Sending LinkStateError) (tests : List (Bool × LinkStateError)) (stops : List (Bool × SendStop)) (e : LinkStateError) → IsErrAnd r (λ x. x ≡ e)
     → refusal stops ≡ option_map refused (refusal tests) → ((e ≡ error.OutOfMemory) × (refusal tests ≡ None)) ⊎ (refusal tests ≡ Some e) → SendAnswersThenOutOfMemory r stops
-told (Ok a) tests stops e is same why = absurd is
-told (Err x) tests stops e is same (inl memory) = inl (is ∙ memory.0, same ∙ ap (option_map refused) memory.1)
-told (Err x) tests stops e is same (inr stop) = inr (same ∙ ap (option_map refused) (stop ∙ ap Some (sym is)))
+stop_named (Ok a) tests stops e is same why = absurd is
+stop_named (Err x) tests stops e is same (inl memory) = inl (is ∙ memory.0, same ∙ ap (option_map refused) memory.1)
+stop_named (Err x) tests stops e is same (inr stop) = inr (same ∙ ap (option_map refused) (stop ∙ ap Some (sym is)))

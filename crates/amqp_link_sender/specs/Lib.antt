@@ -9,7 +9,7 @@ pub use Rattle.amqp_link_core.specs.Shown
 pub use Rattle.amqp_link_core.specs.Targets
 pub use Rattle.amqp_link_dispositions.specs.Ending
 pub use Rattle.amqp_link_dispositions.specs.Listed
-pub use Rattle.amqp_link_dispositions.specs.Said
+pub use Rattle.amqp_link_dispositions.specs.DispositionFrames
 pub use Rattle.amqp_link_exchange.specs.Exchanges
 pub use Rattle.amqp_link_exchange.specs.Plans
 pub use Rattle.amqp_link_split.specs.Room

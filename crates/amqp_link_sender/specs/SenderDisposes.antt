@@ -7,14 +7,14 @@ use Rattle.amqp_link_types.specs.declared.types.delivery_state.DeliveryState.{De
 use Rattle.amqp_link_types.specs.Deliveries.{Ended}
 use Rattle.amqp_link_types.specs.Entries.{Tag}
 use Rattle.amqp_link_dispositions.specs.Ending.{ended_of, disposed}
-use Rattle.amqp_link_dispositions.specs.Said.{AreSaid, settles_at_once}
+use Rattle.amqp_link_dispositions.specs.DispositionFrames.{CoverRuns, settles_at_once}
 use Rattle.amqp_link_sender.specs.Senders.{Sender, settles}
 
--- the frames are the dispositions of the runs of these ids; none if the first flag says that the mode is
+-- the frames are the dispositions of the runs of these ids; none if the first flag is set, as the mode is
 -- `Settled`
 abbrev pub DispositionsOfRuns : Bool → Bool → DeliveryState → Bool → List ℕ → List LinkFrame → Type 0
 DispositionsOfRuns true settled state batchable ids frames = frames ≡ []
-DispositionsOfRuns false settled state batchable ids frames = AreSaid settled state batchable ids frames
+DispositionsOfRuns false settled state batchable ids frames = CoverRuns settled state batchable ids frames
 
 -- a disposition asks for an echo if it does not settle and the receiver settles only after the sender
 abbrev pub is_echoed : Bool → ReceiverSettleMode → Bool

@@ -136,17 +136,17 @@ with_registration settled s tag entry = record s {
 
 -- A transfer of the delivery with this tag was sent, and the delivery is registered if it is unsettled.
 pub record SendsTransfer {T : Type 0} (old : Sender T) (message_format : ℕ) (t : Transfer) (tag : Tag) (payload : List ℕ)
-    (told : Settlement) (frames : List LinkFrame) (new : Sender T) : Type 0 where
+    (settlement : Settlement) (frames : List LinkFrame) (new : Sender T) : Type 0 where
   pub sent : IsSent old t payload frames
-  pub answered : told ≡ settlement_of (settled_on_send old t) tag
+  pub answered : settlement ≡ settlement_of (settled_on_send old t) tag
   pub world : new ≡ with_registration (settled_on_send old t) old tag (new_entry message_format payload)
 
 -- A payload was sent as a new delivery at this output handle: its tag is the delivery-count before the send,
 -- its transfer was sent, and it took one credit.
 pub record SendsPayload {T : Type 0} (old : Sender T) (handle : OutputHandle) (d : Delivery) (payload : List ℕ)
-    (told : Settlement) (frames : List LinkFrame) (new : Sender T) : Type 0 where
+    (settlement : Settlement) (frames : List LinkFrame) (new : Sender T) : Type 0 where
   pub sent : IsSent old (new_transfer old handle (next_tag old) d) payload frames
-  pub answered : told ≡ settlement_of (settled_by_mode old.snd_settle_mode d.settled) (next_tag old)
+  pub answered : settlement ≡ settlement_of (settled_by_mode old.snd_settle_mode d.settled) (next_tag old)
   pub world : new ≡ record old {
     unsettled =
         if settled_by_mode old.snd_settle_mode d.settled then old.unsettled
@@ -156,13 +156,13 @@ pub record SendsPayload {T : Type 0} (old : Sender T) (handle : OutputHandle) (d
 
 -- what a send of a payload does, by what it returns: `CreditMissing` changes nothing
 abbrev pub SendsOrLacksCredit : {T : Type 0} → Sender T → Delivery → List ℕ → Sending → Sender T → Type 0
-SendsOrLacksCredit old d payload (sending.Sent told frames) new =
-    IsSomeAnd old.output_handle (λ handle. SendsPayload old handle d payload told frames.items new)
+SendsOrLacksCredit old d payload (sending.Sent settlement frames) new =
+    IsSomeAnd old.output_handle (λ handle. SendsPayload old handle d payload settlement frames.items new)
 SendsOrLacksCredit old d payload sending.CreditMissing new = new ≡ old
 
 -- the frames of a sent payload fit the frame limit, and are as few as it allows
 abbrev pub SendsFitting : {T : Type 0} → Sender T → Delivery → List ℕ → Sending → Type 0
-SendsFitting old d payload (sending.Sent told frames) = IsSomeAnd old.output_handle (λ handle.
+SendsFitting old d payload (sending.Sent settlement frames) = IsSomeAnd old.output_handle (λ handle.
     IsFitting (new_transfer old handle (next_tag old) d) old.max_frame_size payload frames.items)
 SendsFitting old d payload sending.CreditMissing = Unit {0}
 
@@ -238,7 +238,7 @@ IsSendable (Err e) tests = refusal tests ≡ Some (refused e)
 
 -- A send of a payload by the first test that holds; out of memory comes only if none does.
 abbrev pub SendAnswersThenOutOfMemory : Result Sending LinkStateError → List (Bool × SendStop) → Type 0
-SendAnswersThenOutOfMemory (Ok (sending.Sent told frames)) tests = refusal tests ≡ None
+SendAnswersThenOutOfMemory (Ok (sending.Sent settlement frames)) tests = refusal tests ≡ None
 SendAnswersThenOutOfMemory (Ok sending.CreditMissing) tests = refusal tests ≡ Some missing_credit
 SendAnswersThenOutOfMemory (Err e) tests =
     ((e ≡ error.OutOfMemory) × (refusal tests ≡ None)) ⊎ (refusal tests ≡ Some (refused e))

@@ -22,11 +22,11 @@ stop_error (Some reason) = error.SessionStopped reason
 stop_error None = error.ExpectImmediateDetach
 
 -- the error of a detach that the peer initiated, by its `closed` and `error` fields
-abbrev pub told_by : Bool → Option Error → LinkStateError
-told_by true None = error.RemoteClosed
-told_by false None = error.RemoteDetached
-told_by true (Some e) = error.RemoteClosedWithError e
-told_by false (Some e) = error.RemoteDetachedWithError e
+abbrev pub error_of_remote_detach : Bool → Option Error → LinkStateError
+error_of_remote_detach true None = error.RemoteClosed
+error_of_remote_detach false None = error.RemoteDetached
+error_of_remote_detach true (Some e) = error.RemoteClosedWithError e
+error_of_remote_detach false (Some e) = error.RemoteDetachedWithError e
 
 -- the link's error for an error of recording a detach
 abbrev pub recorded_error : ApplyRemoteDetachError → LinkStateError
@@ -36,12 +36,12 @@ recorded_error (apply.RemoteClosedWithError e) = error.RemoteClosedWithError e
 
 -- the error of a detach if it leads to this state: that of its fields, or illegal state if there is no
 -- transition
-abbrev pub told_where : Option LinkState → Detach → LinkStateError
-told_where None detach = error.IllegalState
-told_where (Some next) detach = told_by detach.closed detach.error
+abbrev pub error_after_remote_detach : Option LinkState → Detach → LinkStateError
+error_after_remote_detach None detach = error.IllegalState
+error_after_remote_detach (Some next) detach = error_of_remote_detach detach.closed detach.error
 
 abbrev pub detach_error : LinkState → Detach → LinkStateError
-detach_error state detach = told_where (next_state Call.RemoteDetach detach.closed state) detach
+detach_error state detach = error_after_remote_detach (next_state Call.RemoteDetach detach.closed state) detach
 
 -- the error of a frame: a detach's own; any other frame is not expected
 abbrev pub frame_error : LinkState → LinkFrame → LinkStateError
@@ -57,12 +57,12 @@ waiting_error state (waiting.Stopped reason) = Some (stop_error reason)
 
 module _ {T : Type 0} where
   -- in the next state and without output handle, if there is a transition
-  abbrev pub let_go : Option LinkState → Sender T → Sender T
-  let_go None s = s
-  let_go (Some next) s = record s { local_state = next; output_handle = None }
+  abbrev pub handle_released : Option LinkState → Sender T → Sender T
+  handle_released None s = s
+  handle_released (Some next) s = record s { local_state = next; output_handle = None }
 
   abbrev pub after_detach : Sender T → Detach → Sender T
-  after_detach s detach = let_go (next_state Call.RemoteDetach detach.closed s.local_state) s
+  after_detach s detach = handle_released (next_state Call.RemoteDetach detach.closed s.local_state) s
 
   abbrev pub after_frame : Sender T → LinkFrame → Sender T
   after_frame s (frame.Detach detach) = after_detach s detach

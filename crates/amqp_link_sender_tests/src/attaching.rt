@@ -1,6 +1,6 @@
 //! Worked values of a sender's attaches.
 use crate::samples::{attach_of, fields, parts, payload_of};
-use crate::sending::{Told, attached, new_link, send_flagged, told_by, told_by_error};
+use crate::sending::{Shown, attached, new_link, send_flagged, shown_by, shown_by_error};
 use amqp_link_core::endpoint::target::LinkTarget;
 use amqp_link_core::endpoint::{LinkAttach, LinkDetach, LinkExt};
 use amqp_link_sender::{SenderAttachExchange, SenderLink};
@@ -121,19 +121,19 @@ fn complete_attach_is_measured_with_its_count(rt: HostRuntime) {
 }
 
 // The last byte of the tag of an outcome, and the outcome.
-fn ended(outcomes: &Outcomes, index: usize) -> Option<(u8, Told)> {
+fn ended(outcomes: &Outcomes, index: usize) -> Option<(u8, Shown)> {
     let (tag, outcome) = outcomes.get(index)?;
     let last = *tag.as_bytes().last()?;
     match outcome {
         Ok(_) => None,
-        Err(error) => Some((last, told_by_error(error))),
+        Err(error) => Some((last, shown_by_error(error))),
     }
 }
 
 // How many deliveries a reattach resolves, and the outcomes of the first three.
 fn ends_in(
     sent: &Result<(LinkFrame, Outcomes), SenderAttachError>,
-) -> Option<(usize, [Option<(u8, Told)>; 3])> {
+) -> Option<(usize, [Option<(u8, Shown)>; 3])> {
     let (_, outcomes) = sent.as_ref().ok()?;
     let ends = [ended(outcomes, 0), ended(outcomes, 1), ended(outcomes, 2)];
     Some((outcomes.len(), ends))
@@ -160,8 +160,8 @@ fn detached_after(
     let link = SenderLink::new(rt.alloc(), parts).with_output_handle(OutputHandle(0));
     let mut link = attached(rt, link, SenderSettleMode::Mixed, 4);
     for _ in 0..pending {
-        let told = told_by(send_flagged(&mut link, &payload_of(rt, &[7]), None));
-        assert_eq!(rt; told, Told::Unsettled);
+        let actual = shown_by(send_flagged(&mut link, &payload_of(rt, &[7]), None));
+        assert_eq!(rt; actual, Shown::Unsettled);
     }
     drop(link.send_detach(closed, None));
     drop(link.on_detach_reply(reply(closed)));
@@ -186,7 +186,7 @@ fn reattach_gives_pending_deliveries_up(rt: HostRuntime) {
         incomplete: false,
     };
     assert_eq!(rt; shown, Ok(Some(wanted)));
-    let illegal = Told::IllegalState;
+    let illegal = Shown::IllegalState;
     let given_up = [Some((0, illegal)), Some((1, illegal)), Some((2, illegal))];
     assert_eq!(rt; ends, Some((3, given_up)));
     assert_eq!(rt; pending, 0);
@@ -303,7 +303,7 @@ fn is_complete(answer: &Result<(SenderAttachExchange, Outcomes), SenderAttachErr
 
 // A property of the peer's attach becomes the link's.
 #[test]
-fn properties_that_come_are_taken(rt: HostRuntime) {
+fn incoming_properties_are_taken(rt: HostRuntime) {
     let mut link = settling(&rt, SenderSettleMode::Mixed);
     let mut attach = coming(&rt, SenderSettleMode::Mixed);
     attach.properties = Some(fields(&rt, "k"));

@@ -3,7 +3,7 @@ use crate::samples::{fields, parts, payload_of};
 use amqp_link_core::endpoint::LinkExt;
 use amqp_link_sender::SenderLink;
 use amqp_link_state::state::LinkFlowStateInner;
-use amqp_link_tests_support::links::{FlowTold, told_back};
+use amqp_link_tests_support::links::{FlowFields, reply_fields};
 use amqp_link_types::types::{
     LinkFlow, LinkRelayError, OutputHandle, SenderSettleMode, Target, Transfer,
 };
@@ -31,16 +31,16 @@ fn unnamed(
 // What a flow leaves: the count, the credit, and the drain flag.
 #[derive(Clone, Copy, Debug, PartialEq, Eq)]
 struct Left {
-    told: Result<Option<FlowTold>, LinkRelayError>,
+    actual: Result<Option<FlowFields>, LinkRelayError>,
     count: u32,
     credit: u32,
     drain: bool,
 }
 
 fn left_of(link: &mut SenderLink<Target>, flow: LinkFlow) -> Left {
-    let told = told_back(link.on_incoming_flow(flow));
+    let actual = reply_fields(link.on_incoming_flow(flow));
     Left {
-        told,
+        actual,
         count: link.flow_state().delivery_count(),
         credit: link.flow_state().link_credit(),
         drain: link.flow_state().drain(),
@@ -100,7 +100,7 @@ fn credit_is_counted_from_the_count_of_the_flow(rt: HostRuntime) {
             ..LinkFlow::default()
         };
         let left = Left {
-            told: Ok(None),
+            actual: Ok(None),
             count: own,
             credit: wanted,
             drain: false,
@@ -130,7 +130,7 @@ fn drain_takes_all_credit_to_the_count(rt: HostRuntime) {
             echo,
             ..LinkFlow::default()
         };
-        let told = FlowTold {
+        let actual = FlowFields {
             handle: 7,
             count: Some(count),
             credit: Some(0),
@@ -139,7 +139,7 @@ fn drain_takes_all_credit_to_the_count(rt: HostRuntime) {
             echo: false,
         };
         let left = Left {
-            told: Ok(Some(told)),
+            actual: Ok(Some(actual)),
             count,
             credit: 0,
             drain: true,
@@ -158,7 +158,7 @@ fn asked_for_an_answer_a_sender_gives_one(rt: HostRuntime) {
         echo: true,
         ..LinkFlow::default()
     };
-    let told = FlowTold {
+    let actual = FlowFields {
         handle: 7,
         count: Some(2),
         credit: Some(4),
@@ -167,7 +167,7 @@ fn asked_for_an_answer_a_sender_gives_one(rt: HostRuntime) {
         echo: false,
     };
     let left = Left {
-        told: Ok(Some(told)),
+        actual: Ok(Some(actual)),
         count: 2,
         credit: 4,
         drain: false,
@@ -183,7 +183,7 @@ fn without_handle_no_flow_is_taken(rt: HostRuntime) {
         ..LinkFlow::default()
     };
     let left = Left {
-        told: Err(LinkRelayError::UnattachedHandle),
+        actual: Err(LinkRelayError::UnattachedHandle),
         count: 2,
         credit: 4,
         drain: false,

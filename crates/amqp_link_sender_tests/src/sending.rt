@@ -49,7 +49,7 @@ pub(crate) fn attached(
 
 // The result of a send.
 #[derive(Clone, Copy, Debug, PartialEq, Eq)]
-pub(crate) enum Told {
+pub(crate) enum Shown {
     Settled,
     Unsettled,
     CreditMissing,
@@ -64,39 +64,39 @@ pub(crate) enum Told {
     Other,
 }
 
-fn told_by_settlement(settlement: &Settlement) -> Told {
+fn shown_by_settlement(settlement: &Settlement) -> Shown {
     match settlement {
-        Settlement::Settled(_) => Told::Settled,
-        Settlement::Unsettled(_) => Told::Unsettled,
+        Settlement::Settled(_) => Shown::Settled,
+        Settlement::Unsettled(_) => Shown::Unsettled,
     }
 }
 
-pub(crate) fn told_by_error(error: &LinkStateError) -> Told {
+pub(crate) fn shown_by_error(error: &LinkStateError) -> Shown {
     match error {
-        LinkStateError::IllegalState => Told::IllegalState,
-        LinkStateError::RemoteDetached => Told::RemoteDetached,
-        LinkStateError::RemoteClosed => Told::RemoteClosed,
-        LinkStateError::RemoteClosedWithError(_) => Told::RemoteClosedWithError,
-        LinkStateError::ExpectImmediateDetach => Told::ExpectImmediateDetach,
-        LinkStateError::SessionStopped(_) => Told::SessionStopped,
-        LinkStateError::TagPending => Told::TagPending,
-        LinkStateError::NoRoom => Told::NoRoom,
-        _ => Told::Other,
+        LinkStateError::IllegalState => Shown::IllegalState,
+        LinkStateError::RemoteDetached => Shown::RemoteDetached,
+        LinkStateError::RemoteClosed => Shown::RemoteClosed,
+        LinkStateError::RemoteClosedWithError(_) => Shown::RemoteClosedWithError,
+        LinkStateError::ExpectImmediateDetach => Shown::ExpectImmediateDetach,
+        LinkStateError::SessionStopped(_) => Shown::SessionStopped,
+        LinkStateError::TagPending => Shown::TagPending,
+        LinkStateError::NoRoom => Shown::NoRoom,
+        _ => Shown::Other,
     }
 }
 
-fn told_of(sending: &Result<Sending, LinkStateError>) -> Told {
+fn shown_of(sending: &Result<Sending, LinkStateError>) -> Shown {
     match sending {
-        Ok(Sending::Sent { settlement, .. }) => told_by_settlement(settlement),
-        Ok(Sending::CreditMissing) => Told::CreditMissing,
-        Err(error) => told_by_error(error),
+        Ok(Sending::Sent { settlement, .. }) => shown_by_settlement(settlement),
+        Ok(Sending::CreditMissing) => Shown::CreditMissing,
+        Err(error) => shown_by_error(error),
     }
 }
 
-pub(crate) fn told_by(sending: Result<Sending, LinkStateError>) -> Told {
-    let told = told_of(&sending);
+pub(crate) fn shown_by(sending: Result<Sending, LinkStateError>) -> Shown {
+    let actual = shown_of(&sending);
     drop(sending);
-    told
+    actual
 }
 
 // Sends a payload with this flag, with nothing waiting.
@@ -192,11 +192,11 @@ fn transfer_of_a_new_delivery_is_made(rt: HostRuntime) {
     let link = new_link(&rt, SenderSettleMode::Mixed);
     let tag = count_tag(&rt, 3);
     let answer = link.generate_non_resuming_transfer_performative(tag, 5, Some(true), None, true);
-    let told = answer.as_ref().ok().map(made);
+    let actual = answer.as_ref().ok().map(made);
     drop(answer);
     drop(link);
     let flags = [false, true, true, false];
-    assert_eq!(rt; told, Some((0, Some(5), Some(true), flags)));
+    assert_eq!(rt; actual, Some((0, Some(5), Some(true), flags)));
 }
 
 // Twelve bytes at 30 go as five, five and two; only the first frame names the delivery.
@@ -230,15 +230,15 @@ fn twelve_bytes_are_three_frames(rt: HostRuntime) {
 // What a link shows after a send: the result, its credit, its count, and how many deliveries are pending.
 #[derive(Clone, Copy, Debug, PartialEq, Eq)]
 struct Standing {
-    told: Told,
+    actual: Shown,
     credit: u32,
     count: u32,
     pending: usize,
 }
 
-fn after(link: &SenderLink<Target>, told: Told) -> Standing {
+fn after(link: &SenderLink<Target>, actual: Shown) -> Standing {
     Standing {
-        told,
+        actual,
         credit: link.flow_state().link_credit(),
         count: link.flow_state().delivery_count(),
         pending: link.unsettled().len(),
@@ -247,14 +247,14 @@ fn after(link: &SenderLink<Target>, told: Told) -> Standing {
 
 // What a link shows after a send with credit 1, whether the tag of its count is pending then, and the result
 // of a second send.
-fn sent_twice(rt: &(impl Abort + AllocGlobal)) -> (Standing, bool, Told) {
+fn sent_twice(rt: &(impl Abort + AllocGlobal)) -> (Standing, bool, Shown) {
     let mut link = link(rt, SenderSettleMode::Mixed, 30, 1);
     let payload = payload_of(rt, &[7]);
     let tag = count_tag(rt, 0);
-    let told = told_by(send_flagged(&mut link, &payload, None));
-    let sent = after(&link, told);
+    let actual = shown_by(send_flagged(&mut link, &payload, None));
+    let sent = after(&link, actual);
     let is_kept = link.unsettled().contains(&tag);
-    let again = told_by(send_flagged(&mut link, &payload, None));
+    let again = shown_by(send_flagged(&mut link, &payload, None));
     drop((payload, tag));
     drop(link);
     (sent, is_kept, again)
@@ -264,20 +264,20 @@ fn sent_twice(rt: &(impl Abort + AllocGlobal)) -> (Standing, bool, Told) {
 #[test]
 fn sent_delivery_is_pending(rt: HostRuntime) {
     let sent = Standing {
-        told: Told::Unsettled,
+        actual: Shown::Unsettled,
         credit: 0,
         count: 1,
         pending: 1,
     };
-    assert_eq!(rt; sent_twice(&rt), (sent, true, Told::CreditMissing));
+    assert_eq!(rt; sent_twice(&rt), (sent, true, Shown::CreditMissing));
 }
 
 // What a link with credit 1 at this limit shows after a send of these bytes.
 fn sent_at(rt: &(impl Abort + AllocGlobal), limit: u32, bytes: &[u8]) -> Standing {
     let mut link = link(rt, SenderSettleMode::Mixed, limit, 1);
     let payload = payload_of(rt, bytes);
-    let told = told_by(send_flagged(&mut link, &payload, None));
-    let after = after(&link, told);
+    let actual = shown_by(send_flagged(&mut link, &payload, None));
+    let after = after(&link, actual);
     drop((payload, link));
     after
 }
@@ -286,13 +286,13 @@ fn sent_at(rt: &(impl Abort + AllocGlobal), limit: u32, bytes: &[u8]) -> Standin
 #[test]
 fn frames_have_room_or_nothing_changes(rt: HostRuntime) {
     let refused = Standing {
-        told: Told::NoRoom,
+        actual: Shown::NoRoom,
         credit: 1,
         count: 0,
         pending: 0,
     };
     let sent = Standing {
-        told: Told::Unsettled,
+        actual: Shown::Unsettled,
         credit: 0,
         count: 1,
         pending: 1,
@@ -341,15 +341,15 @@ fn settled_at(
     rt: &(impl Abort + AllocGlobal),
     mode: SenderSettleMode,
     given: Option<bool>,
-) -> (Told, bool) {
+) -> (Shown, bool) {
     let mut link = link(rt, mode, 64, 1);
     let payload = payload_of(rt, &[7]);
-    let told = told_by(send_flagged(&mut link, &payload, given));
+    let actual = shown_by(send_flagged(&mut link, &payload, given));
     let tag = count_tag(rt, 0);
     let is_pending = link.unsettled().contains(&tag);
     drop((payload, tag));
     drop(link);
-    (told, is_pending)
+    (actual, is_pending)
 }
 
 #[test]
@@ -361,12 +361,12 @@ fn settled_goes_by_mode(rt: HostRuntime) {
         (SenderSettleMode::Mixed, None, false),
         (SenderSettleMode::Mixed, Some(true), true),
     ] {
-        let told = if settled {
-            Told::Settled
+        let actual = if settled {
+            Shown::Settled
         } else {
-            Told::Unsettled
+            Shown::Unsettled
         };
-        let wanted = (told, !settled);
+        let wanted = (actual, !settled);
         assert_eq!(rt; settled_at(&rt, mode, given), wanted, "{mode:?} {given:?}");
     }
 }
@@ -381,17 +381,17 @@ fn transfer(rt: &(impl Abort + AllocGlobal), count: u8, settled: bool) -> Transf
     }
 }
 
-fn told_of_transfer(sent: &Result<(Settlement, Vec<LinkFrame>), LinkStateError>) -> Told {
+fn shown_of_transfer(sent: &Result<(Settlement, Vec<LinkFrame>), LinkStateError>) -> Shown {
     match sent {
-        Ok((settlement, _)) => told_by_settlement(settlement),
-        Err(error) => told_by_error(error),
+        Ok((settlement, _)) => shown_by_settlement(settlement),
+        Err(error) => shown_by_error(error),
     }
 }
 
-fn told_by_transfer(sent: Result<(Settlement, Vec<LinkFrame>), LinkStateError>) -> Told {
-    let told = told_of_transfer(&sent);
+fn shown_by_transfer(sent: Result<(Settlement, Vec<LinkFrame>), LinkStateError>) -> Shown {
+    let actual = shown_of_transfer(&sent);
     drop(sent);
-    told
+    actual
 }
 
 // Sends one byte with a transfer, and returns the result.
@@ -399,11 +399,11 @@ fn send_with(
     rt: &(impl Abort + AllocGlobal),
     link: &mut SenderLink<Target>,
     transfer: Transfer,
-) -> Told {
+) -> Shown {
     let payload = payload_of(rt, &[7]);
-    let told = told_by_transfer(link.send_payload_with_transfer(3, transfer, &payload));
+    let actual = shown_by_transfer(link.send_payload_with_transfer(3, transfer, &payload));
     drop(payload);
-    told
+    actual
 }
 
 // Whether the delivery with count 1 has an entry with format 3 and no state.
@@ -417,7 +417,7 @@ fn is_plainly_kept(rt: &(impl Abort + AllocGlobal), link: &SenderLink<Target>) -
 
 // The results of an unsettled transfer, the same again and a settled one, whether the first has a plain
 // entry, and how many deliveries are pending at last.
-fn sent_thrice(rt: &(impl Abort + AllocGlobal)) -> ([Told; 3], bool, usize) {
+fn sent_thrice(rt: &(impl Abort + AllocGlobal)) -> ([Shown; 3], bool, usize) {
     let mut link = link(rt, SenderSettleMode::Mixed, 64, 0);
     let first = send_with(rt, &mut link, transfer(rt, 1, false));
     let is_plain = is_plainly_kept(rt, &link);
@@ -431,8 +431,8 @@ fn sent_thrice(rt: &(impl Abort + AllocGlobal)) -> ([Told; 3], bool, usize) {
 // A pending tag refuses an unsettled transfer, not a settled one; the entry has no state.
 #[test]
 fn transfers_name_their_delivery(rt: HostRuntime) {
-    let told = [Told::Unsettled, Told::TagPending, Told::Settled];
-    assert_eq!(rt; sent_thrice(&rt), (told, true, 1));
+    let actual = [Shown::Unsettled, Shown::TagPending, Shown::Settled];
+    assert_eq!(rt; sent_thrice(&rt), (actual, true, 1));
 }
 
 // What the frames of a transfer of two bytes show.
@@ -469,8 +469,8 @@ fn frames_go_with_their_transfer(rt: HostRuntime) {
 #[test]
 fn unnamed_transfer_is_refused(rt: HostRuntime) {
     let mut link = link(&rt, SenderSettleMode::Mixed, 64, 0);
-    let told = send_with(&rt, &mut link, Transfer::default());
-    assert_eq!(rt; told, Told::IllegalState);
+    let actual = send_with(&rt, &mut link, Transfer::default());
+    assert_eq!(rt; actual, Shown::IllegalState);
     drop(link);
 }
 
@@ -480,7 +480,7 @@ fn frames_alone_need_no_tag(rt: HostRuntime) {
     let link = link(&rt, SenderSettleMode::Mixed, 64, 0);
     let bytes = payload_of(&rt, &[7]);
     let sent = link.send_transfer_without_modifying_unsettled_map(Transfer::default(), &bytes);
-    let told = sent.ok().map(|(settled, frames)| (settled, frames.len()));
-    assert_eq!(rt; told, Some((false, 1)));
+    let actual = sent.ok().map(|(settled, frames)| (settled, frames.len()));
+    assert_eq!(rt; actual, Some((false, 1)));
     drop(link);
 }

@@ -5,8 +5,8 @@ use amqp_link_core::endpoint::{LinkDetach, LinkExt};
 use amqp_link_sender::SenderLink;
 use amqp_link_state::state::LinkState;
 use amqp_link_tests_support::table::{
-    Call, STATES, answered, attached, detach, is_illegal, is_illegal_outcome, left, let_go, taken,
-    wanted,
+    Call, STATES, answered, attached, detach, detach_by, is_illegal, is_illegal_outcome, left,
+    taken, wanted,
 };
 use amqp_link_types::types::{OutputHandle, Role, SenderSettleMode, Target};
 use std::process::Abort;
@@ -24,9 +24,9 @@ fn link_in(rt: &(impl Abort + AllocGlobal), state: LinkState, limit: u32) -> Sen
 
 fn attached_in(rt: &(impl Abort + AllocGlobal), state: LinkState, limit: u32) -> (bool, LinkState) {
     let mut link = link_in(rt, state, limit);
-    let told = attached(&mut link);
+    let actual = attached(&mut link);
     drop(link);
-    told
+    actual
 }
 
 #[test]
@@ -34,8 +34,8 @@ fn attaches_that_are_sent(rt: HostRuntime) {
     for (incomplete, limit) in [(false, 512), (true, 30)] {
         let call = Call::SendAttach(incomplete);
         for (place, state) in STATES.iter().enumerate() {
-            let told = attached_in(&rt, *state, limit);
-            assert_eq!(rt; told, wanted(call, place), "{call:?} in {state:?}");
+            let actual = attached_in(&rt, *state, limit);
+            assert_eq!(rt; actual, wanted(call, place), "{call:?} in {state:?}");
         }
     }
 }
@@ -46,27 +46,27 @@ fn taken_in(
     incomplete: bool,
 ) -> (bool, LinkState) {
     let mut link = link_in(rt, state, 512);
-    let told = taken(&mut link, coming(rt, Role::Receiver, incomplete));
+    let actual = taken(&mut link, coming(rt, Role::Receiver, incomplete));
     drop(link);
-    told
+    actual
 }
 
 #[test]
-fn attaches_that_come(rt: HostRuntime) {
+fn incoming_attaches(rt: HostRuntime) {
     for incomplete in [false, true] {
         let call = Call::IncomingAttach(incomplete);
         for (place, state) in STATES.iter().enumerate() {
-            let told = taken_in(&rt, *state, incomplete);
-            assert_eq!(rt; told, wanted(call, place), "{call:?} in {state:?}");
+            let actual = taken_in(&rt, *state, incomplete);
+            assert_eq!(rt; actual, wanted(call, place), "{call:?} in {state:?}");
         }
     }
 }
 
-fn let_go_in(rt: &(impl Abort + AllocGlobal), state: LinkState, closed: bool) -> (bool, LinkState) {
+fn detach_in(rt: &(impl Abort + AllocGlobal), state: LinkState, closed: bool) -> (bool, LinkState) {
     let mut link = link_in(rt, state, 512);
-    let told = let_go(&mut link, closed);
+    let actual = detach_by(&mut link, closed);
     drop(link);
-    told
+    actual
 }
 
 #[test]
@@ -74,8 +74,8 @@ fn detaches_that_are_sent(rt: HostRuntime) {
     for closed in [false, true] {
         let call = Call::SendDetach(closed);
         for (place, state) in STATES.iter().enumerate() {
-            let told = let_go_in(&rt, *state, closed);
-            assert_eq!(rt; told, wanted(call, place), "{call:?} in {state:?}");
+            let actual = detach_in(&rt, *state, closed);
+            assert_eq!(rt; actual, wanted(call, place), "{call:?} in {state:?}");
         }
     }
 }
@@ -86,9 +86,9 @@ fn answered_in(
     closed: bool,
 ) -> (bool, LinkState) {
     let mut link = link_in(rt, state, 512);
-    let told = answered(&mut link, closed);
+    let actual = answered(&mut link, closed);
     drop(link);
-    told
+    actual
 }
 
 #[test]
@@ -96,17 +96,17 @@ fn detaches_that_answer(rt: HostRuntime) {
     for closed in [false, true] {
         let call = Call::DetachReply(closed);
         for (place, state) in STATES.iter().enumerate() {
-            let told = answered_in(&rt, *state, closed);
-            assert_eq!(rt; told, wanted(call, place), "{call:?} in {state:?}");
+            let actual = answered_in(&rt, *state, closed);
+            assert_eq!(rt; actual, wanted(call, place), "{call:?} in {state:?}");
         }
     }
 }
 
 fn left_in(rt: &(impl Abort + AllocGlobal), state: LinkState, closed: bool) -> (bool, LinkState) {
     let mut link = link_in(rt, state, 512);
-    let told = left(&mut link, closed);
+    let actual = left(&mut link, closed);
     drop(link);
-    told
+    actual
 }
 
 #[test]
@@ -114,24 +114,24 @@ fn detaches_of_the_peer(rt: HostRuntime) {
     for closed in [false, true] {
         let call = Call::RemoteDetach(closed);
         for (place, state) in STATES.iter().enumerate() {
-            let told = left_in(&rt, *state, closed);
-            assert_eq!(rt; told, wanted(call, place), "{call:?} in {state:?}");
+            let actual = left_in(&rt, *state, closed);
+            assert_eq!(rt; actual, wanted(call, place), "{call:?} in {state:?}");
         }
     }
 }
 
 // Whether a link without output handle detaches, and its state then.
-fn let_go_without_handle(rt: &(impl Abort + AllocGlobal)) -> (bool, LinkState) {
+fn detach_without_handle(rt: &(impl Abort + AllocGlobal)) -> (bool, LinkState) {
     let mut link = link_in(rt, LinkState::Attached, 512);
     *link.output_handle_mut() = None;
-    let told = let_go(&mut link, false);
+    let actual = detach_by(&mut link, false);
     drop(link);
-    told
+    actual
 }
 
 #[test]
 fn detach_without_handle_moves_the_state(rt: HostRuntime) {
-    assert_eq!(rt; let_go_without_handle(&rt), (false, LinkState::DetachSent));
+    assert_eq!(rt; detach_without_handle(&rt), (false, LinkState::DetachSent));
 }
 
 // Whether a detach without output handle, and then a closing reply, are refused with `IllegalState`.
@@ -162,9 +162,9 @@ fn refused_detaches_name_the_state(rt: HostRuntime) {
 fn attached_after_an_incomplete_one(rt: &(impl Abort + AllocGlobal)) -> (bool, LinkState) {
     let mut link = link_in(rt, LinkState::Detached, 512);
     let _ = taken(&mut link, coming(rt, Role::Receiver, true));
-    let told = attached(&mut link);
+    let actual = attached(&mut link);
     drop(link);
-    told
+    actual
 }
 
 #[test]

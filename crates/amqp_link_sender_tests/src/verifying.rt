@@ -104,9 +104,9 @@ pub(crate) fn handled(
     error: SenderAttachError,
 ) -> (Refusal, Asked, LinkState) {
     let (error, action) = link.handle_attach_error(error).expect(rt, "memory");
-    let told = (at_sender(&error), asked_by(&action), *link.local_state());
+    let actual = (at_sender(&error), asked_by(&action), *link.local_state());
     drop((error, action));
-    told
+    actual
 }
 
 // A link that refused the target's address closes with a condition, and only once.
@@ -146,9 +146,9 @@ fn handled_attached(
 ) -> (Refusal, Asked, LinkState) {
     let mut link = attaching(rt, false);
     drop(link.on_incoming_attach(attach_with(rt, Fault::Nothing)));
-    let told = handled(rt, &mut link, error);
+    let actual = handled(rt, &mut link, error);
     drop(link);
-    told
+    actual
 }
 
 #[test]

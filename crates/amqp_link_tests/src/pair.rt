@@ -44,7 +44,7 @@ fn refusals_come_in_order(rt: HostRuntime) {
 
 // Twelve bytes at a limit of 30 go as five, five and two.
 #[test]
-fn payload_comes_whole(rt: HostRuntime) {
+fn payload_is_delivered_complete(rt: HostRuntime) {
     let alloc = rt.alloc();
     let mut pair = Pair::new(alloc, 0).expect(&rt, "memory");
     let bytes = Payload::copy_from_slice(alloc, &TWELVE).expect(&rt, "memory");

@@ -70,7 +70,7 @@ pub fn fields(alloc: Global, name: &str) -> Result<Fields, AllocError> {
 
 /// The fields of a flow, without its properties.
 #[derive(Clone, Copy, Debug, PartialEq, Eq)]
-pub struct FlowTold {
+pub struct FlowFields {
     pub handle: u32,
     pub count: Option<u32>,
     pub credit: Option<u32>,
@@ -80,11 +80,11 @@ pub struct FlowTold {
 }
 
 /// The fields of a flow; none if it has properties.
-pub fn told(flow: &LinkFlow) -> Option<FlowTold> {
+pub fn flow_fields(flow: &LinkFlow) -> Option<FlowFields> {
     if flow.properties.is_some() {
         return None;
     }
-    Some(FlowTold {
+    Some(FlowFields {
         handle: flow.handle.0,
         count: flow.delivery_count,
         credit: flow.link_credit,
@@ -94,21 +94,21 @@ pub fn told(flow: &LinkFlow) -> Option<FlowTold> {
     })
 }
 
-fn told_by(
+fn fields_of_reply(
     answer: &Result<Option<LinkFlow>, LinkRelayError>,
-) -> Result<Option<FlowTold>, LinkRelayError> {
+) -> Result<Option<FlowFields>, LinkRelayError> {
     match answer {
-        Ok(Some(flow)) => Ok(told(flow)),
+        Ok(Some(flow)) => Ok(flow_fields(flow)),
         Ok(None) => Ok(None),
         Err(error) => Err(*error),
     }
 }
 
 /// The fields of the flow that a call returned as its reply, if it did.
-pub fn told_back(
+pub fn reply_fields(
     answer: Result<Option<LinkFlow>, LinkRelayError>,
-) -> Result<Option<FlowTold>, LinkRelayError> {
-    told_by(&answer)
+) -> Result<Option<FlowFields>, LinkRelayError> {
+    fields_of_reply(&answer)
 }
 
 /// Whether a call succeeded. Its result is dropped.

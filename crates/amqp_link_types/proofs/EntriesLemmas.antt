@@ -89,13 +89,13 @@ found_from_position es t i p =
     }
 
 -- the same, of a search's answer
-pub told-found : {V : Type 0} (es : Entries V) (t : Tag) (r : Option ℕ) → r ≡ position (λ e. bytes_eq t e.0) es → IfSome r (FoundAt es t)
-told-found es t None p = tt
-told-found es t (Some i) p = found_from_position es t i (sym p)
+pub index-found : {V : Type 0} (es : Entries V) (t : Tag) (r : Option ℕ) → r ≡ position (λ e. bytes_eq t e.0) es → IfSome r (FoundAt es t)
+index-found es t None p = tt
+index-found es t (Some i) p = found_from_position es t i (sym p)
 
-pub told-missing : {V : Type 0} (es : Entries V) (t : Tag) (r : Option ℕ) → r ≡ position (λ e. bytes_eq t e.0) es → IfNone r (IsMissing es t)
-told-missing es t None p = missing_from_position es t (sym p)
-told-missing es t (Some i) p = tt
+pub index-missing : {V : Type 0} (es : Entries V) (t : Tag) (r : Option ℕ) → r ≡ position (λ e. bytes_eq t e.0) es → IfNone r (IsMissing es t)
+index-missing es t None p = missing_from_position es t (sym p)
+index-missing es t (Some i) p = tt
 
 -- the empty list is a map; a put, a removal and a cut keep the tags distinct
 pub IsMap-none : (V : Type 0) → IsMap {V = V} []

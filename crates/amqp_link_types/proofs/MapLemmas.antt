@@ -109,7 +109,7 @@ module _ {X : Type 0} where
       below n = grind (arith, nat_tests)
 
 module _ {X : Type 0} where
-  -- what a look-up that finds nothing tells
+  -- what follows from a look-up that finds nothing
   pub missing_from_lookup : (m : Entries X) (tag : Tag) → entry_at m tag ≡ None → IsMissing m tag
   missing_from_lookup m tag h =
       let absent = absent_from_lookup (bytes_eq tag) m h in

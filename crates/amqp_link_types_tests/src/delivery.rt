@@ -7,7 +7,7 @@ use bytes::Bytes;
 
 // The kind of an outcome.
 #[derive(Clone, Copy, Debug, PartialEq, Eq)]
-enum Told {
+enum Shown {
     Nothing,
     Accepted,
     Released,
@@ -15,16 +15,16 @@ enum Told {
     Other,
 }
 
-fn told_by(outcome: DeliveryOutcome) -> Told {
-    let told = match &outcome {
-        Ok(None) => Told::Nothing,
-        Ok(Some(DeliveryState::Accepted)) => Told::Accepted,
-        Ok(Some(DeliveryState::Released)) => Told::Released,
-        Err(LinkStateError::RemoteClosed) => Told::Closed,
-        _ => Told::Other,
+fn shown_by(outcome: DeliveryOutcome) -> Shown {
+    let actual = match &outcome {
+        Ok(None) => Shown::Nothing,
+        Ok(Some(DeliveryState::Accepted)) => Shown::Accepted,
+        Ok(Some(DeliveryState::Released)) => Shown::Released,
+        Err(LinkStateError::RemoteClosed) => Shown::Closed,
+        _ => Shown::Other,
     };
     drop(outcome);
-    told
+    actual
 }
 
 // A delivery that the peer has accepted.
@@ -32,26 +32,30 @@ fn accepted() -> UnsettledMessage {
     UnsettledMessage::new(Bytes::new(), Some(DeliveryState::Accepted), 0)
 }
 
-fn settled() -> Told {
-    told_by(accepted().settle())
+fn settled() -> Shown {
+    shown_by(accepted().settle())
 }
 
-fn released() -> Told {
-    told_by(accepted().settle_with_state(Some(DeliveryState::Released)))
+fn released() -> Shown {
+    shown_by(accepted().settle_with_state(Some(DeliveryState::Released)))
 }
 
-fn settled_without_a_state() -> Told {
-    told_by(accepted().settle_with_state(None))
+fn settled_without_a_state() -> Shown {
+    shown_by(accepted().settle_with_state(None))
 }
 
-fn failed() -> Told {
-    told_by(accepted().fail(LinkStateError::RemoteClosed))
+fn failed() -> Shown {
+    shown_by(accepted().fail(LinkStateError::RemoteClosed))
 }
 
 #[test]
 fn deliveries_end(rt: HostRuntime) {
-    assert_eq!(rt; settled(), Told::Accepted, "with the state that is known");
-    assert_eq!(rt; released(), Told::Released, "with another state");
-    assert_eq!(rt; settled_without_a_state(), Told::Nothing, "without a state");
-    assert_eq!(rt; failed(), Told::Closed, "for a reason");
+    assert_eq!(rt; settled(), Shown::Accepted, "with the state that is known");
+    assert_eq!(rt; released(), Shown::Released, "with another state");
+    assert_eq!(rt;
+        settled_without_a_state(),
+        Shown::Nothing,
+        "without a state"
+    );
+    assert_eq!(rt; failed(), Shown::Closed, "for a reason");
 }

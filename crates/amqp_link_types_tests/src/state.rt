@@ -16,7 +16,7 @@ fn sender_at(delivery_count: SequenceNo) -> LinkFlowState<SenderMarker> {
 }
 
 // Handle, count, credit, what is available, drain and echo of a flow without properties.
-fn told(flow: &LinkFlow) -> Option<(u32, u32, u32, u32, bool, bool)> {
+fn fields(flow: &LinkFlow) -> Option<(u32, u32, u32, u32, bool, bool)> {
     if flow.properties.is_some() {
         return None;
     }
@@ -55,7 +55,7 @@ enum Reply {
 
 fn answered_by(reply: Option<LinkFlow>) -> Reply {
     let answered = match &reply {
-        Some(flow) => Reply::Flow(told(flow)),
+        Some(flow) => Reply::Flow(fields(flow)),
         None => Reply::Nothing,
     };
     drop(reply);
@@ -104,8 +104,8 @@ fn credit_is_counted_from_the_count_of_the_flow(rt: HostRuntime) {
 fn drain_takes_all_credit_to_the_count(rt: HostRuntime) {
     let mut state = sender_at(4294967294);
     let reply = answered(&mut state, Some(4294967294), Some(3), true);
-    let told = Some((7, 1, 0, 0, true, false));
-    assert_eq!(rt; reply, Reply::Flow(told));
+    let fields = Some((7, 1, 0, 0, true, false));
+    assert_eq!(rt; reply, Reply::Flow(fields));
     assert_eq!(rt; state.delivery_count(), 1);
     assert_eq!(rt; state.link_credit(), 0);
     drop(state);
@@ -133,8 +133,8 @@ fn receiver_takes_count_and_available(rt: HostRuntime) {
         echo: true,
         ..LinkFlow::default()
     };
-    let told = Some((7, 7, 4, 3, true, false));
-    assert_eq!(rt; taken(&mut state, flow), Reply::Flow(told));
+    let fields = Some((7, 7, 4, 3, true, false));
+    assert_eq!(rt; taken(&mut state, flow), Reply::Flow(fields));
     let silent = LinkFlow::default();
     assert_eq!(rt; taken(&mut state, silent), Reply::Nothing);
     assert!(rt; state.consume(5).is_err());
@@ -203,7 +203,7 @@ fn stated(rt: &(impl Abort + AllocGlobal), included: bool) -> Option<Seen> {
 }
 
 #[test]
-fn flows_tell_how_an_end_stands(rt: HostRuntime) {
+fn flows_carry_the_state_of_an_endpoint(rt: HostRuntime) {
     let with_properties = Some((1, Some(5), Some(4), Some(6), true, true));
     assert_eq!(rt; flow_of(&rt, true, true), with_properties);
     let bare = Some((0, Some(5), Some(4), Some(6), true, false));

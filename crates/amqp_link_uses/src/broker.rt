@@ -11,7 +11,7 @@ ghost use Rattle.std.specs.List.{concat};
 ghost use Rattle.amqp_link.specs.Ending.{does_end, ended_by, map_after_receiver_disposition};
 ghost use Rattle.amqp_link.specs.Frames.{payload_of};
 ghost use Rattle.amqp_link.specs.Held.{held_bytes};
-ghost use Rattle.amqp_link.specs.Keeping.{after_one, said_of_one};
+ghost use Rattle.amqp_link.specs.Keeping.{after_one, disposition_of_one};
 ghost use Rattle.amqp_link_uses.specs.Brokers.{bytes_before, bytes_of, is_complete, state_for};
 
 use amqp_link::delivery::{DeliveryOutcome, Settlement};
@@ -44,11 +44,11 @@ pub fn take_in(
     ensures last { IfOk result (λ arrival. is_complete arrival ≡ not transfer.more) }
 {
     let is_last = !transfer.more;
-    let Ok((frame, told)) = link.on_incoming_transfer(transfer, payload) else {
+    let Ok((frame, entry)) = link.on_incoming_transfer(transfer, payload) else {
         drop(begun);
         return Err(ReceiverTransferError::OutOfMemory);
     };
-    drop(told); // A session that maps ids to tags keeps this.
+    drop(entry); // A session that maps ids to tags keeps this.
     let held = match frame {
         LinkFrame::RemoteTransfer(arrived) => {
             joined(alloc, begun, arrived.performative, arrived.payload)?
@@ -132,7 +132,7 @@ pub fn pass_outcome_back(
     } }
     ensures none { does_end settled state ≡ false → (result ≡ Ok None) × (incoming.new ≡ incoming.old) }
     ensures passed { IfSome (ended_by settled state tag.now outgoing.old.unsettled) (λ ended.
-        (result ≡ Ok (said_of_one (Some true) incoming.old.rcv_settle_mode (state_for ended.1) false info.now incoming.old.unsettled))
+        (result ≡ Ok (disposition_of_one (Some true) incoming.old.rcv_settle_mode (state_for ended.1) false info.now incoming.old.unsettled))
         × (incoming.new ≡ record incoming.old {
           unsettled = after_one true (state_for ended.1) info.now.delivery_tag incoming.old.unsettled;
         })) }

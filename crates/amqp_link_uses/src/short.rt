@@ -2,7 +2,7 @@
 ghost use Rattle.std.specs.Prelude.{◌≡◌, true, false, map, Some, IfOk, IfSome, OnOk, OnErr};
 ghost use Rattle.std.specs.List.{concat};
 ghost use Rattle.amqp_link.specs.Frames.{payload_of};
-ghost use Rattle.amqp_link.specs.Keeping.{after_one, said_of_one};
+ghost use Rattle.amqp_link.specs.Keeping.{after_one, disposition_of_one};
 
 use amqp_link::errors::{DispositionError, LinkStateError, ReceiverTransferError};
 use amqp_link::types::{Attach, LinkFlow, Target, Transfer};
@@ -49,10 +49,10 @@ pub fn receive_one(
 ) -> Result<Delivery<Whole>, ReceiverTransferError>
     ensures { IfOk result (λ delivery. delivery.message.body.0 ≡ payload) }
 {
-    let Ok((frame, told)) = link.on_incoming_transfer(transfer, payload) else {
+    let Ok((frame, entry)) = link.on_incoming_transfer(transfer, payload) else {
         return Err(ReceiverTransferError::OutOfMemory);
     };
-    drop(told); // what the session needs to map ids to tags
+    drop(entry); // what the session needs to map ids to tags
     let held = match frame {
         LinkFrame::RemoteTransfer(arrived) => {
             IncompleteTransfer::start(alloc, arrived.performative, arrived.payload)?
@@ -70,7 +70,7 @@ pub fn accept(
     link: &mut ReceiverLink<Target>,
     delivery: &Delivery<Whole>,
 ) -> Result<Option<LinkFrame>, DispositionError>
-    ensures told { IfOk result (λ frame. frame ≡ said_of_one (Some true) link.old.rcv_settle_mode DeliveryState.Accepted false
+    ensures entry { IfOk result (λ frame. frame ≡ disposition_of_one (Some true) link.old.rcv_settle_mode DeliveryState.Accepted false
         delivery.now.info link.old.unsettled) }
     ensures after { OnOk result (link.new ≡ record link.old {
       unsettled = after_one true DeliveryState.Accepted delivery.now.info.delivery_tag link.old.unsettled;

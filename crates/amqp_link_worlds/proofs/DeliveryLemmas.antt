@@ -34,7 +34,7 @@ use Rattle.amqp_link_worlds.specs.Resumptions.{rest_of}
 use Rattle.amqp_link_worlds.specs.Wires.{payload_of_all}
 use Rattle.amqp_link_worlds.specs.Worlds.{EndsInTime, IsGood, IsGoodIn, IsOpen, IsFront, bytes_in, received_at}
 use Rattle.amqp_link_worlds.specs.declared.progress.Progress.{Progress}
-use Rattle.amqp_link_worlds.specs.Steps.{delivery_transfer, begun, held_after, received}
+use Rattle.amqp_link_worlds.specs.Steps.{delivery_transfer, initial_progress, held_after, received}
 use Rattle.amqp_link_worlds.specs.Receiving.{CanReceive}
 use Rattle.amqp_link_worlds.specs.Invariants.{IsNamed, IsContinuing, IsOpening, IsContinuation, IsNext, IsHeld, IsUnderWay, IsKeptAs}
 use Rattle.amqp_link_ledger.proofs.ListSteps.{some_is_none}
@@ -349,7 +349,7 @@ are_sent s h tag r bytes held whole frames input sent =
     (frames_from h tag r (length frames) 0 frames (omega arith) (λ i d l. subst (λ j. slice_index_or frames i d ≡ frame_of h (delivery_transfer tag r) j (length frames) (payload_of (slice_index_or frames i d))) (let z : i ≡ 0 + i = omega arith in z) (each i d l)))
 
 pub way_sent : (tag : Tag) (payload : List ℕ) (frames : List LinkFrame) → length tag ≡ 4 → length payload < 2 ^ 32 → AreSent tag payload None false frames
-    → IsUnderWay true tag (new_entry 0 payload) begun None frames
+    → IsUnderWay true tag (new_entry 0 payload) initial_progress None frames
 way_sent tag payload frames four short sent = record {
   good = record {
     front = (payload, refl);

@@ -15,7 +15,7 @@ use Rattle.amqp_link_worlds.specs.declared.event.AnswerOf.{AnswerOf}
 use Rattle.amqp_link_worlds.specs.declared.event.AnswerOf.TheVariants as answer
 use Rattle.amqp_link_worlds.specs.declared.event.Event.{Event}
 use Rattle.amqp_link_worlds.specs.declared.event.Event.TheVariants.{Attach, Grant, Send, Arrive, Cut, ResumeNext, PutBackNext, HandOut, Settle}
-use Rattle.amqp_link_worlds.specs.Steps.{after_hand_out, begun, received, attach_tests, send_tests, next_tests}
+use Rattle.amqp_link_worlds.specs.Steps.{after_hand_out, initial_progress, received, attach_tests, send_tests, next_tests}
 use Rattle.amqp_link_worlds.specs.Worlds.{World, is_out, is_out_at, is_together}
 use Rattle.amqp_link_worlds.specs.declared.error.PairError.{PairError}
 use Rattle.amqp_link_worlds.specs.declared.error.PairError.TheVariants.{Decode, OutOfMemory}
@@ -68,10 +68,10 @@ module _ {B : Type 0} (decoded : List ℕ → Result (Message B) DecodeError) wh
       let on : is_together old.phase ≡ true = not_is_false (is_together old.phase) (none_hold (send_tests old payload) may).0 in
       by_tag (λ t. OutFollows t old (Send payload) (answer.Sent sent count) new) sent
       (ap (λ (w : World). is_out_at w sent) d.world
-      ∙ same_out on (entry_at-put old.ledger.link.unsettled sent (new_entry 0 payload)) (entry_at-put old.deliveries sent begun)
+      ∙ same_out on (entry_at-put old.ledger.link.unsettled sent (new_entry 0 payload)) (entry_at-put old.deliveries sent initial_progress)
       ∙ sym (ap (λ b. b || is_out_at old sent) (same_tag sent)))
       (λ other n. ap (λ (w : World). is_out_at w other) d.world
-      ∙ same_out refl (entry_at-put_other old.ledger.link.unsettled sent other (new_entry 0 payload) n) (entry_at-put_other old.deliveries sent other begun n)
+      ∙ same_out refl (entry_at-put_other old.ledger.link.unsettled sent other (new_entry 0 payload) n) (entry_at-put_other old.deliveries sent other initial_progress n)
       ∙ sym (ap (λ b. b || is_out_at old other) (other_tag other sent n)))
       tag
   out_follows tag old new (Arrive id) (answer.Arrived at section offset whole) k may d =

@@ -27,7 +27,7 @@ use Rattle.amqp_link_worlds.specs.declared.event.AnswerOf.{AnswerOf}
 use Rattle.amqp_link_worlds.specs.declared.event.AnswerOf.TheVariants as answer
 use Rattle.amqp_link_worlds.specs.declared.event.Event.{Event}
 use Rattle.amqp_link_worlds.specs.declared.event.Event.TheVariants.{Attach, Grant, Send, Arrive, Cut, ResumeNext, PutBackNext, HandOut, Settle}
-use Rattle.amqp_link_worlds.specs.Steps.{hand_out_tests, list_to_resume, after_hand_out, begun, received}
+use Rattle.amqp_link_worlds.specs.Steps.{hand_out_tests, list_to_resume, after_hand_out, initial_progress, received}
 use Rattle.amqp_link_worlds.specs.declared.error.PairError.{PairError}
 use Rattle.amqp_link_worlds.specs.declared.error.PairError.TheVariants.{NotAttached, Decode, OutOfMemory}
 use Rattle.amqp_link_worlds.specs.declared.progress.Progress.{Progress}
@@ -222,9 +222,9 @@ module _ {B : Type 0} (decoded : List ℕ → Result (Message B) DecodeError) wh
   done_goes tag old new (Grant n) (answer.Granted credit) k may d = stays_on tag old new (Stays-by tag old new _ d.world refl refl)
   done_goes tag old new (Send payload) (answer.Sent sent count) k may d =
       by_tag (λ t. Goes t old (Ok (answer.Sent sent count)) new) sent
-      (λ bytes h o. ap (λ b. cond b [] (bytes ++ [])) (same_tag sent) ∙ sym (ap (λ (w : World). bytes_at w sent) d.world ∙ ap (λ q. bytes_in (held_of q)) (entry_at-put old.deliveries sent begun)))
+      (λ bytes h o. ap (λ b. cond b [] (bytes ++ [])) (same_tag sent) ∙ sym (ap (λ (w : World). bytes_at w sent) d.world ∙ ap (λ q. bytes_in (held_of q)) (entry_at-put old.deliveries sent initial_progress)))
       (λ other n bytes h o. ap (λ b. cond b [] (bytes ++ [])) (other_tag other sent n)
-      ∙ stays_on other old new (Stays-by other old new _ d.world (ap held_of (entry_at-put_other old.deliveries sent other begun n)) (fates_registered_other sent other old.ledger.records n)) bytes h o)
+      ∙ stays_on other old new (Stays-by other old new _ d.world (ap held_of (entry_at-put_other old.deliveries sent other initial_progress n)) (fates_registered_other sent other old.ledger.records n)) bytes h o)
       tag
   done_goes tag old new (Arrive id) (answer.Arrived at section offset whole) k may d =
       by_tag (λ t. Goes t old (Ok (answer.Arrived at section offset whole)) new) at
@@ -307,7 +307,7 @@ module _ {B : Type 0} (decoded : List ℕ → Result (Message B) DecodeError) wh
       run_goes tag m.after new moments (arrived_after tag m.answer m.before bytes) (IsWorld-steps m.before m.after m.event m.answer kept r.1) r.2
       (λ o. step_goes tag m.before m.after m.event m.answer kept r.1 bytes before o) o
 
-  -- the whole list says the same
+  -- the same of the whole list
   all_since : (tag : Tag) (moments : List (Moment decoded)) → list_any (does_send decoded tag) moments ≡ false → since_send decoded tag moments ≡ moments
   all_since tag [] h = refl
   all_since tag (m ∷ moments) h = since (is_send_of tag m.answer) (list_any (does_send decoded tag) moments) h

@@ -22,7 +22,7 @@ use Rattle.amqp_link_worlds.specs.PairRuns.{Moment, last_sent}
 use Rattle.amqp_link_worlds.specs.declared.event.AnswerOf.TheVariants as answer
 use Rattle.amqp_link_worlds.specs.declared.event.Event.TheVariants as event
 use Rattle.amqp_link_worlds.specs.Resumptions.{entry_of, rest_of, resumes}
-use Rattle.amqp_link_worlds.specs.Steps.{delivery_transfer, begun, received, new_sender, new_receiver, new_world, attaches_fit, is_halfway_at_other, attach_tests, grant_tests, send_tests, arrive_tests, cut_tests, next_tests, settle_tests}
+use Rattle.amqp_link_worlds.specs.Steps.{delivery_transfer, initial_progress, received, new_sender, new_receiver, new_world, attaches_fit, is_halfway_at_other, attach_tests, grant_tests, send_tests, arrive_tests, cut_tests, next_tests, settle_tests}
 use Rattle.amqp_link_worlds.specs.Wires.{OnWire, under, frames_of, payload_of_all}
 use Rattle.amqp_link_worlds.specs.Worlds.{World, Apart, Halfway, Together, IsGood, is_out, bytes_in, receiver_entry}
 use Rattle.amqp_link_worlds.specs.declared.error.PairError.TheVariants as error
@@ -64,7 +64,7 @@ own_bytes : payload_of_all (frames_of tag wire) ≡ 1 ∷ 2 ∷ 3 ∷ []
 own_bytes = refl
 
 abbrev after_one : Progress
-after_one = received begun 5 first
+after_one = received initial_progress 5 first
 
 held_then : (bytes_in after_one.held ≡ 1 ∷ 2 ∷ []) × (after_one.whole ≡ false)
 held_then = (refl, refl)
@@ -126,8 +126,8 @@ good_while_listed = record {
 abbrev entry : List ℕ → UnsettledMessage
 entry payload = new_entry 0 payload
 
-out_values : (is_out true (Some (entry [])) begun ≡ true) × (is_out true (Some (entry [])) (record begun { put_back = true }) ≡ false)
-    × (is_out false (Some (entry [])) begun ≡ false) × (is_out true None begun ≡ false)
+out_values : (is_out true (Some (entry [])) initial_progress ≡ true) × (is_out true (Some (entry [])) (record initial_progress { put_back = true }) ≡ false)
+    × (is_out false (Some (entry [])) initial_progress ≡ false) × (is_out true None initial_progress ≡ false)
 out_values = (refl, refl, refl, refl)
 
 -- ---- deliveries of a list to resume

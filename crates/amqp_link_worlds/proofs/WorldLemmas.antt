@@ -36,7 +36,7 @@ use Rattle.amqp_link_worlds.specs.Wires.{OnWire, under, frames_of}
 use Rattle.amqp_link_worlds.specs.Worlds.{World, Phase, Apart, Halfway, Together, is_together, Standing, standing, entry_in, Good, IsOpen, bytes_in, held_at, received_at, receiver_entry}
 use Rattle.amqp_link_worlds.specs.declared.error.PairError.{PairError}
 use Rattle.amqp_link_worlds.specs.declared.progress.Progress.{Progress}
-use Rattle.amqp_link_worlds.specs.Steps.{Attaches, StopsAt, AttachStop, Asked, Taken, Answered, receiver_at, Grants, with_credit, Sends, Arrives, Cuts, Resumes, PutsBack, after_hand_out, Settles, received, begun, after_registration, after_one_credit, list_to_resume, ledger_together, sender_together, sender_asking, receiver_together, receiver_half_attached, receiver_at_limit, new_world, attach_tests, send_tests, arrive_tests, cut_tests, next_tests, settle_tests, is_empty, attaches_fit}
+use Rattle.amqp_link_worlds.specs.Steps.{Attaches, StopsAt, AttachStop, Asked, Taken, Answered, receiver_at, Grants, with_credit, Sends, Arrives, Cuts, Resumes, PutsBack, after_hand_out, Settles, received, initial_progress, after_registration, after_one_credit, list_to_resume, ledger_together, sender_together, sender_asking, receiver_together, receiver_half_attached, receiver_at_limit, new_world, attach_tests, send_tests, arrive_tests, cut_tests, next_tests, settle_tests, is_empty, attaches_fit}
 use Rattle.amqp_link_worlds.specs.Receiving.{CanReceive}
 use Rattle.amqp_link_worlds.specs.Invariants.{IsWorld, IsKept, IsKeptAs, IsUnderWay, IsListed, IsLatest, AreOver, HaveMoved, IsPlainReceiver, AreEnds, AreTogether, AreHalfway, IsOnWay}
 use Rattle.std.specs.Map.{keys_of}
@@ -274,7 +274,7 @@ module _ (old new : World) (payload tag : Tag) (count : ℕ) (k : IsWorld old) (
   sent : World
   sent = record old {
     ledger = after_registration (after_one_credit old.ledger) tag (new_entry 0 payload);
-    deliveries = with_entry old.deliveries tag begun;
+    deliveries = with_entry old.deliveries tag initial_progress;
     wire = old.wire ++ under tag a.frames;
   }
 
@@ -297,13 +297,13 @@ module _ (old new : World) (payload tag : Tag) (count : ℕ) (k : IsWorld old) (
       let four : length tag ≡ 4 = ap length a.tagged ∙ length-next_tag old.ledger.link in
       let frames : AreSent tag payload None false a.frames = are_sent old.ledger.link (record { 0 = 0 }) tag false payload None false a.frames (input_of old.phase old.ledger.link old.receiver together_sent k.ends) a.framed in
       subst (λ b. IsKept b tag (standing sent tag)) (sym together_sent)
-      (subst (IsKept true tag) (stands (sym (entry_at-put old.ledger.link.unsettled tag (new_entry 0 payload))) (sym unlisted) (sym (entry_at-put old.deliveries tag begun)) (sym before.1) (sym (frames_sent tag old.wire a.frames before.2)) (sym (fates_registered tag old.ledger.records)))
+      (subst (IsKept true tag) (stands (sym (entry_at-put old.ledger.link.unsettled tag (new_entry 0 payload))) (sym unlisted) (sym (entry_at-put old.deliveries tag initial_progress)) (sym before.1) (sym (frames_sent tag old.wire a.frames before.2)) (sym (fates_registered tag old.ledger.records)))
       (way_sent tag payload a.frames four short frames, latest_entered (fates_of tag old.ledger.records) before.3.before))
 
   there_sent : (other : Tag) → other ≢ tag → IsKept (is_together old.phase) other (standing sent other)
   unfolding sent
   there_sent other n =
-      subst (IsKept (is_together old.phase) other) (stands (sym (entry_at-put_other old.ledger.link.unsettled tag other (new_entry 0 payload) n)) refl (sym (entry_at-put_other old.deliveries tag other begun n)) refl (sym (frames_sent_other other tag old.wire a.frames n)) (sym (fates_registered_other tag other old.ledger.records n)))
+      subst (IsKept (is_together old.phase) other) (stands (sym (entry_at-put_other old.ledger.link.unsettled tag other (new_entry 0 payload) n)) refl (sym (entry_at-put_other old.deliveries tag other initial_progress n)) refl (sym (frames_sent_other other tag old.wire a.frames n)) (sym (fates_registered_other tag other old.ledger.records n)))
       (k.each other)
 
   pub IsWorld-sends : IsWorld new
@@ -314,7 +314,7 @@ module _ (old new : World) (payload tag : Tag) (count : ℕ) (k : IsWorld old) (
     receiver = k.receiver;
     unsettled = IsMap-put old.ledger.link.unsettled tag (new_entry 0 payload) k.unsettled;
     reports = k.reports;
-    deliveries = IsMap-put old.deliveries tag begun k.deliveries;
+    deliveries = IsMap-put old.deliveries tag initial_progress k.deliveries;
     resuming = k.resuming;
     apart = k.apart;
     each = by_tag (λ t. IsKept (is_together old.phase) t (standing sent t)) tag here_sent there_sent;
@@ -569,11 +569,11 @@ pub settled_stands : (b : Bool) (tag : Tag) (own : Option UnsettledMessage) (lis
 settled_stands b tag None None q reported frames fates is held k =
     absurd (false_is_not_true (ap (λ (q : Option Progress). is_some (option_and_then (λ p. p.held) q)) (sym k.0) ∙ held))
 settled_stands b tag (Some entry) None None reported frames fates is held k = absurd k
-settled_stands b tag (Some entry) None (Some p) reported frames fates is held k = (refl, ap is_some k.0.good.report ∙ said p.held held, k.1)
+settled_stands b tag (Some entry) None (Some p) reported frames fates is held k = (refl, ap is_some k.0.good.report ∙ stated p.held held, k.1)
   where
-    said : (h : Option Held) → is_some h ≡ true → is_some (receiver_entry h) ≡ true
-    said None held = absurd (false_is_not_true held)
-    said (Some h) held = refl
+    stated : (h : Option Held) → is_some h ≡ true → is_some (receiver_entry h) ≡ true
+    stated None held = absurd (false_is_not_true held)
+    stated (Some h) held = refl
 settled_stands b tag None (Some next) q reported frames fates is held k = absurd (some_is_none is)
 settled_stands b tag (Some entry) (Some next) q reported frames fates is held k = absurd k
 
@@ -657,10 +657,10 @@ resuming_kept b tag (Some own) (Some p) reported frames fates entry is k =
     subst (λ e. IsResuming (resolution tag e reported)) (some_is is) (goes_on_from own p.held, answer_kept (b && not p.put_back) tag own p reported frames k.0)
 
 -- what the receiver names is registered
-registered_kept : (b : Bool) (tag : Tag) (own : Option UnsettledMessage) (q : Option Progress) (reported : Option (Option DeliveryState)) (frames : List LinkFrame) (fates : List Fate) (said : Option DeliveryState)
-    → reported ≡ Some said → IsKeptAs b tag own None q reported frames fates → is_none own ≡ false
-registered_kept b tag None q reported frames fates said is k = absurd (some_is_none (sym is ∙ k.1))
-registered_kept b tag (Some own) q reported frames fates said is k = refl
+registered_kept : (b : Bool) (tag : Tag) (own : Option UnsettledMessage) (q : Option Progress) (reported : Option (Option DeliveryState)) (frames : List LinkFrame) (fates : List Fate) (stated : Option DeliveryState)
+    → reported ≡ Some stated → IsKeptAs b tag own None q reported frames fates → is_none own ≡ false
+registered_kept b tag None q reported frames fates stated is k = absurd (some_is_none (sym is ∙ k.1))
+registered_kept b tag (Some own) q reported frames fates stated is k = refl
 
 attached_kept : (tag : Tag) (own : Option UnsettledMessage) (q : Option Progress) (reported : Option (Option DeliveryState)) (frames : List LinkFrame) (fates : List Fate)
     → IsKeptAs false tag own None q reported frames fates
@@ -705,7 +705,7 @@ module _ (old : World) (k : IsWorld old) (off : is_together old.phase ≡ false)
   all_go_on = each_pair (λ e. IsResuming (answer_to remote_map e.0 e.1)) own_map k.unsettled (λ tag entry found. resuming_kept false tag _ _ _ _ _ entry found (before_attach tag))
 
   all_known : AllByRecursion (λ e. is_none (entry_at own_map e.0) ≡ false) remote_map
-  all_known = each_pair (λ e. is_none (entry_at own_map e.0) ≡ false) remote_map k.reports (λ tag said found. registered_kept false tag _ _ _ _ _ said found (before_attach tag))
+  all_known = each_pair (λ e. is_none (entry_at own_map e.0) ≡ false) remote_map k.reports (λ tag stated found. registered_kept false tag _ _ _ _ _ stated found (before_attach tag))
 
   -- no outcome is returned, and the list is that of the sender's map in order
   pub attach_returns_none : outcomes_returned own_map remote_map ≡ []

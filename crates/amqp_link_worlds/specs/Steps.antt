@@ -56,8 +56,8 @@ delivery_transfer tag resume =
     record silent { delivery_tag = Some tag; message_format = Some 0; settled = Some false; resume = resume }
 
 -- a delivery that was just sent, and of which nothing has arrived
-abbrev pub begun : Progress
-begun = record { held = None; whole = false; put_back = false; taken = false }
+abbrev pub initial_progress : Progress
+initial_progress = record { held = None; whole = false; put_back = false; taken = false }
 
 -- the fields of a delivery after a transfer has arrived: a first transfer gives it this id
 abbrev pub fields_after : Transfer → ℕ → LinkFrame → Transfer
@@ -234,7 +234,7 @@ attaches_fit s r limit =
 
 -- whether an attach has begun at another frame limit, and not finished
 abbrev pub is_halfway_at_other : ℕ → Phase → Bool
-is_halfway_at_other limit (Halfway begun) = not (limit == begun)
+is_halfway_at_other limit (Halfway initial_progress) = not (limit == initial_progress)
 is_halfway_at_other limit _ = false
 
 abbrev pub PairTests : Type 0
@@ -358,7 +358,7 @@ pub record Sends (old : World) (payload : List ℕ) (tag : Tag) (count : ℕ) (n
   pub counted : count ≡ length frames
   pub world : new ≡ record old {
     ledger = after_registration (after_one_credit old.ledger) tag (new_entry 0 payload);
-    deliveries = with_entry old.deliveries tag begun;
+    deliveries = with_entry old.deliveries tag initial_progress;
     wire = old.wire ++ under tag frames;
   }
 

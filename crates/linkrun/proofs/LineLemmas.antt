@@ -1,18 +1,18 @@
--- What is read behind a word is what the line says there, and an event is a word alone, or has a number or bytes.
+-- What is read behind a word is what stands there in the line, and an event is a word alone, or has a number or bytes.
 use Rattle.std.proofs.Common.{◌≡◌, ℕ, ◌<◌, ◌^◌, List, ◌++◌, Option, Some, None, Result, Ok, Err, Vec, Global, refl, sym, ◌∙◌}
 use Rattle.std.specs.Prelude.{MatchOption, IfOk, OnErr}
 use Rattle.std.specs.Option.{SomeIff, option_map}
 use Rattle.std.specs.Str.Parse.{IsNumeral, digits_value}
 use Rattle.std.proofs.lemmas.List.{append_cancel_left}
 use Rattle.line_text.specs.Hex.{IsHexText, hex_bytes}
-use Rattle.linkrun.specs.Line.{IsNumber, IsBytes, Begins, Says, SaysNoWord, SaysNoNumber, SaysNoBytes}
+use Rattle.linkrun.specs.Line.{IsNumber, IsBytes, Begins, Denotes, DenotesNoWord, DenotesNoNumber, DenotesNoBytes}
 use Rattle.linkrun.specs.declared.event.Event.{Event}
 use Rattle.linkrun.specs.declared.event.Event.TheVariants.{Call, Show, Fate}
 use Rattle.amqp_link.specs.declared.Event.TheVariants as call
 
 -- behind the word stands nothing but the text
-pub not_begun : (word line text : List ℕ) (P : List ℕ → Type 0) → line ≡ word ++ text → ¬ (P text) → ¬ (Begins word P line)
-not_begun word line text P is none = λ (rest, same, fact).
+pub begins_not : (word line text : List ℕ) (P : List ℕ → Type 0) → line ≡ word ++ text → ¬ (P text) → ¬ (Begins word P line)
+begins_not word line text P is none = λ (rest, same, fact).
     let rests : text ≡ rest = append_cancel_left word _ _ (sym is ∙ same) in none (rw rests fact)
 
 -- the number that is read of the text
@@ -22,7 +22,7 @@ pub number_read : (word line text : List ℕ) (found : Option ℕ) → line ≡ 
 number_read word line text (Some n) is read =
     (text, is, record { digits = read.0.0; value = sym read.1; fits = rw (read.1) read.0.1 })
 number_read word line text None is read = λ n.
-    not_begun word line text (λ rest. IsNumber rest n) is (λ number. read (number.digits, rw (number.value) number.fits))
+    begins_not word line text (λ rest. IsNumber rest n) is (λ number. read (number.digits, rw (number.value) number.fits))
 
 -- the bytes that are read of the text
 pub bytes_read : {E : Type 0} (word line text : List ℕ) (read : Result (Option (Vec ℕ Global)) E) → line ≡ word ++ text
@@ -31,7 +31,7 @@ pub bytes_read : {E : Type 0} (word line text : List ℕ) (read : Result (Option
     ((bytes : List ℕ) → ¬ (Begins word (λ rest. IsBytes rest bytes) line)) (λ bytes. Begins word (λ rest. IsBytes rest bytes.items) line))
 bytes_read word line text (Ok (Some bytes)) is read = (text, is, record { digits = read.0; value = read.1 })
 bytes_read word line text (Ok None) is read = λ bytes.
-    not_begun word line text (λ rest. IsBytes rest bytes) is (λ said. read (said.digits))
+    begins_not word line text (λ rest. IsBytes rest bytes) is (λ denoted. read (denoted.digits))
 bytes_read word line text (Err error) is read = tt
 
 -- memory is asked for only where the text writes bytes
@@ -42,14 +42,14 @@ bytes_written word line text (Err error) is digits = (hex_bytes text, (text, is,
 
 -- of the events with a number, the last is read
 pub fate_read : (line : List ℕ) (found : Option ℕ)
-    → ((n : ℕ) → ¬ (Says line (Call (call.Attach n)))) → ((n : ℕ) → ¬ (Says line (Call (call.Grant n)))) → ((n : ℕ) → ¬ (Says line (Call (call.Arrive n))))
-    → MatchOption found ((n : ℕ) → ¬ (Says line (Fate n))) (λ n. Says line (Fate n))
-    → MatchOption (option_map Fate found) (SaysNoNumber line) (Says line)
-fate_read line (Some n) attach grant arrive said = said
+    → ((n : ℕ) → ¬ (Denotes line (Call (call.Attach n)))) → ((n : ℕ) → ¬ (Denotes line (Call (call.Grant n)))) → ((n : ℕ) → ¬ (Denotes line (Call (call.Arrive n))))
+    → MatchOption found ((n : ℕ) → ¬ (Denotes line (Fate n))) (λ n. Denotes line (Fate n))
+    → MatchOption (option_map Fate found) (DenotesNoNumber line) (Denotes line)
+fate_read line (Some n) attach grant arrive denoted = denoted
 fate_read line None attach grant arrive fate = λ n. (attach n, grant n, arrive n, fate n)
 
 -- an event is a word alone, or has a number or bytes
-no_event : (line : List ℕ) → SaysNoWord line → SaysNoNumber line → SaysNoBytes line → (event : Event) → ¬ (Says line event)
+no_event : (line : List ℕ) → DenotesNoWord line → DenotesNoNumber line → DenotesNoBytes line → (event : Event) → ¬ (Denotes line event)
 no_event line words numbers bytes (Call (call.Attach limit)) = (numbers limit).0
 no_event line words numbers bytes (Call (call.Grant credit)) = (numbers credit).1
 no_event line words numbers bytes (Call (call.Send payload)) = (bytes payload).0
@@ -63,15 +63,15 @@ no_event line words numbers bytes (Show tag) = (bytes tag).3
 no_event line words numbers bytes (Fate number) = (numbers number).3
 
 -- the event that is read last, with its bytes
-pub event_read : {E : Type 0} (line : List ℕ) (read : Result (Option Event) E) → SaysNoWord line → SaysNoNumber line
-    → IfOk read (λ found. MatchOption found (SaysNoBytes line) (Says line))
-    → IfOk read (λ found. MatchOption found ((event : Event) → ¬ (Says line event)) (Says line))
-event_read line (Ok (Some event)) words numbers said = said
+pub event_read : {E : Type 0} (line : List ℕ) (read : Result (Option Event) E) → DenotesNoWord line → DenotesNoNumber line
+    → IfOk read (λ found. MatchOption found (DenotesNoBytes line) (Denotes line))
+    → IfOk read (λ found. MatchOption found ((event : Event) → ¬ (Denotes line event)) (Denotes line))
+event_read line (Ok (Some event)) words numbers denoted = denoted
 event_read line (Ok None) words numbers bytes = no_event line words numbers bytes
 event_read line (Err error) words numbers read = tt
 
--- bytes that the line says behind a word make an event, of which an error may speak
-pub event_said : {T E : Type 0} (result : Result T E) (line : List ℕ) (made : List ℕ → Event)
-    → ((bytes : List ℕ) × Says line (made bytes)) → OnErr result ((event : Event) × Says line event)
-event_said (Ok value) line made said = tt
-event_said (Err error) line made (bytes, said) = (made bytes, said)
+-- bytes behind a word of the line make an event, of which an error may speak
+pub event_denoted : {T E : Type 0} (result : Result T E) (line : List ℕ) (made : List ℕ → Event)
+    → ((bytes : List ℕ) × Denotes line (made bytes)) → OnErr result ((event : Event) × Denotes line event)
+event_denoted (Ok value) line made denoted = tt
+event_denoted (Err error) line made (bytes, denoted) = (made bytes, denoted)

@@ -22,27 +22,27 @@ abbrev pub Begins : List ℕ → (List ℕ → Type 0) → List ℕ → Type 0
 Begins word P line = (rest : List ℕ) × (line ≡ word ++ rest) × P rest
 
 -- the line states the event
-abbrev pub Says : List ℕ → Event → Type 0
-Says line (Call (call.Attach limit)) = Begins (codes "attach ") (λ text. IsNumber text limit) line
-Says line (Call (call.Grant credit)) = Begins (codes "grant ") (λ text. IsNumber text credit) line
-Says line (Call (call.Send payload)) = Begins (codes "send ") (λ text. IsBytes text payload) line
-Says line (Call (call.Arrive id)) = Begins (codes "arrive ") (λ text. IsNumber text id) line
-Says line (Call call.Cut) = line ≡ codes "cut"
-Says line (Call call.ResumeNext) = line ≡ codes "resume"
-Says line (Call call.PutBackNext) = line ≡ codes "putback"
-Says line (Call (call.HandOut tag)) = Begins (codes "handout ") (λ text. IsBytes text tag) line
-Says line (Call (call.Settle tag)) = Begins (codes "settle ") (λ text. IsBytes text tag) line
-Says line (Show tag) = Begins (codes "show ") (λ text. IsBytes text tag) line
-Says line (Fate number) = Begins (codes "fate ") (λ text. IsNumber text number) line
+abbrev pub Denotes : List ℕ → Event → Type 0
+Denotes line (Call (call.Attach limit)) = Begins (codes "attach ") (λ text. IsNumber text limit) line
+Denotes line (Call (call.Grant credit)) = Begins (codes "grant ") (λ text. IsNumber text credit) line
+Denotes line (Call (call.Send payload)) = Begins (codes "send ") (λ text. IsBytes text payload) line
+Denotes line (Call (call.Arrive id)) = Begins (codes "arrive ") (λ text. IsNumber text id) line
+Denotes line (Call call.Cut) = line ≡ codes "cut"
+Denotes line (Call call.ResumeNext) = line ≡ codes "resume"
+Denotes line (Call call.PutBackNext) = line ≡ codes "putback"
+Denotes line (Call (call.HandOut tag)) = Begins (codes "handout ") (λ text. IsBytes text tag) line
+Denotes line (Call (call.Settle tag)) = Begins (codes "settle ") (λ text. IsBytes text tag) line
+Denotes line (Show tag) = Begins (codes "show ") (λ text. IsBytes text tag) line
+Denotes line (Fate number) = Begins (codes "fate ") (λ text. IsNumber text number) line
 
 -- the line states no event that is a word alone
-abbrev pub SaysNoWord : List ℕ → Type 0
-SaysNoWord line = (¬ (Says line (Call call.Cut))) × (¬ (Says line (Call call.ResumeNext))) × (¬ (Says line (Call call.PutBackNext)))
+abbrev pub DenotesNoWord : List ℕ → Type 0
+DenotesNoWord line = (¬ (Denotes line (Call call.Cut))) × (¬ (Denotes line (Call call.ResumeNext))) × (¬ (Denotes line (Call call.PutBackNext)))
 
 -- the line states no event with a number
-abbrev pub SaysNoNumber : List ℕ → Type 0
-SaysNoNumber line = (n : ℕ) → (¬ (Says line (Call (call.Attach n)))) × (¬ (Says line (Call (call.Grant n)))) × (¬ (Says line (Call (call.Arrive n)))) × (¬ (Says line (Fate n)))
+abbrev pub DenotesNoNumber : List ℕ → Type 0
+DenotesNoNumber line = (n : ℕ) → (¬ (Denotes line (Call (call.Attach n)))) × (¬ (Denotes line (Call (call.Grant n)))) × (¬ (Denotes line (Call (call.Arrive n)))) × (¬ (Denotes line (Fate n)))
 
 -- the line states no event with bytes
-abbrev pub SaysNoBytes : List ℕ → Type 0
-SaysNoBytes line = (bytes : List ℕ) → (¬ (Says line (Call (call.Send bytes)))) × (¬ (Says line (Call (call.HandOut bytes)))) × (¬ (Says line (Call (call.Settle bytes)))) × (¬ (Says line (Show bytes)))
+abbrev pub DenotesNoBytes : List ℕ → Type 0
+DenotesNoBytes line = (bytes : List ℕ) → (¬ (Denotes line (Call (call.Send bytes)))) × (¬ (Denotes line (Call (call.HandOut bytes)))) × (¬ (Denotes line (Call (call.Settle bytes)))) × (¬ (Denotes line (Show bytes)))

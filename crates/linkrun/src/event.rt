@@ -1,7 +1,7 @@
 //! The events of a script, and the lines that state them.
 ghost use Rattle.std.specs.Prelude.{◌≡◌, ◌≢◌, ◌++◌, ℕ, List, IfOk, OnErr, MatchOption};
 ghost use Rattle.linkrun.specs.declared.event.Event.{Event};
-ghost use Rattle.linkrun.specs.Line.{IsNumber, IsBytes, Begins, Says, SaysNoWord, SaysNoNumber, SaysNoBytes};
+ghost use Rattle.linkrun.specs.Line.{IsNumber, IsBytes, Begins, Denotes, DenotesNoWord, DenotesNoNumber, DenotesNoBytes};
 
 use crate::number::parse_number;
 use amqp_link::{DeliveryTag, Event as Call, Payload};
@@ -26,8 +26,8 @@ pub enum Event {
 /// if the line states an event.
 pub fn parse_event(alloc: Global, line: &[u8]) -> Result<Option<Event>, AllocError>
     ensures ok { IfOk result (λ found.
-        MatchOption found ((event : Event) → ¬ (Says line.now event)) (Says line.now)) }
-    ensures err { OnErr result ((event : Event) × Says line.now event) }
+        MatchOption found ((event : Event) → ¬ (Denotes line.now event)) (Denotes line.now)) }
+    ensures err { OnErr result ((event : Event) × Denotes line.now event) }
 {
     if let Some(event) = event_of_a_word(line) {
         return Ok(Some(event));
@@ -40,7 +40,7 @@ pub fn parse_event(alloc: Global, line: &[u8]) -> Result<Option<Event>, AllocErr
 
 // The event of a line that is a word alone.
 fn event_of_a_word(line: &[u8]) -> Option<Event>
-    ensures { MatchOption result (SaysNoWord line.now) (Says line.now) }
+    ensures { MatchOption result (DenotesNoWord line.now) (Denotes line.now) }
 {
     match line {
         b"cut" => Some(Event::Call(Call::Cut)),
@@ -52,7 +52,7 @@ fn event_of_a_word(line: &[u8]) -> Option<Event>
 
 // The event of a line with a number.
 fn event_with_number(line: &[u8]) -> Option<Event>
-    ensures { MatchOption result (SaysNoNumber line.now) (Says line.now) }
+    ensures { MatchOption result (DenotesNoNumber line.now) (Denotes line.now) }
 {
     if let Some(limit) = number_after(b"attach ", line) {
         return Some(Event::Call(Call::Attach(limit)));
@@ -69,8 +69,8 @@ fn event_with_number(line: &[u8]) -> Option<Event>
 // The event of a line with bytes. Allocates only if there is one.
 fn event_with_bytes(alloc: Global, line: &[u8]) -> Result<Option<Event>, AllocError>
     ensures ok { IfOk result (λ found.
-        MatchOption found (SaysNoBytes line.now) (Says line.now)) }
-    ensures err { OnErr result ((event : Event) × Says line.now event) }
+        MatchOption found (DenotesNoBytes line.now) (Denotes line.now)) }
+    ensures err { OnErr result ((event : Event) × Denotes line.now event) }
 {
     if let Some(bytes) = bytes_after(alloc, b"send ", line)? {
         return Ok(Some(Event::Call(Call::Send(Payload::from_vec(bytes)?))));

@@ -7,27 +7,27 @@ use amqp_link_types::types::{DeliveryState, Transfer, has_ended};
 
 // The settled flag of a delivery after merging one transfer.
 #[tactic(auto, using(crate::proofs::MergeLemmas::settled_steps))]
-fn settled_with(known: Option<bool>, told: Option<bool>) -> Option<bool>
+fn settled_with(known: Option<bool>, carried: Option<bool>) -> Option<bool>
     ensures { (flags : List (Option Bool)) → known ≡ settled_by (present flags)
-        → result ≡ settled_by (present (flags ++ told ∷ [])) }
+        → result ≡ settled_by (present (flags ++ carried ∷ [])) }
 {
-    if told.unwrap_or(false) {
-        told
+    if carried.unwrap_or(false) {
+        carried
     } else {
-        known.or(told)
+        known.or(carried)
     }
 }
 
 // The state of a delivery after merging one transfer.
 #[tactic(auto, using(crate::proofs::MergeLemmas::state_steps))]
-fn state_with(known: Option<DeliveryState>, told: Option<DeliveryState>) -> Option<DeliveryState>
+fn state_with(known: Option<DeliveryState>, carried: Option<DeliveryState>) -> Option<DeliveryState>
     ensures { (states : List (Option State)) → known ≡ state_by (present states)
-        → result ≡ state_by (present (states ++ told ∷ [])) }
+        → result ≡ state_by (present (states ++ carried ∷ [])) }
 {
     if has_ended(&known) {
-        known.or(told)
+        known.or(carried)
     } else {
-        told.or(known)
+        carried.or(known)
     }
 }
 

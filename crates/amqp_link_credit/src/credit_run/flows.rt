@@ -4,7 +4,7 @@ ghost use Rattle.std.specs.VecDeque.{deque_len, deque_capacity};
 ghost use Rattle.amqp_link_state.specs.Counts.{sdiff, with_stated, stated_flow, sender_after, sender_reply};
 ghost use Rattle.amqp_link_worlds.specs.Steps.{zero_output};
 ghost use Rattle.amqp_link_credit.specs.CreditCalls.{reply_frames};
-ghost use Rattle.amqp_link_credit.specs.Endpoints.{IsSilentFlow, after_flow};
+ghost use Rattle.amqp_link_credit.specs.Endpoints.{IsFlowWithoutEcho, after_flow};
 
 use crate::queue::Queue;
 use amqp_link_core::endpoint::LinkExt;
@@ -75,7 +75,7 @@ pub(crate) fn queue_reply(
 // A flow of the sender, which does not ask for a reply, arrives at the receiver.
 pub(crate) fn take_at_receiver(receiver: &mut ReceiverLink<Target>, frame: LinkFrame)
     requires handle { receiver.old.output_handle ≡ Some zero_output }
-    requires silent { IsSilentFlow frame }
+    requires silent { IsFlowWithoutEcho frame }
     ensures { receiver.new ≡ record receiver.old { flow_state = after_flow frame receiver.old.flow_state } }
 {
     let LinkFrame::Flow(flow) = frame else {

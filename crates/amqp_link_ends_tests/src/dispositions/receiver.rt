@@ -1,5 +1,5 @@
 //! A receiver.
-use super::{Said, Told, all_said, error, said, told_by_state};
+use super::{DispositionFields, Shown, all_fields, error, fields, shown_by_state};
 use crate::samples::{count_tag, parts};
 use amqp_link_core::endpoint::LinkExt;
 use amqp_link_receiver::receiver_link::ReceiverLink;
@@ -42,29 +42,35 @@ pub(super) fn known(
     rt: &(impl Abort + AllocGlobal),
     link: &ReceiverLink<Target>,
     count: u8,
-) -> Told {
+) -> Shown {
     let tag = count_tag(rt, count);
-    let told = match link.unsettled().get(&tag) {
-        Some(state) => told_by_state(state),
-        None => Told::Absent,
+    let actual = match link.unsettled().get(&tag) {
+        Some(state) => shown_by_state(state),
+        None => Shown::Absent,
     };
     drop(tag);
-    told
+    actual
 }
 
 // The fields of the frames of a call that succeeded.
-pub(super) fn frames_of<E: Drop>(answer: Result<Vec<LinkFrame>, E>) -> Option<(usize, [Said; 4])> {
+pub(super) fn frames_of<E: Drop>(
+    answer: Result<Vec<LinkFrame>, E>,
+) -> Option<(usize, [DispositionFields; 4])> {
     let Ok(frames) = answer else {
         return None;
     };
-    let told = all_said(frames.as_slice());
+    let actual = all_fields(frames.as_slice());
     drop(frames);
-    Some(told)
+    Some(actual)
 }
 
 // The dispositions of these deliveries, accepted; which tags are kept then, up to three, in order; and what
 // is known of the first three.
-type Answer = (Option<(usize, [Said; 4])>, [Option<u8>; 3], [Told; 3]);
+type Answer = (
+    Option<(usize, [DispositionFields; 4])>,
+    [Option<u8>; 3],
+    [Shown; 3],
+);
 
 fn all_accepted<const N: usize>(
     rt: &(impl Abort + AllocGlobal),
@@ -74,16 +80,16 @@ fn all_accepted<const N: usize>(
 ) -> Answer {
     let mut link = link(rt, kept);
     let infos = listed(rt, infos);
-    let said = frames_of(link.dispose_all(&infos, settled, DeliveryState::Accepted, false));
+    let fields = frames_of(link.dispose_all(&infos, settled, DeliveryState::Accepted, false));
     let tags = [tag_at(&link, 0), tag_at(&link, 1), tag_at(&link, 2)];
-    let told = [
+    let actual = [
         known(rt, &link, 0),
         known(rt, &link, 1),
         known(rt, &link, 2),
     ];
     drop(infos);
     drop(link);
-    (said, tags, told)
+    (fields, tags, actual)
 }
 
 // The last byte of the tag at this place.
@@ -97,20 +103,20 @@ pub(super) const SECOND: Option<ReceiverSettleMode> = Some(ReceiverSettleMode::S
 #[test]
 fn dispositions_break_where_modes_differ(rt: HostRuntime) {
     let infos = [(0, 0, None), (1, 1, SECOND), (2, 2, SECOND)];
-    let (said, tags, told) = all_accepted(&rt, 3, None, infos);
+    let (fields, tags, actual) = all_accepted(&rt, 3, None, infos);
     let frames = [
         Some((0, Some(0), true)),
         Some((1, Some(2), false)),
         None,
         None,
     ];
-    assert_eq!(rt; said, Some((2, frames)));
+    assert_eq!(rt; fields, Some((2, frames)));
     assert_eq!(rt;
         tags,
         [Some(2), Some(1), None],
         "the last moves into the gap"
     );
-    assert_eq!(rt; told, [Told::Absent, Told::Accepted, Told::Accepted]);
+    assert_eq!(rt; actual, [Shown::Absent, Shown::Accepted, Shown::Accepted]);
 }
 
 #[test]
@@ -127,14 +133,14 @@ fn dispositions_name_runs(rt: HostRuntime) {
         (8, 6, mode),
         (9, 7, mode),
     ];
-    let (said, tags, _) = all_accepted(&rt, 9, Some(true), infos);
+    let (fields, tags, _) = all_accepted(&rt, 9, Some(true), infos);
     let frames = [
         Some((0, Some(3), true)),
         Some((5, Some(6), true)),
         Some((8, Some(9), true)),
         Some((11, Some(11), true)),
     ];
-    assert_eq!(rt; said, Some((4, frames)));
+    assert_eq!(rt; fields, Some((4, frames)));
     assert_eq!(rt; tags, [None, None, None]);
 }
 
@@ -168,14 +174,14 @@ fn long_batch_is_named_in_order(rt: HostRuntime) {
         (1, 24, None),
         (13, 25, None),
     ];
-    let (said, tags, _) = all_accepted(&rt, 26, Some(true), infos);
+    let (fields, tags, _) = all_accepted(&rt, 26, Some(true), infos);
     let frames = [
         Some((1, Some(13), true)),
         Some((13, Some(25), true)),
         None,
         None,
     ];
-    assert_eq!(rt; said, Some((2, frames)), "the number 13 is listed twice");
+    assert_eq!(rt; fields, Some((2, frames)), "the number 13 is listed twice");
     assert_eq!(rt; tags, [None, None, None], "all of them are settled");
 }
 
@@ -183,28 +189,28 @@ fn long_batch_is_named_in_order(rt: HostRuntime) {
 fn ends_of_the_numbers_are_no_run(rt: HostRuntime) {
     let last = u32::MAX;
     let infos = [(last, 0, None), (0, 1, None), (last - 1, 2, None)];
-    let (said, _, _) = all_accepted(&rt, 3, Some(false), infos);
+    let (fields, _, _) = all_accepted(&rt, 3, Some(false), infos);
     let frames = [
         Some((0, Some(0), false)),
         Some((last - 1, Some(last), false)),
         None,
         None,
     ];
-    assert_eq!(rt; said, Some((2, frames)));
+    assert_eq!(rt; fields, Some((2, frames)));
 }
 
 #[test]
-fn nothing_is_said_of_what_is_not_kept(rt: HostRuntime) {
-    let (said, tags, told) = all_accepted(&rt, 1, None, [(4, 9, None), (4, 0, SECOND)]);
+fn no_disposition_for_what_is_not_kept(rt: HostRuntime) {
+    let (fields, tags, actual) = all_accepted(&rt, 1, None, [(4, 9, None), (4, 0, SECOND)]);
     assert_eq!(rt;
-        said,
+        fields,
         Some((1, [Some((4, Some(4), false)), None, None, None]))
     );
     assert_eq!(rt; tags, [Some(0), None, None]);
-    assert_eq!(rt; told, [Told::Accepted, Told::Absent, Told::Absent]);
-    let (said, tags, _) = all_accepted(&rt, 1, None, []);
+    assert_eq!(rt; actual, [Shown::Accepted, Shown::Absent, Shown::Absent]);
+    let (fields, tags, _) = all_accepted(&rt, 1, None, []);
     assert_eq!(rt;
-        said,
+        fields,
         Some((0, [None, None, None, None])),
         "nothing is listed"
     );
@@ -214,7 +220,7 @@ fn nothing_is_said_of_what_is_not_kept(rt: HostRuntime) {
 #[test]
 fn settled_delivery_does_not_come_back(rt: HostRuntime) {
     let infos = [(1, 0, None), (2, 0, SECOND), (2, 0, SECOND)];
-    let (said, tags, _) = all_accepted(&rt, 1, None, infos);
+    let (fields, tags, _) = all_accepted(&rt, 1, None, infos);
     let frames = [
         Some((1, Some(1), true)),
         Some((2, Some(2), false)),
@@ -222,7 +228,7 @@ fn settled_delivery_does_not_come_back(rt: HostRuntime) {
         None,
     ];
     assert_eq!(rt;
-        said,
+        fields,
         Some((3, frames)),
         "each number as often as it is listed"
     );
@@ -234,45 +240,45 @@ fn released(
     rt: &(impl Abort + AllocGlobal),
     settled: Option<bool>,
     infos: [Listed; 1],
-) -> (Option<Said>, Told) {
+) -> (Option<DispositionFields>, Shown) {
     let mut link = link(rt, 1);
     let infos = listed(rt, infos);
-    let told = infos.first().map(|info| {
+    let actual = infos.first().map(|info| {
         let answer = link.dispose(info, settled, DeliveryState::Released, false);
-        answer.ok().map(|frame| said(frame.as_ref()))
+        answer.ok().map(|frame| fields(frame.as_ref()))
     });
     let after = known(rt, &link, 0);
     drop(infos);
     drop(link);
-    (told.flatten(), after)
+    (actual.flatten(), after)
 }
 
 #[test]
 fn one_is_settled_by_flag_or_mode(rt: HostRuntime) {
-    let told = released(&rt, None, [(7, 0, None)]);
+    let actual = released(&rt, None, [(7, 0, None)]);
     assert_eq!(rt;
-        told,
-        (Some(Some((7, None, true))), Told::Absent),
+        actual,
+        (Some(Some((7, None, true))), Shown::Absent),
         "the link's mode"
     );
-    let told = released(&rt, None, [(7, 0, SECOND)]);
-    assert_eq!(rt; told, (Some(Some((7, None, false))), Told::Released));
-    let told = released(&rt, Some(true), [(7, 0, SECOND)]);
-    assert_eq!(rt; told, (Some(Some((7, None, true))), Told::Absent));
-    let told = released(&rt, None, [(7, 5, None)]);
+    let actual = released(&rt, None, [(7, 0, SECOND)]);
+    assert_eq!(rt; actual, (Some(Some((7, None, false))), Shown::Released));
+    let actual = released(&rt, Some(true), [(7, 0, SECOND)]);
+    assert_eq!(rt; actual, (Some(Some((7, None, true))), Shown::Absent));
+    let actual = released(&rt, None, [(7, 5, None)]);
     assert_eq!(rt;
-        told,
-        (Some(None), Told::Received(0, 0)),
+        actual,
+        (Some(None), Shown::Received(0, 0)),
         "a tag that is not kept"
     );
 }
 
 // The result of the sender's disposition, and what is known then.
-fn told_back(
+fn shown_after(
     rt: &(impl Abort + AllocGlobal),
     settled: bool,
     state: Option<DeliveryState>,
-) -> (bool, Told) {
+) -> (bool, Shown) {
     let mut link = link(rt, 1);
     let tag = count_tag(rt, 0);
     let echo = link.on_incoming_disposition(settled, state, &tag);
@@ -283,16 +289,16 @@ fn told_back(
 }
 
 #[test]
-fn dispositions_that_come_are_never_answered(rt: HostRuntime) {
-    let told = told_back(&rt, true, Some(DeliveryState::Accepted));
-    assert_eq!(rt; told, (false, Told::Absent));
-    let told = told_back(&rt, false, Some(DeliveryState::Accepted));
+fn incoming_dispositions_are_never_answered(rt: HostRuntime) {
+    let actual = shown_after(&rt, true, Some(DeliveryState::Accepted));
+    assert_eq!(rt; actual, (false, Shown::Absent));
+    let actual = shown_after(&rt, false, Some(DeliveryState::Accepted));
     assert_eq!(rt;
-        told,
-        (false, Told::Accepted),
+        actual,
+        (false, Shown::Accepted),
         "a terminal state alone ends nothing"
     );
-    assert_eq!(rt; told_back(&rt, false, None), (false, Told::NoState));
+    assert_eq!(rt; shown_after(&rt, false, None), (false, Shown::NoState));
 }
 
 #[test]
@@ -320,9 +326,9 @@ fn detached(
     let reply = link.on_incoming_detach(&detach, remote_initiated);
     drop(detach);
     let reply = reply?;
-    let said = reply.as_ref().map(|reply| (reply.handle.0, reply.closed, reply.error.is_some()));
+    let fields = reply.as_ref().map(|reply| (reply.handle.0, reply.closed, reply.error.is_some()));
     drop(reply);
-    Ok(said)
+    Ok(fields)
 }
 
 #[test]

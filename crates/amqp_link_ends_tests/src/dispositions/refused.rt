@@ -2,7 +2,7 @@
 //! as it was, and the same call made again returns what it would have returned. Run by hand with `rt try
 //! --test --fail-alloc N`.
 use super::receiver::{self, SECOND};
-use super::{Told, sender};
+use super::{Shown, sender};
 use amqp_link_core::endpoint::LinkExt;
 use amqp_link_receiver::receiver_link::ReceiverLink;
 use amqp_link_sender::sender_link::SenderLink;
@@ -10,7 +10,7 @@ use amqp_link_types::types::{DeliveryState, Target};
 use std::process::Abort;
 
 // What is known of a sender's three deliveries.
-fn kept(rt: &(impl Abort + AllocGlobal), link: &SenderLink<Target>) -> [(usize, Told); 3] {
+fn kept(rt: &(impl Abort + AllocGlobal), link: &SenderLink<Target>) -> [(usize, Shown); 3] {
     [
         sender::known(rt, link, 0),
         sender::known(rt, link, 1),
@@ -27,11 +27,11 @@ fn sender_loses_nothing(rt: HostRuntime) {
         // the growth was refused on the way here
         return;
     }
-    let first = sender::told_of(link.batch_dispose(&pairs, true, DeliveryState::Accepted, false));
+    let first = sender::shown_of(link.batch_dispose(&pairs, true, DeliveryState::Accepted, false));
     let between = kept(&rt, &link);
-    let told = match first {
-        Some(told) => Some(told),
-        None => sender::told_of(link.batch_dispose(&pairs, true, DeliveryState::Accepted, false)),
+    let actual = match first {
+        Some(actual) => Some(actual),
+        None => sender::shown_of(link.batch_dispose(&pairs, true, DeliveryState::Accepted, false)),
     };
     let after = kept(&rt, &link);
     drop(pairs);
@@ -40,11 +40,11 @@ fn sender_loses_nothing(rt: HostRuntime) {
         assert_eq!(rt; between, before);
     }
     let frames = [Some((6, Some(7), true)), Some((9, None, true)), None, None];
-    let ended = [Told::NoState, Told::NoState, Told::NoState];
-    assert_eq!(rt; told, Some((2, frames, 3, ended)));
+    let ended = [Shown::NoState, Shown::NoState, Shown::NoState];
+    assert_eq!(rt; actual, Some((2, frames, 3, ended)));
     assert_eq!(rt;
         after,
-        [(0, Told::Absent), (0, Told::Absent), (0, Told::Absent)]
+        [(0, Shown::Absent), (0, Shown::Absent), (0, Shown::Absent)]
     );
 }
 
@@ -57,16 +57,16 @@ fn failed_deliveries_are_not_lost(rt: HostRuntime) {
     }
     let first = sender::failed(&rt, &mut link);
     let between = kept(&rt, &link);
-    let told = match first {
-        Some(told) => Some(told),
+    let actual = match first {
+        Some(actual) => Some(actual),
         None => sender::failed(&rt, &mut link),
     };
     drop(link);
     if first.is_none() {
         assert_eq!(rt; between, before);
     }
-    let closed = sender::all_ended(Told::RemoteClosedWithError);
-    assert_eq!(rt; told, Some((closed, 0)));
+    let closed = sender::all_ended(Shown::RemoteClosedWithError);
+    assert_eq!(rt; actual, Some((closed, 0)));
 }
 
 #[test]
@@ -78,23 +78,23 @@ fn closing_detach_loses_nothing(rt: HostRuntime) {
     }
     let first = sender::detached(&mut link, sender::detach(true, None), true).ok();
     let between = kept(&rt, &link);
-    let told = match first {
-        Some(told) => Some(told),
+    let actual = match first {
+        Some(actual) => Some(actual),
         None => sender::detached(&mut link, sender::detach(true, None), true).ok(),
     };
     drop(link);
     if first.is_none() {
         assert_eq!(rt; between, before);
     }
-    let closed = sender::all_ended(Told::RemoteClosed);
-    assert_eq!(rt; told, Some((Some((0, true, false)), closed, 0)));
+    let closed = sender::all_ended(Shown::RemoteClosed);
+    assert_eq!(rt; actual, Some((Some((0, true, false)), closed, 0)));
 }
 
 // The tags that a receiver keeps, and what is known of two.
 fn tags(
     rt: &(impl Abort + AllocGlobal),
     link: &ReceiverLink<Target>,
-) -> ([Option<u8>; 2], [Told; 2]) {
+) -> ([Option<u8>; 2], [Shown; 2]) {
     (
         [receiver::tag_at(link, 0), receiver::tag_at(link, 1)],
         [receiver::known(rt, link, 0), receiver::known(rt, link, 1)],
@@ -111,8 +111,8 @@ fn receiver_loses_nothing(rt: HostRuntime) {
     }
     let first = receiver::frames_of(link.dispose_all(&infos, None, DeliveryState::Accepted, false));
     let between = tags(&rt, &link);
-    let told = match first {
-        Some(told) => Some(told),
+    let actual = match first {
+        Some(actual) => Some(actual),
         None => receiver::frames_of(link.dispose_all(&infos, None, DeliveryState::Accepted, false)),
     };
     let after = tags(&rt, &link);
@@ -127,6 +127,6 @@ fn receiver_loses_nothing(rt: HostRuntime) {
         None,
         None,
     ];
-    assert_eq!(rt; told, Some((2, frames)));
-    assert_eq!(rt; after, ([Some(0), None], [Told::Accepted, Told::Absent]));
+    assert_eq!(rt; actual, Some((2, frames)));
+    assert_eq!(rt; after, ([Some(0), None], [Shown::Accepted, Shown::Absent]));
 }

@@ -1,5 +1,5 @@
 //! A sender.
-use super::{Said, Told, all_said, error, told_by, told_by_state};
+use super::{DispositionFields, Shown, all_fields, error, shown_by, shown_by_state};
 use crate::samples::{attach_of, count_tag, parts};
 use amqp_link_core::endpoint::{LinkAttach, LinkExt};
 use amqp_link_sender::sender_link::{DispositionAnswer, SenderLink, Waiting};
@@ -59,69 +59,69 @@ pub(super) fn listed<const N: usize>(
 }
 
 // Frames and outcomes: the frames, how many outcomes there are, and the first three.
-pub(super) type Answer = (usize, [Said; 4], usize, [Told; 3]);
+pub(super) type Answer = (usize, [DispositionFields; 4], usize, [Shown; 3]);
 
 fn answer_of(frames: &[LinkFrame], outcomes: &Outcomes) -> Answer {
-    let (count, said) = all_said(frames);
+    let (count, fields) = all_fields(frames);
     let outcomes = outcomes.as_slice();
-    let told = [
-        told_by(outcomes.first()),
-        told_by(outcomes.get(1)),
-        told_by(outcomes.get(2)),
+    let actual = [
+        shown_by(outcomes.first()),
+        shown_by(outcomes.get(1)),
+        shown_by(outcomes.get(2)),
     ];
-    (count, said, outcomes.len(), told)
+    (count, fields, outcomes.len(), actual)
 }
 
 // The result of a call that succeeded.
-pub(super) fn told_of<E: Drop>(answer: Result<(Vec<LinkFrame>, Outcomes), E>) -> Option<Answer> {
+pub(super) fn shown_of<E: Drop>(answer: Result<(Vec<LinkFrame>, Outcomes), E>) -> Option<Answer> {
     let Ok((frames, outcomes)) = answer else {
         return None;
     };
-    let told = answer_of(frames.as_slice(), &outcomes);
+    let actual = answer_of(frames.as_slice(), &outcomes);
     drop(frames);
     drop(outcomes);
-    Some(told)
+    Some(actual)
 }
 
-const NONE: [Told; 3] = [Told::Absent, Told::Absent, Told::Absent];
+const NONE: [Shown; 3] = [Shown::Absent, Shown::Absent, Shown::Absent];
 
 // What is known of the delivery of a count, and how many are pending.
 pub(super) fn known(
     rt: &(impl Abort + AllocGlobal),
     link: &SenderLink<Target>,
     count: u8,
-) -> (usize, Told) {
+) -> (usize, Shown) {
     let tag = count_tag(rt, count);
-    let told = match link.unsettled().get(&tag) {
-        Some(message) => told_by_state(&message.state),
-        None => Told::Absent,
+    let actual = match link.unsettled().get(&tag) {
+        Some(message) => shown_by_state(&message.state),
+        None => Shown::Absent,
     };
     drop(tag);
-    (link.unsettled().len(), told)
+    (link.unsettled().len(), actual)
 }
 
 #[test]
 fn stored_state_is_the_outcome(rt: HostRuntime) {
     let mut link = mixed(&rt, 1);
     let tag = count_tag(&rt, 0);
-    let set = told_of(link.dispose(9, &tag, false, DeliveryState::Accepted, false));
+    let set = shown_of(link.dispose(9, &tag, false, DeliveryState::Accepted, false));
     let between = known(&rt, &link, 0);
-    let settled = told_of(link.dispose(9, &tag, true, DeliveryState::Released, false));
-    let unknown = told_of(link.dispose(9, &tag, true, DeliveryState::Released, false));
+    let settled = shown_of(link.dispose(9, &tag, true, DeliveryState::Released, false));
+    let unknown = shown_of(link.dispose(9, &tag, true, DeliveryState::Released, false));
     let after = known(&rt, &link, 0);
     drop(tag);
     drop(link);
     let alone = |settled| [Some((9, None, settled)), None, None, None];
     assert_eq!(rt; set, Some((1, alone(false), 0, NONE)));
-    assert_eq!(rt; between, (1, Told::Accepted));
-    let accepted = [Told::Accepted, Told::Absent, Told::Absent];
+    assert_eq!(rt; between, (1, Shown::Accepted));
+    let accepted = [Shown::Accepted, Shown::Absent, Shown::Absent];
     assert_eq!(rt; settled, Some((1, alone(true), 1, accepted)));
     assert_eq!(rt;
         unknown,
         Some((1, alone(true), 0, NONE)),
         "a tag that is not kept"
     );
-    assert_eq!(rt; after, (0, Told::Absent));
+    assert_eq!(rt; after, (0, Shown::Absent));
 }
 
 // The last bytes of the tags of outcomes, in order.
@@ -170,7 +170,7 @@ fn long_batch_ends_in_order(rt: HostRuntime) {
     );
     let answer = link.batch_dispose(&pairs, true, DeliveryState::Accepted, false);
     let (frames, outcomes) = answer.expect(&rt, "memory");
-    let (count, said) = all_said(frames.as_slice());
+    let (count, fields) = all_fields(frames.as_slice());
     let tags = tags_of(&rt, &outcomes);
     assert_eq!(rt; link.unsettled().len(), 0);
     drop(pairs);
@@ -184,7 +184,7 @@ fn long_batch_ends_in_order(rt: HostRuntime) {
         None,
         None,
     ];
-    assert_eq!(rt; said, runs);
+    assert_eq!(rt; fields, runs);
     let in_order = [
         24, 23, 22, 21, 20, 19, 18, 17, 16, 15, 14, 13, 12, 25, 11, 10, 9, 8, 7, 6, 5, 4, 3, 2, 1,
         0,
@@ -197,11 +197,11 @@ fn long_batch_ends_in_order(rt: HostRuntime) {
 }
 
 #[test]
-fn mode_settled_says_nothing(rt: HostRuntime) {
+fn mode_settled_sends_no_disposition(rt: HostRuntime) {
     let mut link = link(&rt, SenderSettleMode::Settled, ReceiverSettleMode::First, 2);
     let pairs = listed(&rt, [(1, 0), (2, 1)]);
-    let batch = told_of(link.batch_dispose(&pairs, true, DeliveryState::Accepted, false));
-    let one = told_of(link.dispose(1, &count_tag(&rt, 0), true, DeliveryState::Accepted, false));
+    let batch = shown_of(link.batch_dispose(&pairs, true, DeliveryState::Accepted, false));
+    let one = shown_of(link.dispose(1, &count_tag(&rt, 0), true, DeliveryState::Accepted, false));
     drop(pairs);
     drop(link);
     let nothing = Some((0, [None, None, None, None], 0, NONE));
@@ -213,14 +213,14 @@ fn mode_settled_says_nothing(rt: HostRuntime) {
 fn batch<const N: usize>(
     rt: &(impl Abort + AllocGlobal),
     pairs: [(DeliveryNumber, u8); N],
-) -> Option<(usize, [Said; 4])> {
+) -> Option<(usize, [DispositionFields; 4])> {
     let mut link = mixed(rt, 0);
     let pairs = listed(rt, pairs);
-    let told = told_of(link.batch_dispose(&pairs, true, DeliveryState::Accepted, false));
+    let actual = shown_of(link.batch_dispose(&pairs, true, DeliveryState::Accepted, false));
     drop(pairs);
     drop(link);
-    let (count, said, _, _) = told?;
-    Some((count, said))
+    let (count, fields, _, _) = actual?;
+    Some((count, fields))
 }
 
 #[test]
@@ -232,94 +232,94 @@ fn dispositions_name_runs(rt: HostRuntime) {
         Some((2, [one_to_three, Some((5, None, true)), None, None]))
     );
     let runs = batch(&rt, [(1, 0), (1, 1), (2, 2)]);
-    let said = [Some((1, None, true)), Some((1, Some(2), true)), None, None];
-    assert_eq!(rt; runs, Some((2, said)), "equal ids");
+    let fields = [Some((1, None, true)), Some((1, Some(2), true)), None, None];
+    assert_eq!(rt; runs, Some((2, fields)), "equal ids");
     let last = u32::MAX;
     let runs = batch(&rt, [(last, 0), (0, 1), (last - 1, 2)]);
-    let said = [
+    let fields = [
         Some((0, None, true)),
         Some((last - 1, Some(last), true)),
         None,
         None,
     ];
-    assert_eq!(rt; runs, Some((2, said)), "the ends of the numbers");
+    assert_eq!(rt; runs, Some((2, fields)), "the ends of the numbers");
     assert_eq!(rt; batch(&rt, []), Some((0, [None, None, None, None])));
 }
 
 #[test]
-fn outcomes_come_by_number_and_once(rt: HostRuntime) {
+fn outcomes_are_by_number_and_once(rt: HostRuntime) {
     let mut link = mixed(&rt, 3);
     let tag = count_tag(&rt, 2);
     drop(link.dispose(8, &tag, false, DeliveryState::Released, false));
     drop(tag);
     // the third by the smallest id, the first twice, and one that is not pending
     let pairs = listed(&rt, [(6, 0), (5, 2), (7, 0), (8, 9)]);
-    let told = told_of(link.batch_dispose(&pairs, true, DeliveryState::Accepted, false));
+    let actual = shown_of(link.batch_dispose(&pairs, true, DeliveryState::Accepted, false));
     let left = known(&rt, &link, 1);
     drop(pairs);
     drop(link);
-    let ended = [Told::Released, Told::NoState, Told::Absent];
+    let ended = [Shown::Released, Shown::NoState, Shown::Absent];
     assert_eq!(rt;
-        told,
+        actual,
         Some((1, [Some((5, Some(8), true)), None, None, None], 2, ended))
     );
-    assert_eq!(rt; left, (1, Told::NoState));
+    assert_eq!(rt; left, (1, Shown::NoState));
 }
 
 #[test]
 fn states_are_set_of_those_that_are_kept(rt: HostRuntime) {
     let mut link = mixed(&rt, 2);
     let pairs = listed(&rt, [(1, 1), (2, 9), (3, 1)]);
-    let told = told_of(link.batch_dispose(&pairs, false, DeliveryState::Accepted, false));
+    let actual = shown_of(link.batch_dispose(&pairs, false, DeliveryState::Accepted, false));
     let set = known(&rt, &link, 1);
     let other = known(&rt, &link, 0);
     drop(pairs);
     drop(link);
     assert_eq!(rt;
-        told,
+        actual,
         Some((1, [Some((1, Some(3), false)), None, None, None], 0, NONE))
     );
-    assert_eq!(rt; set, (2, Told::Accepted));
-    assert_eq!(rt; other, (2, Told::NoState));
+    assert_eq!(rt; set, (2, Shown::Accepted));
+    assert_eq!(rt; other, (2, Shown::NoState));
 }
 
 // The result of the receiver's disposition of the first delivery, and what is known of it then.
-fn told_back(
+fn shown_after(
     rt: &(impl Abort + AllocGlobal),
     receiver: ReceiverSettleMode,
     settled: bool,
     state: Option<DeliveryState>,
-) -> (bool, Told, Told) {
+) -> (bool, Shown, Shown) {
     let mut link = link(rt, SenderSettleMode::Mixed, receiver, 1);
     let tag = count_tag(rt, 0);
     let DispositionAnswer { echo, outcome } = link.on_incoming_disposition(settled, state, &tag);
-    let told = told_by(outcome.as_ref());
+    let actual = shown_by(outcome.as_ref());
     let (_, after) = known(rt, &link, 0);
     drop(tag);
     drop(outcome);
     drop(link);
-    (echo, told, after)
+    (echo, actual, after)
 }
 
 #[test]
-fn dispositions_that_come_end_or_are_kept(rt: HostRuntime) {
+fn incoming_dispositions_end_or_are_kept(rt: HostRuntime) {
     let (first, second) = (ReceiverSettleMode::First, ReceiverSettleMode::Second);
-    let told = told_back(&rt, second, false, Some(DeliveryState::Accepted));
-    assert_eq!(rt; told, (true, Told::Accepted, Told::Absent));
+    let actual = shown_after(&rt, second, false, Some(DeliveryState::Accepted));
+    assert_eq!(rt; actual, (true, Shown::Accepted, Shown::Absent));
     let received = DeliveryState::Received {
         section_number: 0,
         section_offset: 3,
     };
-    let told = told_back(&rt, first, false, Some(received));
-    assert_eq!(rt; told, (false, Told::Absent, Told::Received(0, 3)));
-    let told = told_back(&rt, second, true, None);
+    let actual = shown_after(&rt, first, false, Some(received));
+    assert_eq!(rt; actual, (false, Shown::Absent, Shown::Received(0, 3)));
+    let actual = shown_after(&rt, second, true, None);
     assert_eq!(rt;
-        told,
-        (false, Told::NoState, Told::Absent),
+        actual,
+        (false, Shown::NoState, Shown::Absent),
         "settled without a state"
     );
-    let told = told_back(&rt, second, false, None);
-    assert_eq!(rt; told, (true, Told::Absent, Told::NoState));
+    let actual = shown_after(&rt, second, false, None);
+    assert_eq!(rt; actual, (true, Shown::Absent, Shown::NoState));
 }
 
 // One of a tag that is not pending ends nothing, enters nothing, and is answered all the same.
@@ -329,20 +329,20 @@ fn disposition_of_an_unknown_tag_ends_nothing(rt: HostRuntime) {
     let tag = count_tag(&rt, 9);
     let state = Some(DeliveryState::Accepted);
     let DispositionAnswer { echo, outcome } = link.on_incoming_disposition(false, state, &tag);
-    let told = told_by(outcome.as_ref());
+    let actual = shown_by(outcome.as_ref());
     let pending = link.unsettled().len();
     drop((tag, outcome));
     drop(link);
-    assert_eq!(rt; (echo, told, pending), (true, Told::Absent, 1));
+    assert_eq!(rt; (echo, actual, pending), (true, Shown::Absent, 1));
 }
 
 // How many deliveries ended, and the tag's last byte and the outcome of the first three.
-pub(super) type Ends = (usize, [(Option<u8>, Told); 3]);
+pub(super) type Ends = (usize, [(Option<u8>, Shown); 3]);
 
-fn end_at(outcomes: &Outcomes, index: usize) -> (Option<u8>, Told) {
+fn end_at(outcomes: &Outcomes, index: usize) -> (Option<u8>, Shown) {
     let outcome = outcomes.as_slice().get(index);
     let tag = outcome.and_then(|ended| ended.0.as_bytes().last().copied());
-    (tag, told_by(outcome))
+    (tag, shown_by(outcome))
 }
 
 fn ends_in(outcomes: &Outcomes) -> Ends {
@@ -355,11 +355,11 @@ fn ends_in(outcomes: &Outcomes) -> Ends {
 }
 
 // The first three deliveries, each with this outcome.
-pub(super) const fn all_ended(so: Told) -> Ends {
+pub(super) const fn all_ended(so: Shown) -> Ends {
     (3, [(Some(0), so), (Some(1), so), (Some(2), so)])
 }
 
-pub(super) const NO_END: Ends = (0, [(None, Told::Absent); 3]);
+pub(super) const NO_END: Ends = (0, [(None, Shown::Absent); 3]);
 
 pub(super) fn detach(closed: bool, error: Option<Error>) -> Detach {
     Detach {
@@ -381,11 +381,11 @@ pub(super) fn detached(
     let answer = link.on_incoming_detach(&detach, remote_initiated);
     drop(detach);
     let (reply, outcomes) = answer?;
-    let said = reply.as_ref().map(|reply| (reply.handle.0, reply.closed, reply.error.is_some()));
-    let told = (said, ends_in(&outcomes), link.unsettled().len());
+    let fields = reply.as_ref().map(|reply| (reply.handle.0, reply.closed, reply.error.is_some()));
+    let actual = (fields, ends_in(&outcomes), link.unsettled().len());
     drop(outcomes);
     drop(reply);
-    Ok(told)
+    Ok(actual)
 }
 
 #[test]
@@ -399,7 +399,7 @@ fn closing_detach_ends_all(rt: HostRuntime) {
     drop(link);
     assert_eq!(rt; own, Ok((None, NO_END, 3)), "an answer to an own one");
     assert_eq!(rt; open, Ok((Some((0, false, false)), NO_END, 3)));
-    let closed = all_ended(Told::RemoteClosed);
+    let closed = all_ended(Shown::RemoteClosed);
     assert_eq!(rt; closing, Ok((Some((0, true, false)), closed, 0)));
     assert_eq!(rt; unattached, Err(LinkRelayError::UnattachedHandle));
 }
@@ -411,7 +411,7 @@ fn detach_with_an_error_is_answered_with_it(rt: HostRuntime) {
     let closing = detached(&mut link, detach(true, Some(error(&rt))), true);
     drop(link);
     assert_eq!(rt; open, Ok((Some((0, false, true)), NO_END, 3)));
-    let closed = all_ended(Told::RemoteClosedWithError);
+    let closed = all_ended(Shown::RemoteClosedWithError);
     assert_eq!(rt; closing, Ok((Some((0, true, true)), closed, 0)));
 }
 
@@ -426,18 +426,18 @@ pub(super) fn failed(
     let Ok(outcomes) = answer else {
         return None;
     };
-    let told = (ends_in(&outcomes), link.unsettled().len());
+    let actual = (ends_in(&outcomes), link.unsettled().len());
     drop(outcomes);
-    Some(told)
+    Some(actual)
 }
 
 #[test]
 fn deliveries_fail_with_the_error(rt: HostRuntime) {
     let mut link = mixed(&rt, 3);
-    let told = failed(&rt, &mut link);
+    let actual = failed(&rt, &mut link);
     let again = failed(&rt, &mut link);
     drop(link);
-    let closed = all_ended(Told::RemoteClosedWithError);
-    assert_eq!(rt; told, Some((closed, 0)));
+    let closed = all_ended(Shown::RemoteClosedWithError);
+    assert_eq!(rt; actual, Some((closed, 0)));
     assert_eq!(rt; again, Some((NO_END, 0)), "nothing is pending");
 }

@@ -39,10 +39,10 @@ impl<T: LinkTarget> OutcomeLedger<T> {
         state: DeliveryState,
         batchable: bool,
     ) -> Result<(Vec<LinkFrame>, Outcomes), DispositionError>
-        ensures frames { IfOk result (λ said.
-            Dispositions self.old.link settled state batchable (delivery_id ∷ []) said.0.items) }
-        ensures outcomes { IfOk result (λ said.
-            said.1.items ≡ ended_at self.old.link settled (delivery_tag.now ∷ [])) }
+        ensures frames { IfOk result (λ answer.
+            Dispositions self.old.link settled state batchable (delivery_id ∷ []) answer.0.items) }
+        ensures outcomes { IfOk result (λ answer.
+            answer.1.items ≡ ended_at self.old.link settled (delivery_tag.now ∷ [])) }
         ensures link { OnOk result
             (self.new.link ≡ after_disposing self.old.link settled state (delivery_tag.now ∷ [])) }
         ensures records { OnOk result (self.new.records ≡ after (Change.Resolves
@@ -61,9 +61,9 @@ impl<T: LinkTarget> OutcomeLedger<T> {
             .link
             .dispose(delivery_id, delivery_tag, settled, state, batchable)
         {
-            Ok(said) => {
+            Ok(answer) => {
                 resolve_if_ended(&mut self.registrations, delivery_tag, outcome);
-                Ok(said)
+                Ok(answer)
             }
             Err(refused) => {
                 drop(outcome);
@@ -88,10 +88,10 @@ impl<T: LinkTarget> OutcomeLedger<T> {
         state: DeliveryState,
         batchable: bool,
     ) -> Result<(Vec<LinkFrame>, Outcomes), DispositionError>
-        ensures frames { IfOk result (λ said.
-            Dispositions self.old.link settled state batchable (map (λ pair. pair.0) ids_and_tags.now) said.0.items) }
-        ensures outcomes { IfOk result (λ said.
-            said.1.items ≡ ended_at self.old.link settled (tags_in_order ids_and_tags.now)) }
+        ensures frames { IfOk result (λ answer.
+            Dispositions self.old.link settled state batchable (map (λ pair. pair.0) ids_and_tags.now) answer.0.items) }
+        ensures outcomes { IfOk result (λ answer.
+            answer.1.items ≡ ended_at self.old.link settled (tags_in_order ids_and_tags.now)) }
         ensures link { OnOk result
             (self.new.link ≡ after_disposing self.old.link settled state (tags_in_order ids_and_tags.now)) }
         ensures records { OnOk result (self.new.records ≡ after (Change.Resolves
@@ -110,9 +110,9 @@ impl<T: LinkTarget> OutcomeLedger<T> {
             .link
             .batch_dispose(ids_and_tags, settled, state, batchable)
         {
-            Ok(said) => {
+            Ok(answer) => {
                 resolve_listed(&mut self.registrations, ids_and_tags, copies);
-                Ok(said)
+                Ok(answer)
             }
             Err(refused) => {
                 drop(copies);

@@ -37,7 +37,7 @@ impl Seek {
             number: number as u64,
             seen: 0,
             length: 0,
-            start: told(None, number == 0, 0),
+            start: keep_or_set(None, number == 0, 0),
             end: None,
             tail: Tail::new(),
         }
@@ -60,8 +60,8 @@ impl Seek {
             number: self.number,
             seen,
             length,
-            start: told(self.start, is_number(is_start, seen, self.number), start),
-            end: told(self.end, is_number(is_start, seen, self.number + 1), length),
+            start: keep_or_set(self.start, is_number(is_start, seen, self.number), start),
+            end: keep_or_set(self.end, is_number(is_start, seen, self.number + 1), length),
             tail,
         };
     }
@@ -107,7 +107,7 @@ fn is_number(is_start: bool, seen: u64, number: u64) -> bool
 }
 
 // This place if the flag is set, otherwise the one that is known.
-fn told(known: Option<u64>, is_it: bool, place: u64) -> Option<u64>
+fn keep_or_set(known: Option<u64>, is_it: bool, place: u64) -> Option<u64>
     ensures { result ≡ (if is_it then Some place else known) }
 {
     if is_it { Some(place) } else { known }

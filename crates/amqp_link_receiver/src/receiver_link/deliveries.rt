@@ -2,10 +2,10 @@
 ghost use Rattle.std.specs.Prelude.{◌≡◌, false, None, Some, IfOk, IfErr, IsSome, IsSomeAnd};
 ghost use Rattle.std.specs.Prelude.{⊤, OnOk, OnErr, MatchOption, unwrap_or};
 ghost use Rattle.amqp_link_types.specs.Entries.{entry_at, with_entry};
-ghost use Rattle.amqp_link_receiver.specs.ReceiverDeliveries.{frame_come, number_and_tag, told_of};
+ghost use Rattle.amqp_link_receiver.specs.ReceiverDeliveries.{frame_come, number_and_tag, session_record};
 ghost use Rattle.amqp_link_receiver.specs.ReceiverDeliveries.{with_kept_state, after_state};
 ghost use Rattle.amqp_link_receiver.specs.ReceiverDeliveries.{has_ended as is_terminal_at};
-ghost use Rattle.amqp_link_receiver.specs.ReceiverDeliveries.{is_settled as says_settled};
+ghost use Rattle.amqp_link_receiver.specs.ReceiverDeliveries.{is_settled as is_settled_transfer};
 
 use crate::receiver_link::ReceiverLink;
 use amqp_link_core::endpoint::target::LinkTarget;
@@ -29,25 +29,28 @@ impl<T: LinkTarget> ReceiverLink<T> {
         payload: Payload,
     ) -> Result<(LinkFrame, Option<(DeliveryNumber, DeliveryTag)>), LinkRelayError>
         ensures frame { IfOk result (λ came. came.0 ≡ frame_come transfer payload) }
-        ensures told { IfOk result (λ came. came.1 ≡ told_of self.old transfer) }
+        ensures session { IfOk result (λ came. came.1 ≡ session_record self.old transfer) }
         ensures after { OnOk result (self.new ≡ record self.old { more = transfer.more }) }
         ensures refused { IfErr result (λ error. error ≡ LinkRelayError.OutOfMemory) }
-        ensures memory { OnErr result (IsSome (told_of self.old transfer)) }
+        ensures memory { OnErr result (IsSome (session_record self.old transfer)) }
         ensures left { OnErr result (self.new ≡ self.old) }
     {
-        let Ok(told) = self.told(&transfer) else {
+        let Ok(session) = self.copy_session_record(&transfer) else {
             drop((transfer, payload));
             return Err(LinkRelayError::OutOfMemory);
         };
         // All allocations are done: from here on nothing can fail.
         self.more = transfer.more;
-        Ok((frame_of(transfer, payload), told))
+        Ok((frame_of(transfer, payload), session))
     }
 
     // The delivery id and tag that the session gets with a transfer, if any.
-    fn told(&self, transfer: &Transfer) -> Result<Option<(DeliveryNumber, DeliveryTag)>, AllocError>
-        ensures told { IfOk result (λ told. told ≡ told_of self.now transfer.now) }
-        ensures memory { OnErr result (IsSome (told_of self.now transfer.now)) }
+    fn copy_session_record(
+        &self,
+        transfer: &Transfer,
+    ) -> Result<Option<(DeliveryNumber, DeliveryTag)>, AllocError>
+        ensures record { IfOk result (λ copied. copied ≡ session_record self.now transfer.now) }
+        ensures memory { OnErr result (IsSome (session_record self.now transfer.now)) }
     {
         if is_settled(transfer) || self.more || self.rcv_settle_mode == ReceiverSettleMode::First {
             return Ok(None);
@@ -175,7 +178,7 @@ fn frame_of(transfer: Transfer, payload: Payload) -> LinkFrame
 
 // Whether a delivery is settled by its transfer; absent means false (2.7.5).
 pub(super) fn is_settled(transfer: &Transfer) -> bool
-    ensures { result ≡ says_settled transfer.now }
+    ensures { result ≡ is_settled_transfer transfer.now }
 {
     transfer.settled.unwrap_or(false)
 }

@@ -13,7 +13,7 @@ use amqp_link_types::types::{ApplyRemoteDetachError, DeliveryState, Detach, Deta
 
 impl<T: LinkTarget> ReceiverLink<T> {
     // Moves the link to another state, and releases its output handle.
-    fn let_go(&mut self, next: LinkState)
+    fn release_handle(&mut self, next: LinkState)
         ensures { self.new ≡ record self.old { local_state = next; output_handle = None } }
     {
         self.local_state = next;
@@ -46,7 +46,7 @@ impl<T: LinkTarget> LinkDetach for ReceiverLink<T> {
             drop(detach);
             return Err(DetachError::IllegalState);
         };
-        self.let_go(next);
+        self.release_handle(next);
         result_of_reply(detach)
     }
 
@@ -60,7 +60,7 @@ impl<T: LinkTarget> LinkDetach for ReceiverLink<T> {
             return Err(DetachError::IllegalState);
         };
         let handle = self.output_handle;
-        self.let_go(next);
+        self.release_handle(next);
         let Some(handle) = handle else {
             drop(error);
             return Err(DetachError::IllegalState);
@@ -76,7 +76,7 @@ impl<T: LinkTarget> LinkDetach for ReceiverLink<T> {
             drop(detach);
             return Err(ApplyRemoteDetachError::IllegalState);
         };
-        self.let_go(next);
+        self.release_handle(next);
         result_of_remote_detach(detach)
     }
 }

@@ -4,10 +4,10 @@ ghost use Rattle.std.specs.Prelude.{IfOk, IfErr, IsErrOf, OnOk, OnErr, if◌then
 ghost use Rattle.std.specs.Option.{option_map};
 ghost use Rattle.amqp_link_types.specs.Entries.{entry_at};
 ghost use Rattle.amqp_link_dispositions.specs.Ending.{reply_of};
-ghost use Rattle.amqp_link_dispositions.specs.Keeping.{is_settled_one, said_of_one, after_one};
+ghost use Rattle.amqp_link_dispositions.specs.Keeping.{is_settled_one, disposition_of_one, after_one};
 ghost use Rattle.amqp_link_dispositions.specs.Keeping.{after_dispositions, map_after_sender_disposition};
 ghost use Rattle.amqp_link_dispositions.specs.Listed.{kept_in_order};
-ghost use Rattle.amqp_link_dispositions.specs.Said.{AreSaidAlike};
+ghost use Rattle.amqp_link_dispositions.specs.DispositionFrames.{CoverGroups};
 
 use crate::receiver_link::ReceiverLink;
 use amqp_link_core::endpoint::target::LinkTarget;
@@ -35,7 +35,7 @@ impl<T: LinkTarget> ReceiverLink<T> {
         state: DeliveryState,
         batchable: bool,
     ) -> Result<Option<LinkFrame>, DispositionError>
-        ensures frame { IfOk result (λ frame. frame ≡ said_of_one settled self.old.rcv_settle_mode state
+        ensures frame { IfOk result (λ frame. frame ≡ disposition_of_one settled self.old.rcv_settle_mode state
             batchable delivery_info.now self.old.unsettled) }
         ensures after { OnOk result (self.new ≡ record self.old {
           unsettled = after_one (is_settled_one settled self.old.rcv_settle_mode delivery_info.now) state
@@ -66,7 +66,7 @@ impl<T: LinkTarget> ReceiverLink<T> {
         state: DeliveryState,
         batchable: bool,
     ) -> Result<Vec<LinkFrame>, DispositionError>
-        ensures frames { IfOk result (λ frames. AreSaidAlike settled self.old.rcv_settle_mode state batchable
+        ensures frames { IfOk result (λ frames. CoverGroups settled self.old.rcv_settle_mode state batchable
             (kept_in_order self.old.unsettled delivery_infos.now) frames.items) }
         ensures after { OnOk result (self.new ≡ record self.old {
           unsettled = after_dispositions (is_settled_one settled self.old.rcv_settle_mode) state

@@ -14,7 +14,7 @@ use amqp_link_types::types::{ApplyRemoteDetachError, Detach, DetachError, Error}
 
 impl<T: LinkTarget> SenderLink<T> {
     // Moves the link to another state, and releases its output handle.
-    fn let_go(&mut self, next: LinkState)
+    fn release_handle(&mut self, next: LinkState)
         ensures { self.new ≡ record self.old { local_state = next; output_handle = None } }
     {
         self.local_state = next;
@@ -47,7 +47,7 @@ impl<T: LinkTarget> LinkDetach for SenderLink<T> {
             drop(detach);
             return Err(DetachError::IllegalState);
         };
-        self.let_go(next);
+        self.release_handle(next);
         result_of_reply(detach)
     }
 
@@ -61,7 +61,7 @@ impl<T: LinkTarget> LinkDetach for SenderLink<T> {
             return Err(DetachError::IllegalState);
         };
         let handle = self.output_handle;
-        self.let_go(next);
+        self.release_handle(next);
         let Some(handle) = handle else {
             drop(error);
             return Err(DetachError::IllegalState);
@@ -77,7 +77,7 @@ impl<T: LinkTarget> LinkDetach for SenderLink<T> {
             drop(detach);
             return Err(ApplyRemoteDetachError::IllegalState);
         };
-        self.let_go(next);
+        self.release_handle(next);
         result_of_remote_detach(detach)
     }
 }

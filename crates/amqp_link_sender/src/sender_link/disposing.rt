@@ -35,20 +35,20 @@ impl<T: LinkTarget> SenderLink<T> {
         state: DeliveryState,
         batchable: bool,
     ) -> Result<(Vec<LinkFrame>, Outcomes), DispositionError>
-        ensures frames { IfOk result (λ said.
-            Dispositions self.old settled state batchable (delivery_id ∷ []) said.0.items) }
-        ensures outcomes { IfOk result (λ said.
-            said.1.items ≡ ended_at self.old settled (delivery_tag.now ∷ [])) }
+        ensures frames { IfOk result (λ answer.
+            Dispositions self.old settled state batchable (delivery_id ∷ []) answer.0.items) }
+        ensures outcomes { IfOk result (λ answer.
+            answer.1.items ≡ ended_at self.old settled (delivery_tag.now ∷ [])) }
         ensures after { OnOk result
             (self.new ≡ after_disposing self.old settled state (delivery_tag.now ∷ [])) }
         ensures memory { OnErr result (settles self.old.snd_settle_mode ≡ false) }
         ensures left { OnErr result (self.new ≡ self.old) }
     {
-        if let Some(nothing) = self.nothing_to_say() {
+        if let Some(nothing) = self.skip_dispositions() {
             drop(state);
             return Ok(nothing);
         }
-        let said = sender::dispose(
+        let answer = sender::dispose(
             self.alloc,
             &mut self.unsettled,
             delivery_id,
@@ -57,7 +57,7 @@ impl<T: LinkTarget> SenderLink<T> {
             state,
             batchable,
         )?;
-        Ok(said)
+        Ok(answer)
     }
 
     /// The same of several deliveries, sorted by delivery id; those of one id stay in the order in which they
@@ -72,20 +72,20 @@ impl<T: LinkTarget> SenderLink<T> {
         state: DeliveryState,
         batchable: bool,
     ) -> Result<(Vec<LinkFrame>, Outcomes), DispositionError>
-        ensures frames { IfOk result (λ said.
-            Dispositions self.old settled state batchable (map (λ pair. pair.0) ids_and_tags.now) said.0.items) }
-        ensures outcomes { IfOk result (λ said.
-            said.1.items ≡ ended_at self.old settled (tags_in_order ids_and_tags.now)) }
+        ensures frames { IfOk result (λ answer.
+            Dispositions self.old settled state batchable (map (λ pair. pair.0) ids_and_tags.now) answer.0.items) }
+        ensures outcomes { IfOk result (λ answer.
+            answer.1.items ≡ ended_at self.old settled (tags_in_order ids_and_tags.now)) }
         ensures after { OnOk result
             (self.new ≡ after_disposing self.old settled state (tags_in_order ids_and_tags.now)) }
         ensures memory { OnErr result (settles self.old.snd_settle_mode ≡ false) }
         ensures left { OnErr result (self.new ≡ self.old) }
     {
-        if let Some(nothing) = self.nothing_to_say() {
+        if let Some(nothing) = self.skip_dispositions() {
             drop(state);
             return Ok(nothing);
         }
-        let said = sender::batch_dispose(
+        let answer = sender::batch_dispose(
             self.alloc,
             &mut self.unsettled,
             ids_and_tags,
@@ -93,14 +93,14 @@ impl<T: LinkTarget> SenderLink<T> {
             state,
             batchable,
         )?;
-        Ok(said)
+        Ok(answer)
     }
 
     // The result in mode `Settled`, in which no delivery awaits its outcome: no frames and no outcomes.
-    fn nothing_to_say(&self) -> Option<(Vec<LinkFrame>, Outcomes)>
+    fn skip_dispositions(&self) -> Option<(Vec<LinkFrame>, Outcomes)>
         ensures settled { IsSome result ↔ (settles self.now.snd_settle_mode ≡ true) }
-        ensures frames { IfSome result (λ said. said.0.items ≡ []) }
-        ensures outcomes { IfSome result (λ said. said.1.items ≡ []) }
+        ensures frames { IfSome result (λ answer. answer.0.items ≡ []) }
+        ensures outcomes { IfSome result (λ answer. answer.1.items ≡ []) }
     {
         match self.snd_settle_mode {
             SenderSettleMode::Settled => Some((Vec::new(self.alloc), Vec::new(self.alloc))),

@@ -50,16 +50,20 @@ fn delivery_is_shown_as_text(rt: HostRuntime) {
 }
 
 #[test]
-fn numbers_are_told(rt: HostRuntime) {
+fn numbers_are_returned(rt: HostRuntime) {
     let delivery = delivery(&rt, 3, "hi");
     let handle = delivery.handle();
-    let told = (handle.0, delivery.delivery_id(), delivery.message_format());
+    let actual = (handle.0, delivery.delivery_id(), delivery.message_format());
     drop(delivery);
-    assert_eq!(rt; told, (7, 3, Some(9)), "the handle, the id and the format");
+    assert_eq!(rt;
+        actual,
+        (7, 3, Some(9)),
+        "the handle, the id and the format"
+    );
 }
 
 #[test]
-fn parts_are_lent(rt: HostRuntime) {
+fn parts_are_returned_by_reference(rt: HostRuntime) {
     let delivery = delivery(&rt, 3, "hi");
     let is_tag = delivery.delivery_tag().as_bytes() == [0x01, 0xFF].as_slice();
     let is_body = delivery.body().as_str() == "hi";
@@ -79,7 +83,7 @@ fn is_message(rt: &(impl Abort + AllocGlobal), read: Message<String>, words: &st
 }
 
 #[test]
-fn parts_come_apart(rt: HostRuntime) {
+fn parts_are_returned_owned(rt: HostRuntime) {
     let (of_it, read) = delivery(&rt, 3, "hi").into_parts();
     let is_of_it = is_info(&rt, &of_it, 3);
     drop(of_it);

@@ -12,7 +12,7 @@ fn is_default<T: Default + PartialEq + Drop>(value: T) -> bool {
 }
 
 #[test]
-fn a_default_transfer_says_nothing(rt: HostRuntime) {
+fn a_default_transfer_is_empty(rt: HostRuntime) {
     let nothing = Transfer {
         handle: Handle(0),
         delivery_id: None,
@@ -50,7 +50,7 @@ fn handles_keep_their_number(rt: HostRuntime) {
 }
 
 #[test]
-fn a_default_flow_says_nothing(rt: HostRuntime) {
+fn a_default_flow_is_empty(rt: HostRuntime) {
     let nothing = LinkFlow {
         handle: Handle(0),
         delivery_count: None,

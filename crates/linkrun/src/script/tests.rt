@@ -310,7 +310,7 @@ fn a_line_may_be_long(rt: HostRuntime) -> Result<(), Fail> {
 }
 
 #[test]
-fn a_failed_read_is_told(rt: HostRuntime) {
+fn a_failed_read_is_reported(rt: HostRuntime) {
     for (script, output) in [
         ("", ""),
         ("attach 30\n", "attached 0\n"),
@@ -370,7 +370,7 @@ fn a_failed_write_is_not_spoken_of(rt: HostRuntime) {
 }
 
 #[test]
-fn a_fault_that_cannot_be_told_is_a_failed_write(rt: HostRuntime) {
+fn a_fault_that_cannot_be_printed_is_a_failed_write(rt: HostRuntime) {
     for (script, room, flushes, status) in [
         ("stop\n", 0, true, 1),
         ("stop\n", 20, true, 1),

@@ -79,18 +79,19 @@ fn lines_that_say_nothing_are_passed_over(rt: HostRuntime) {
 }
 
 #[test]
-fn a_row_that_does_not_agree_is_told_of(rt: HostRuntime) {
+fn a_row_that_does_not_agree_is_reported(rt: HostRuntime) {
     let mut rows =
         "value 1 uamqp | _\n# null\nvalue 2 proton | _\nvalue 4 uamqp | list 0\n".as_bytes();
-    let told = b"line 3: 2 stated, 1 computed\nline 4: 4 stated, 1 computed\nvalue 1 of 3 agree\n";
+    let printed =
+        b"line 3: 2 stated, 1 computed\nline 4: 4 stated, 1 computed\nvalue 1 of 3 agree\n";
     let ran = run(rt.alloc(), &mut rows);
-    assert!(rt; ran.output.starts_with(told.as_slice()));
+    assert!(rt; ran.output.starts_with(printed.as_slice()));
     assert_eq!(rt; ran.status, 1);
 }
 
 #[test]
 fn parts_that_the_stored_rows_leave_out_are_read(rt: HostRuntime) {
-    for (rows, told) in [
+    for (rows, printed) in [
         (
             "target 18 uamqp | target 7 _ _ _ _ _ _ symbols 1 61",
             "target 1 of 1 agree\n",
@@ -107,7 +108,7 @@ fn parts_that_the_stored_rows_leave_out_are_read(rt: HostRuntime) {
         let mut input = rows.as_bytes();
         let ran = run(rt.alloc(), &mut input);
         assert!(rt;
-            holds(ran.output.as_slice(), told.as_bytes()),
+            holds(ran.output.as_slice(), printed.as_bytes()),
             "at {rows:?}"
         );
         assert_eq!(rt; ran.status, 0, "at {rows:?}");

@@ -1,26 +1,26 @@
 use Rattle.std.proofs.lemmas.Option.{MatchOption-at_none}
-use Rattle.linkrun.specs.Line.{Says}
+use Rattle.linkrun.specs.Line.{Denotes}
 use Rattle.linkrun.specs.declared.event.Event.TheVariants.{Call, Show}
 use Rattle.amqp_link.specs.declared.Event.TheVariants as call
-use Rattle.linkrun.proofs.LineLemmas.{event_said}
+use Rattle.linkrun.proofs.LineLemmas.{event_denoted}
 use Rattle.linkrun.proofs.event.event_with_bytes.Goals as goal
 
 pub returns-in_err-bytes-clause-err : goal.returns-in_err-bytes-clause-err
-returns-in_err-bytes-clause-err c = event_said _ _ (λ bytes. Call (call.Send bytes)) c.in_err-bytes.ensures.err
+returns-in_err-bytes-clause-err c = event_denoted _ _ (λ bytes. Call (call.Send bytes)) c.in_err-bytes.ensures.err
 
 pub returns-in_err-from_vec-clause-err : goal.returns-in_err-from_vec-clause-err
 returns-in_err-from_vec-clause-err c =
-    let said : Says c.args.line.now (Call (call.Send c.in-Some.bytes.items)) = rw c.in-Some.is at c.in_ok-bytes.ensures.ok in
-    event_said _ _ (λ bytes. Call (call.Send bytes)) (c.in-Some.bytes.items, said)
+    let denoted : Denotes c.args.line.now (Call (call.Send c.in-Some.bytes.items)) = rw c.in-Some.is at c.in_ok-bytes.ensures.ok in
+    event_denoted _ _ (λ bytes. Call (call.Send bytes)) (c.in-Some.bytes.items, denoted)
 
 pub returns-in_err-bytes-2-clause-err : goal.returns-in_err-bytes-2-clause-err
-returns-in_err-bytes-2-clause-err c = event_said _ _ (λ bytes. Call (call.HandOut bytes)) c.in_err-bytes-2.ensures.err
+returns-in_err-bytes-2-clause-err c = event_denoted _ _ (λ bytes. Call (call.HandOut bytes)) c.in_err-bytes-2.ensures.err
 
 pub returns-in_err-bytes-3-clause-err : goal.returns-in_err-bytes-3-clause-err
-returns-in_err-bytes-3-clause-err c = event_said _ _ (λ bytes. Call (call.Settle bytes)) c.in_err-bytes-3.ensures.err
+returns-in_err-bytes-3-clause-err c = event_denoted _ _ (λ bytes. Call (call.Settle bytes)) c.in_err-bytes-3.ensures.err
 
 pub returns-in_err-bytes-4-clause-err : goal.returns-in_err-bytes-4-clause-err
-returns-in_err-bytes-4-clause-err c = event_said _ _ (λ bytes. Show bytes) c.in_err-bytes-4.ensures.err
+returns-in_err-bytes-4-clause-err c = event_denoted _ _ (λ bytes. Show bytes) c.in_err-bytes-4.ensures.err
 
 pub returns-clause-ok : goal.returns-clause-ok
 returns-clause-ok c =

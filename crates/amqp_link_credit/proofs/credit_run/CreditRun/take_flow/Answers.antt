@@ -5,7 +5,7 @@ use Rattle.amqp_link_credit.specs.Queues.{front_of}
 use Rattle.amqp_link_credit.specs.CreditCalls.{TakesFlow}
 use Rattle.amqp_link_credit.specs.CreditWorlds.{CreditWorld, IsCreditWorld}
 use Rattle.amqp_link_credit.specs.RunViews.{run_of}
-use Rattle.amqp_link_credit.proofs.CallLemmas.{came_flow, first_holds, none_holds, flow_is_silent}
+use Rattle.amqp_link_credit.proofs.CallLemmas.{came_flow, first_holds, none_holds, flow_has_no_echo}
 use Rattle.amqp_link_credit.proofs.credit_run.CreditRun.take_flow.Goals as goal
 
 pub unreachable-requires : goal.unreachable-requires
@@ -19,7 +19,7 @@ flow c = first_holds IsFlow c.self.inside.forward.frames c.in-Some.frame c.take_
 
 pub take_at_receiver-requires-clause-silent : goal.take_at_receiver-requires-clause-silent
 take_at_receiver-requires-clause-silent c =
-    flow_is_silent (run_of c.self.inside) c.in-Some.frame c.take_first.new.self.frames c.self.invariant c.in-Some.ensures
+    flow_has_no_echo (run_of c.self.inside) c.in-Some.frame c.take_first.new.self.frames c.self.invariant c.in-Some.ensures
     (first_holds IsFlow c.self.inside.forward.frames c.in-Some.frame c.take_first.new.self.frames c.in-Some.ensures
     (subst (λ (w : CreditWorld). IsSomeAnd (front_of w.forward) IsFlow) (sym c.self.view_is) c.requires))
 

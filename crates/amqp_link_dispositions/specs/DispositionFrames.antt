@@ -15,8 +15,8 @@ use Rattle.amqp_link_dispositions.specs.declared.groups.Group.{Group}
 use Rattle.amqp_link_dispositions.specs.Groups.{AreGroups, numbered}
 
 -- the disposition of one delivery, or of those from the first id to the last
-abbrev pub said_of : Role → ℕ → Option ℕ → Bool → DeliveryState → Bool → LinkFrame
-said_of role first last settled state batchable = frame.Disposition (record {
+abbrev pub disposition_frame : Role → ℕ → Option ℕ → Bool → DeliveryState → Bool → LinkFrame
+disposition_frame role first last settled state batchable = frame.Disposition (record {
   role = role;
   first = first;
   last = last;
@@ -33,15 +33,15 @@ numbers_named_by _ = []
 -- ---- a sender
 
 -- the disposition of a run; the last id is left out if it is the first
-abbrev pub said_of_run : Bool → DeliveryState → Bool → Run → LinkFrame
-said_of_run settled state batchable run =
-    said_of role.Sender run.first (if run.first == run.last then None else Some run.last) settled state batchable
+abbrev pub disposition_of_run : Bool → DeliveryState → Bool → Run → LinkFrame
+disposition_of_run settled state batchable run =
+    disposition_frame role.Sender run.first (if run.first == run.last then None else Some run.last) settled state batchable
 
 -- the frames are the dispositions of the runs of these ids, which are sorted first
-pub record AreSaid (settled : Bool) (state : DeliveryState) (batchable : Bool) (ids : List ℕ) (frames : List LinkFrame) : Type 0 where
+pub record CoverRuns (settled : Bool) (state : DeliveryState) (batchable : Bool) (ids : List ℕ) (frames : List LinkFrame) : Type 0 where
   pub runs : List Run
   pub are_runs : Runs ids runs
-  pub each : frames ≡ map (said_of_run settled state batchable) runs
+  pub each : frames ≡ map (disposition_of_run settled state batchable) runs
 
 -- ---- a receiver
 
@@ -55,12 +55,12 @@ abbrev pub is_settled_by : Option Bool → ReceiverSettleMode → Option Receive
 is_settled_by given own mode = unwrap_or given (settles_at_once (unwrap_or mode own))
 
 -- the disposition of a group; it always has the last id
-abbrev pub said_of_group : Option Bool → ReceiverSettleMode → DeliveryState → Bool → Group → LinkFrame
-said_of_group given own state batchable group =
-    said_of role.Receiver group.run.first (Some group.run.last) (is_settled_by given own group.mode) state batchable
+abbrev pub disposition_of_group : Option Bool → ReceiverSettleMode → DeliveryState → Bool → Group → LinkFrame
+disposition_of_group given own state batchable group =
+    disposition_frame role.Receiver group.run.first (Some group.run.last) (is_settled_by given own group.mode) state batchable
 
 -- the frames are the dispositions of the groups of these deliveries, in this order
-pub record AreSaidAlike (given : Option Bool) (own : ReceiverSettleMode) (state : DeliveryState) (batchable : Bool) (infos : List Info) (frames : List LinkFrame) : Type 0 where
+pub record CoverGroups (given : Option Bool) (own : ReceiverSettleMode) (state : DeliveryState) (batchable : Bool) (infos : List Info) (frames : List LinkFrame) : Type 0 where
   pub groups : List Group
   pub are_groups : AreGroups (map numbered infos) groups
-  pub each : frames ≡ map (said_of_group given own state batchable) groups
+  pub each : frames ≡ map (disposition_of_group given own state batchable) groups

@@ -15,7 +15,7 @@ use Rattle.amqp_link_types.specs.declared.types.delivery_state.DeliveryState.{De
 use Rattle.amqp_link_types.specs.Deliveries.{Info}
 use Rattle.amqp_link_dispositions.specs.declared.groups.Group.{Group}
 use Rattle.amqp_link_dispositions.specs.Groups.{Numbered, numbered, group_out}
-use Rattle.amqp_link_dispositions.specs.Said.{AreSaid, AreSaidAlike, numbers_named_by, said_of_run, said_of_group}
+use Rattle.amqp_link_dispositions.specs.DispositionFrames.{CoverRuns, CoverGroups, numbers_named_by, disposition_of_run, disposition_of_group}
 
 -- a run's last number that is left out is its first
 last_or_first : (first last : ℕ) → unwrap_or (if first == last then None else Some last) first ≡ last
@@ -24,7 +24,7 @@ last_or_first first last = elim (eqb_tells first last) [
   | inr other ↦ ap (λ b. unwrap_or (if b then None else Some last) first) other.0
 ]
 
-named-run : (settled : Bool) (state : DeliveryState) (batchable : Bool) (run : Run) → numbers_named_by (said_of_run settled state batchable run) ≡ written_out run
+named-run : (settled : Bool) (state : DeliveryState) (batchable : Bool) (run : Run) → numbers_named_by (disposition_of_run settled state batchable run) ≡ written_out run
 named-run settled state batchable run = ap (λ last. range_with_len run.first (last + 1 - run.first)) (last_or_first run.first run.last)
 
 -- one number is one run
@@ -37,17 +37,17 @@ one_run id =
       longest = tt;
     }
 
-pub said_of_one : (settled : Bool) (state : DeliveryState) (batchable : Bool) (id : ℕ)
-    → AreSaid settled state batchable (id ∷ []) (said_of_run settled state batchable (record { first = id; last = id }) ∷ [])
-said_of_one settled state batchable id = record { runs = record { first = id; last = id } ∷ []; are_runs = one_run id; each = refl }
+pub one_disposition : (settled : Bool) (state : DeliveryState) (batchable : Bool) (id : ℕ)
+    → CoverRuns settled state batchable (id ∷ []) (disposition_of_run settled state batchable (record { first = id; last = id }) ∷ [])
+one_disposition settled state batchable id = record { runs = record { first = id; last = id } ∷ []; are_runs = one_run id; each = refl }
 
 pub names_listed : (settled : Bool) (state : DeliveryState) (batchable : Bool) (ids : List ℕ) (frames : List LinkFrame)
-    → AreSaid settled state batchable ids frames → flat_map numbers_named_by frames ≡ sorted_by (λ id. id) ids
-names_listed settled state batchable ids frames said =
-    ap (flat_map numbers_named_by) said.each
-    ∙ flat_map-map numbers_named_by (said_of_run settled state batchable) said.runs
-    ∙ (λ i. flat_map (λ run. named-run settled state batchable run i) said.runs)
-    ∙ said.are_runs.all
+    → CoverRuns settled state batchable ids frames → flat_map numbers_named_by frames ≡ sorted_by (λ id. id) ids
+names_listed settled state batchable ids frames covered =
+    ap (flat_map numbers_named_by) covered.each
+    ∙ flat_map-map numbers_named_by (disposition_of_run settled state batchable) covered.runs
+    ∙ (λ i. flat_map (λ run. named-run settled state batchable run i) covered.runs)
+    ∙ covered.are_runs.all
 
 -- the numbers of what groups name
 numbers_out : (groups : List Group) → map (λ d. d.0) (flat_map group_out groups) ≡ flat_map (λ group. written_out group.run) groups
@@ -58,12 +58,12 @@ numbers_out (g ∷ groups) =
     ∙ ap (λ l. written_out g.run ++ l) (numbers_out groups)
 
 pub names_sorted : (given : Option Bool) (own : ReceiverSettleMode) (state : DeliveryState) (batchable : Bool) (infos : List Info) (frames : List LinkFrame)
-    → AreSaidAlike given own state batchable (sorted_by (λ info. info.delivery_id) infos) frames
+    → CoverGroups given own state batchable (sorted_by (λ info. info.delivery_id) infos) frames
     → flat_map numbers_named_by frames ≡ sorted_by (λ id. id) (map (λ info. info.delivery_id) infos)
-names_sorted given own state batchable infos frames said =
-    ap (flat_map numbers_named_by) said.each
-    ∙ flat_map-map numbers_named_by (said_of_group given own state batchable) said.groups
-    ∙ sym (numbers_out said.groups)
-    ∙ ap (map (λ d. d.0)) said.are_groups.all
+names_sorted given own state batchable infos frames covered =
+    ap (flat_map numbers_named_by) covered.each
+    ∙ flat_map-map numbers_named_by (disposition_of_group given own state batchable) covered.groups
+    ∙ sym (numbers_out covered.groups)
+    ∙ ap (map (λ d. d.0)) covered.are_groups.all
     ∙ map-map (λ (d : Numbered). d.0) numbered (sorted_by (λ info. info.delivery_id) infos)
     ∙ sorted-map (λ info. info.delivery_id) (λ id. id) infos
