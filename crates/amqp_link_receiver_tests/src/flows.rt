@@ -3,7 +3,7 @@ use crate::samples::{fields, parts};
 use amqp_link_core::endpoint::LinkExt;
 use amqp_link_receiver::ReceiverLink;
 use amqp_link_state::state::LinkFlowStateInner;
-use amqp_link_tests_support::links::{FlowFields, actual, reply_fields};
+use amqp_link_tests_support::links::{FlowFields, flow_fields, reply_fields};
 use amqp_link_types::frame::LinkFrame;
 use amqp_link_types::types::{
     FlowError, LinkFlow, LinkRelayError, OutputHandle, SenderSettleMode, Target,
@@ -58,7 +58,7 @@ fn flow_in(frame: &LinkFrame) -> Option<&LinkFlow> {
 // The fields of the flow that was sent, if one was.
 fn shown_by(sent: &Result<LinkFrame, FlowError>) -> Result<Option<FlowFields>, FlowError> {
     match sent {
-        Ok(frame) => Ok(flow_in(frame).and_then(actual)),
+        Ok(frame) => Ok(flow_in(frame).and_then(flow_fields)),
         Err(error) => Err(*error),
     }
 }

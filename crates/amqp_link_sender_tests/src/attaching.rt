@@ -1,6 +1,8 @@
 //! Worked values of a sender's attaches.
 use crate::samples::{attach_of, fields, parts, payload_of};
-use crate::sending::{Shown, attached, new_link, send_flagged, shown_by, shown_by_error};
+use crate::sending::{
+    SendAnswer, answered_by, answered_by_error, attached, new_link, send_flagged,
+};
 use amqp_link_core::endpoint::target::LinkTarget;
 use amqp_link_core::endpoint::{LinkAttach, LinkDetach, LinkExt};
 use amqp_link_sender::{SenderAttachExchange, SenderLink};
@@ -121,19 +123,19 @@ fn complete_attach_is_measured_with_its_count(rt: HostRuntime) {
 }
 
 // The last byte of the tag of an outcome, and the outcome.
-fn ended(outcomes: &Outcomes, index: usize) -> Option<(u8, Shown)> {
+fn ended(outcomes: &Outcomes, index: usize) -> Option<(u8, SendAnswer)> {
     let (tag, outcome) = outcomes.get(index)?;
     let last = *tag.as_bytes().last()?;
     match outcome {
         Ok(_) => None,
-        Err(error) => Some((last, shown_by_error(error))),
+        Err(error) => Some((last, answered_by_error(error))),
     }
 }
 
 // How many deliveries a reattach resolves, and the outcomes of the first three.
 fn ends_in(
     sent: &Result<(LinkFrame, Outcomes), SenderAttachError>,
-) -> Option<(usize, [Option<(u8, Shown)>; 3])> {
+) -> Option<(usize, [Option<(u8, SendAnswer)>; 3])> {
     let (_, outcomes) = sent.as_ref().ok()?;
     let ends = [ended(outcomes, 0), ended(outcomes, 1), ended(outcomes, 2)];
     Some((outcomes.len(), ends))
@@ -160,8 +162,8 @@ fn detached_after(
     let link = SenderLink::new(rt.alloc(), parts).with_output_handle(OutputHandle(0));
     let mut link = attached(rt, link, SenderSettleMode::Mixed, 4);
     for _ in 0..pending {
-        let actual = shown_by(send_flagged(&mut link, &payload_of(rt, &[7]), None));
-        assert_eq!(rt; actual, Shown::Unsettled);
+        let actual = answered_by(send_flagged(&mut link, &payload_of(rt, &[7]), None));
+        assert_eq!(rt; actual, SendAnswer::Unsettled);
     }
     drop(link.send_detach(closed, None));
     drop(link.on_detach_reply(reply(closed)));
@@ -186,7 +188,7 @@ fn reattach_gives_pending_deliveries_up(rt: HostRuntime) {
         incomplete: false,
     };
     assert_eq!(rt; shown, Ok(Some(wanted)));
-    let illegal = Shown::IllegalState;
+    let illegal = SendAnswer::IllegalState;
     let given_up = [Some((0, illegal)), Some((1, illegal)), Some((2, illegal))];
     assert_eq!(rt; ends, Some((3, given_up)));
     assert_eq!(rt; pending, 0);

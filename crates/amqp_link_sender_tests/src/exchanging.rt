@@ -1,7 +1,7 @@
 //! Worked values of the exchange of unsettled maps, as a sender is attached again (2.6.13).
 use crate::attaching::{refused_by, reply};
 use crate::samples::{attach_of, count_tag, payload_of};
-use crate::sending::{Shown, attached, new_link, send_flagged, shown_by};
+use crate::sending::{SendAnswer, answered_by, attached, new_link, send_flagged};
 use amqp_link_core::endpoint::target::LinkTarget;
 use amqp_link_core::endpoint::{LinkAttach, LinkDetach, LinkExt};
 use amqp_link_core::resumption::ResumingDelivery;
@@ -137,8 +137,8 @@ fn reattaching(rt: &(impl Abort + AllocGlobal)) -> SenderLink<Target> {
     let mut link = attached(rt, new_link(rt, mode), mode, 3);
     let payload = Payload::from_static(WHOLE);
     for _ in 0..3 {
-        let actual = shown_by(send_flagged(&mut link, &payload, None));
-        assert_eq!(rt; actual, Shown::Unsettled);
+        let actual = answered_by(send_flagged(&mut link, &payload, None));
+        assert_eq!(rt; actual, SendAnswer::Unsettled);
     }
     let second = count_tag(rt, 1);
     drop(link.dispose(1, &second, false, DeliveryState::Accepted, false));

@@ -1,6 +1,6 @@
 //! Worked values of deliveries that are resumed, put back or withdrawn (2.6.13).
 use crate::samples::{count_tag, parts, payload_of};
-use crate::sending::{Shown, link, new_link, shown_by_error};
+use crate::sending::{SendAnswer, answered_by_error, link, new_link};
 use amqp_link_core::endpoint::LinkExt;
 use amqp_link_sender::SenderLink;
 use amqp_link_tests_support::links::went;
@@ -53,10 +53,10 @@ fn resuming_transfer_is_unsettled_in_each_mode(rt: HostRuntime) {
 fn no_transfer_is_made_without_output_handle(rt: HostRuntime) {
     let link = SenderLink::new(rt.alloc(), parts(&rt, SenderSettleMode::Mixed, 512));
     let transfer = resuming(&rt, &link, 3);
-    let actual = transfer.as_ref().err().map(shown_by_error);
+    let actual = transfer.as_ref().err().map(answered_by_error);
     drop(transfer);
     drop(link);
-    assert_eq!(rt; actual, Some(Shown::IllegalState));
+    assert_eq!(rt; actual, Some(SendAnswer::IllegalState));
 }
 
 // Its descriptor and the list's head take three bytes each, the handle one, the largest delivery id five, the
@@ -115,11 +115,11 @@ fn shown_in(frames: &[LinkFrame]) -> [Option<Shown>; 7] {
 fn refusal_of(
     rt: &(impl Abort + AllocGlobal),
     refused: &(LinkStateError, UnsettledMessage),
-) -> (Shown, bool) {
+) -> (SendAnswer, bool) {
     let wanted = entry(rt);
     let is_back = refused.1 == wanted;
     drop(wanted);
-    (shown_by_error(&refused.0), is_back)
+    (answered_by_error(&refused.0), is_back)
 }
 
 // Sends the last twelve bytes of an entry with this transfer under this tag.
@@ -128,7 +128,7 @@ fn send_rest(
     link: &mut SenderLink<Target>,
     transfer: Transfer,
     count: u8,
-) -> Result<[Option<Shown>; 7], (Shown, bool)> {
+) -> Result<[Option<Shown>; 7], (SendAnswer, bool)> {
     let rest = payload_of(rt, &MESSAGE[4..]);
     let sent = link.send_unsettled_transfer(transfer, &rest, count_tag(rt, count), entry(rt));
     let shown = match &sent {
@@ -144,7 +144,7 @@ fn resume(
     rt: &(impl Abort + AllocGlobal),
     link: &mut SenderLink<Target>,
     count: u8,
-) -> Result<[Option<Shown>; 7], (Shown, bool)> {
+) -> Result<[Option<Shown>; 7], (SendAnswer, bool)> {
     let transfer = resuming(rt, link, count).expect(rt, "a transfer");
     send_rest(rt, link, transfer, count)
 }
@@ -211,7 +211,7 @@ fn told_at_24(
     rt: &(impl Abort + AllocGlobal),
     mut link: SenderLink<Target>,
     count: u8,
-) -> (Option<(Shown, bool)>, usize) {
+) -> (Option<(SendAnswer, bool)>, usize) {
     let put = went(link.put_back(count_tag(rt, 7), entry(rt)));
     assert!(rt; put, "a free tag");
     link.set_max_frame_size(24);
@@ -226,11 +226,11 @@ fn told_at_24(
 fn resumed_send_is_refused_in_order(rt: HostRuntime) {
     let mode = SenderSettleMode::Mixed;
     let unattached = told_at_24(&rt, new_link(&rt, mode), 7);
-    assert_eq!(rt; unattached, (Some((Shown::IllegalState, true)), 1));
+    assert_eq!(rt; unattached, (Some((SendAnswer::IllegalState, true)), 1));
     let pending = told_at_24(&rt, link(&rt, mode, 512, 1), 7);
-    assert_eq!(rt; pending, (Some((Shown::TagPending, true)), 1));
+    assert_eq!(rt; pending, (Some((SendAnswer::TagPending, true)), 1));
     let without_room = told_at_24(&rt, link(&rt, mode, 512, 1), 8);
-    assert_eq!(rt; without_room, (Some((Shown::NoRoom, true)), 1));
+    assert_eq!(rt; without_room, (Some((SendAnswer::NoRoom, true)), 1));
 }
 
 // The error of a second entry under a pending tag, and whether the first entry stays.
@@ -253,7 +253,7 @@ fn pending_entry_is_not_replaced(rt: HostRuntime) {
     let second = is_whole(&rt, &link, 7);
     let pending = link.unsettled().len();
     drop(link);
-    assert_eq!(rt; actual, Some((Shown::TagPending, true)));
+    assert_eq!(rt; actual, Some((SendAnswer::TagPending, true)));
     assert_eq!(rt; (first, second, pending), (true, false, 2));
 }
 

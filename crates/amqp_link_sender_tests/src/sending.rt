@@ -49,7 +49,7 @@ pub(crate) fn attached(
 
 // The result of a send.
 #[derive(Clone, Copy, Debug, PartialEq, Eq)]
-pub(crate) enum Shown {
+pub(crate) enum SendAnswer {
     Settled,
     Unsettled,
     CreditMissing,
@@ -64,37 +64,37 @@ pub(crate) enum Shown {
     Other,
 }
 
-fn shown_by_settlement(settlement: &Settlement) -> Shown {
+fn answered_by_settlement(settlement: &Settlement) -> SendAnswer {
     match settlement {
-        Settlement::Settled(_) => Shown::Settled,
-        Settlement::Unsettled(_) => Shown::Unsettled,
+        Settlement::Settled(_) => SendAnswer::Settled,
+        Settlement::Unsettled(_) => SendAnswer::Unsettled,
     }
 }
 
-pub(crate) fn shown_by_error(error: &LinkStateError) -> Shown {
+pub(crate) fn answered_by_error(error: &LinkStateError) -> SendAnswer {
     match error {
-        LinkStateError::IllegalState => Shown::IllegalState,
-        LinkStateError::RemoteDetached => Shown::RemoteDetached,
-        LinkStateError::RemoteClosed => Shown::RemoteClosed,
-        LinkStateError::RemoteClosedWithError(_) => Shown::RemoteClosedWithError,
-        LinkStateError::ExpectImmediateDetach => Shown::ExpectImmediateDetach,
-        LinkStateError::SessionStopped(_) => Shown::SessionStopped,
-        LinkStateError::TagPending => Shown::TagPending,
-        LinkStateError::NoRoom => Shown::NoRoom,
-        _ => Shown::Other,
+        LinkStateError::IllegalState => SendAnswer::IllegalState,
+        LinkStateError::RemoteDetached => SendAnswer::RemoteDetached,
+        LinkStateError::RemoteClosed => SendAnswer::RemoteClosed,
+        LinkStateError::RemoteClosedWithError(_) => SendAnswer::RemoteClosedWithError,
+        LinkStateError::ExpectImmediateDetach => SendAnswer::ExpectImmediateDetach,
+        LinkStateError::SessionStopped(_) => SendAnswer::SessionStopped,
+        LinkStateError::TagPending => SendAnswer::TagPending,
+        LinkStateError::NoRoom => SendAnswer::NoRoom,
+        _ => SendAnswer::Other,
     }
 }
 
-fn shown_of(sending: &Result<Sending, LinkStateError>) -> Shown {
+fn answered_of(sending: &Result<Sending, LinkStateError>) -> SendAnswer {
     match sending {
-        Ok(Sending::Sent { settlement, .. }) => shown_by_settlement(settlement),
-        Ok(Sending::CreditMissing) => Shown::CreditMissing,
-        Err(error) => shown_by_error(error),
+        Ok(Sending::Sent { settlement, .. }) => answered_by_settlement(settlement),
+        Ok(Sending::CreditMissing) => SendAnswer::CreditMissing,
+        Err(error) => answered_by_error(error),
     }
 }
 
-pub(crate) fn shown_by(sending: Result<Sending, LinkStateError>) -> Shown {
-    let actual = shown_of(&sending);
+pub(crate) fn answered_by(sending: Result<Sending, LinkStateError>) -> SendAnswer {
+    let actual = answered_of(&sending);
     drop(sending);
     actual
 }
@@ -230,13 +230,13 @@ fn twelve_bytes_are_three_frames(rt: HostRuntime) {
 // What a link shows after a send: the result, its credit, its count, and how many deliveries are pending.
 #[derive(Clone, Copy, Debug, PartialEq, Eq)]
 struct Standing {
-    actual: Shown,
+    actual: SendAnswer,
     credit: u32,
     count: u32,
     pending: usize,
 }
 
-fn after(link: &SenderLink<Target>, actual: Shown) -> Standing {
+fn after(link: &SenderLink<Target>, actual: SendAnswer) -> Standing {
     Standing {
         actual,
         credit: link.flow_state().link_credit(),
@@ -247,14 +247,14 @@ fn after(link: &SenderLink<Target>, actual: Shown) -> Standing {
 
 // What a link shows after a send with credit 1, whether the tag of its count is pending then, and the result
 // of a second send.
-fn sent_twice(rt: &(impl Abort + AllocGlobal)) -> (Standing, bool, Shown) {
+fn sent_twice(rt: &(impl Abort + AllocGlobal)) -> (Standing, bool, SendAnswer) {
     let mut link = link(rt, SenderSettleMode::Mixed, 30, 1);
     let payload = payload_of(rt, &[7]);
     let tag = count_tag(rt, 0);
-    let actual = shown_by(send_flagged(&mut link, &payload, None));
+    let actual = answered_by(send_flagged(&mut link, &payload, None));
     let sent = after(&link, actual);
     let is_kept = link.unsettled().contains(&tag);
-    let again = shown_by(send_flagged(&mut link, &payload, None));
+    let again = answered_by(send_flagged(&mut link, &payload, None));
     drop((payload, tag));
     drop(link);
     (sent, is_kept, again)
@@ -264,19 +264,19 @@ fn sent_twice(rt: &(impl Abort + AllocGlobal)) -> (Standing, bool, Shown) {
 #[test]
 fn sent_delivery_is_pending(rt: HostRuntime) {
     let sent = Standing {
-        actual: Shown::Unsettled,
+        actual: SendAnswer::Unsettled,
         credit: 0,
         count: 1,
         pending: 1,
     };
-    assert_eq!(rt; sent_twice(&rt), (sent, true, Shown::CreditMissing));
+    assert_eq!(rt; sent_twice(&rt), (sent, true, SendAnswer::CreditMissing));
 }
 
 // What a link with credit 1 at this limit shows after a send of these bytes.
 fn sent_at(rt: &(impl Abort + AllocGlobal), limit: u32, bytes: &[u8]) -> Standing {
     let mut link = link(rt, SenderSettleMode::Mixed, limit, 1);
     let payload = payload_of(rt, bytes);
-    let actual = shown_by(send_flagged(&mut link, &payload, None));
+    let actual = answered_by(send_flagged(&mut link, &payload, None));
     let after = after(&link, actual);
     drop((payload, link));
     after
@@ -286,13 +286,13 @@ fn sent_at(rt: &(impl Abort + AllocGlobal), limit: u32, bytes: &[u8]) -> Standin
 #[test]
 fn frames_have_room_or_nothing_changes(rt: HostRuntime) {
     let refused = Standing {
-        actual: Shown::NoRoom,
+        actual: SendAnswer::NoRoom,
         credit: 1,
         count: 0,
         pending: 0,
     };
     let sent = Standing {
-        actual: Shown::Unsettled,
+        actual: SendAnswer::Unsettled,
         credit: 0,
         count: 1,
         pending: 1,
@@ -341,10 +341,10 @@ fn settled_at(
     rt: &(impl Abort + AllocGlobal),
     mode: SenderSettleMode,
     given: Option<bool>,
-) -> (Shown, bool) {
+) -> (SendAnswer, bool) {
     let mut link = link(rt, mode, 64, 1);
     let payload = payload_of(rt, &[7]);
-    let actual = shown_by(send_flagged(&mut link, &payload, given));
+    let actual = answered_by(send_flagged(&mut link, &payload, given));
     let tag = count_tag(rt, 0);
     let is_pending = link.unsettled().contains(&tag);
     drop((payload, tag));
@@ -362,9 +362,9 @@ fn settled_goes_by_mode(rt: HostRuntime) {
         (SenderSettleMode::Mixed, Some(true), true),
     ] {
         let actual = if settled {
-            Shown::Settled
+            SendAnswer::Settled
         } else {
-            Shown::Unsettled
+            SendAnswer::Unsettled
         };
         let wanted = (actual, !settled);
         assert_eq!(rt; settled_at(&rt, mode, given), wanted, "{mode:?} {given:?}");
@@ -381,15 +381,15 @@ fn transfer(rt: &(impl Abort + AllocGlobal), count: u8, settled: bool) -> Transf
     }
 }
 
-fn shown_of_transfer(sent: &Result<(Settlement, Vec<LinkFrame>), LinkStateError>) -> Shown {
+fn answered_of_transfer(sent: &Result<(Settlement, Vec<LinkFrame>), LinkStateError>) -> SendAnswer {
     match sent {
-        Ok((settlement, _)) => shown_by_settlement(settlement),
-        Err(error) => shown_by_error(error),
+        Ok((settlement, _)) => answered_by_settlement(settlement),
+        Err(error) => answered_by_error(error),
     }
 }
 
-fn shown_by_transfer(sent: Result<(Settlement, Vec<LinkFrame>), LinkStateError>) -> Shown {
-    let actual = shown_of_transfer(&sent);
+fn answered_by_transfer(sent: Result<(Settlement, Vec<LinkFrame>), LinkStateError>) -> SendAnswer {
+    let actual = answered_of_transfer(&sent);
     drop(sent);
     actual
 }
@@ -399,9 +399,9 @@ fn send_with(
     rt: &(impl Abort + AllocGlobal),
     link: &mut SenderLink<Target>,
     transfer: Transfer,
-) -> Shown {
+) -> SendAnswer {
     let payload = payload_of(rt, &[7]);
-    let actual = shown_by_transfer(link.send_payload_with_transfer(3, transfer, &payload));
+    let actual = answered_by_transfer(link.send_payload_with_transfer(3, transfer, &payload));
     drop(payload);
     actual
 }
@@ -417,7 +417,7 @@ fn is_plainly_kept(rt: &(impl Abort + AllocGlobal), link: &SenderLink<Target>) -
 
 // The results of an unsettled transfer, the same again and a settled one, whether the first has a plain
 // entry, and how many deliveries are pending at last.
-fn sent_thrice(rt: &(impl Abort + AllocGlobal)) -> ([Shown; 3], bool, usize) {
+fn sent_thrice(rt: &(impl Abort + AllocGlobal)) -> ([SendAnswer; 3], bool, usize) {
     let mut link = link(rt, SenderSettleMode::Mixed, 64, 0);
     let first = send_with(rt, &mut link, transfer(rt, 1, false));
     let is_plain = is_plainly_kept(rt, &link);
@@ -431,7 +431,11 @@ fn sent_thrice(rt: &(impl Abort + AllocGlobal)) -> ([Shown; 3], bool, usize) {
 // A pending tag refuses an unsettled transfer, not a settled one; the entry has no state.
 #[test]
 fn transfers_name_their_delivery(rt: HostRuntime) {
-    let actual = [Shown::Unsettled, Shown::TagPending, Shown::Settled];
+    let actual = [
+        SendAnswer::Unsettled,
+        SendAnswer::TagPending,
+        SendAnswer::Settled,
+    ];
     assert_eq!(rt; sent_thrice(&rt), (actual, true, 1));
 }
 
@@ -470,7 +474,7 @@ fn frames_go_with_their_transfer(rt: HostRuntime) {
 fn unnamed_transfer_is_refused(rt: HostRuntime) {
     let mut link = link(&rt, SenderSettleMode::Mixed, 64, 0);
     let actual = send_with(&rt, &mut link, Transfer::default());
-    assert_eq!(rt; actual, Shown::IllegalState);
+    assert_eq!(rt; actual, SendAnswer::IllegalState);
     drop(link);
 }
 

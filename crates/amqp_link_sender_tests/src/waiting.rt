@@ -1,6 +1,6 @@
 //! What is pending at a sender when a payload is to be sent.
 use crate::samples::{attach_of, payload_of, text};
-use crate::sending::{Shown, link, shown_by};
+use crate::sending::{SendAnswer, answered_by, link};
 use amqp_link_core::endpoint::LinkExt;
 use amqp_link_sender::Waiting;
 use amqp_link_state::state::LinkState;
@@ -13,7 +13,7 @@ use std::process::Abort;
 // The result of a send at an attached link with credit 1 while this is pending, and what the link shows.
 #[derive(Clone, Copy, Debug, PartialEq, Eq)]
 struct Left {
-    actual: Shown,
+    actual: SendAnswer,
     state: LinkState,
     has_handle: bool,
     credit: u32,
@@ -24,7 +24,7 @@ fn left_by(rt: &(impl Abort + AllocGlobal), waiting: Waiting) -> Left {
     let payload = payload_of(rt, &[7]);
     let sending = link.send_payload(waiting, &payload, 0, None, None, false);
     let left = Left {
-        actual: shown_by(sending),
+        actual: answered_by(sending),
         state: *link.local_state(),
         has_handle: link.output_handle_mut().is_some(),
         credit: link.flow_state().link_credit(),
@@ -50,7 +50,7 @@ fn error(rt: &(impl Abort + AllocGlobal)) -> Error {
 }
 
 // What a link shows that was detached.
-fn gone(actual: Shown, state: LinkState) -> Left {
+fn gone(actual: SendAnswer, state: LinkState) -> Left {
     Left {
         actual,
         state,
@@ -60,7 +60,7 @@ fn gone(actual: Shown, state: LinkState) -> Left {
 }
 
 // What a link shows that did not change.
-fn kept(actual: Shown) -> Left {
+fn kept(actual: SendAnswer) -> Left {
     Left {
         actual,
         state: LinkState::Attached,
@@ -72,13 +72,16 @@ fn kept(actual: Shown) -> Left {
 #[test]
 fn waiting_detach_is_recorded(rt: HostRuntime) {
     let closed = left_by(&rt, detach(true, None));
-    assert_eq!(rt; closed, gone(Shown::RemoteClosed, LinkState::Closed));
+    assert_eq!(rt; closed, gone(SendAnswer::RemoteClosed, LinkState::Closed));
     let detached = left_by(&rt, detach(false, None));
-    assert_eq!(rt; detached, gone(Shown::RemoteDetached, LinkState::Detached));
+    assert_eq!(rt;
+        detached,
+        gone(SendAnswer::RemoteDetached, LinkState::Detached)
+    );
     let with_error = left_by(&rt, detach(true, Some(error(&rt))));
     assert_eq!(rt;
         with_error,
-        gone(Shown::RemoteClosedWithError, LinkState::Closed)
+        gone(SendAnswer::RemoteClosedWithError, LinkState::Closed)
     );
 }
 
@@ -86,12 +89,12 @@ fn waiting_detach_is_recorded(rt: HostRuntime) {
 fn nothing_else_may_wait(rt: HostRuntime) {
     let attach = attach_of(&rt, Role::Receiver, SenderSettleMode::Mixed);
     let other = left_by(&rt, Waiting::Frame(LinkFrame::Attach(attach)));
-    assert_eq!(rt; other, kept(Shown::ExpectImmediateDetach));
+    assert_eq!(rt; other, kept(SendAnswer::ExpectImmediateDetach));
     assert_eq!(rt;
         left_by(&rt, Waiting::Stopped(None)),
-        kept(Shown::ExpectImmediateDetach)
+        kept(SendAnswer::ExpectImmediateDetach)
     );
     let stopped = left_by(&rt, Waiting::Stopped(Some(SessionStopReason::Ended)));
-    assert_eq!(rt; stopped, kept(Shown::SessionStopped));
+    assert_eq!(rt; stopped, kept(SendAnswer::SessionStopped));
     drop(other);
 }
