@@ -2,6 +2,7 @@ pub use Rattle.amqp_link_core.specs.AttachFields
 pub use Rattle.amqp_link_core.specs.AttachSent
 pub use Rattle.amqp_link_core.specs.AttachTests
 pub use Rattle.amqp_link_core.specs.Attaching
+pub use Rattle.amqp_link_core.specs.Carries
 pub use Rattle.amqp_link_core.specs.Detaching
 pub use Rattle.amqp_link_core.specs.Failing
 pub use Rattle.amqp_link_core.specs.Held
@@ -34,6 +35,7 @@ pub use Rattle.amqp_link_payloads.specs.Header
 pub use Rattle.amqp_link_payloads.specs.Pieces
 pub use Rattle.amqp_link_payloads.specs.Position
 pub use Rattle.amqp_link_payloads.specs.Section
+pub use Rattle.amqp_link_payloads.specs.Sections
 pub use Rattle.amqp_link_receiver.specs.Completing
 pub use Rattle.amqp_link_receiver.specs.ReceiverAttaches
 pub use Rattle.amqp_link_receiver.specs.ReceiverDeliveries

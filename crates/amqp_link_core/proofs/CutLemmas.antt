@@ -1,16 +1,12 @@
 -- Pieces that are cut after a number of bytes, and the front that is left.
-use Rattle.std.proofs.Common.{◌≡◌, ◌+◌, ◌-◌, ◌^◌, ◌<◌, ◌≤◌, ◌⊎◌, inl, inr, ℕ, List, ◌++◌, length, take, drop, set, get_or, sym, ap, ◌∙◌, refl, subst, arith, length-append, append_assoc, slice_get}
+use Rattle.std.proofs.Common.{◌≡◌, ◌+◌, ◌-◌, ◌<◌, ◌≤◌, ℕ, List, ◌++◌, length, take, drop, set, get_or, sym, ap, ◌∙◌, refl, subst, arith, length-append, append_assoc, slice_get}
 use Rattle.std.specs.List.{concat, slice_range}
 use Rattle.std.specs.Prelude.{Option, Some, None, IsSomeAnd}
-use Rattle.std.proofs.lemmas.Bool.{cases_lt}
-use Rattle.std.proofs.lemmas.List.{append-nil, take-append-drop, take-append-le, take_more_set, take_all, length-take-le}
+use Rattle.std.proofs.lemmas.List.{append-nil, take-append-drop, take-append-le, take_more_set}
 use Rattle.std.proofs.lemmas.List.Folds.{concat-append}
 use Rattle.std.proofs.lemmas.Option.{slice_get_within, get_or_from_slice_get}
 use Rattle.bytes.proofs.Ranges.{take-append_past}
-use Rattle.amqp_link_payloads.specs.Position.{position, IsBefore}
-use Rattle.amqp_link_payloads.proofs.FrontLemmas.{position_rises}
 use Rattle.amqp_link_payloads.proofs.PositionLemmas.{concat_push, concat_next}
-use Rattle.amqp_link_core.specs.Held.{IsCountable}
 
 -- the bytes of some first pieces, and of all others
 concat_parts : (xss : List (List ℕ)) (i : ℕ) → concat xss ≡ concat (take i xss) ++ concat (drop i xss)
@@ -56,24 +52,3 @@ cut_within xss new i n r piece front some size is cut items = with_piece (slice_
       where
         front_of : (xs : List ℕ) (k : ℕ) → slice_range xs 0 k ≡ take k xs
         front_of xs k = ap (λ j. take j xs) (let e : k - 0 ≡ k = omega arith in e)
-
--- the bytes up to a place can be counted where all can
-pub front_counted : (F G : List ℕ) (n i : ℕ) → IsCountable F n → i ≤ length F → G ≡ take i F → IsCountable G i
-front_counted F G n i is le front =
-    let size : i ≡ length (take i F) = sym (length-take-le i F le) in
-    record {
-      size = size ∙ ap length (sym front);
-      fits = omega (arith, is.fits, ap length front);
-      sections = subst (λ H. (position H).0 < 2 ^ 32) (sym front) (fewer (cases_lt i (length F)));
-    }
-  where
-    fewer : (i < length F) ⊎ (length F ≤ i) → (position (take i F)).0 < 2 ^ 32
-    fewer (inr past) = subst (λ H. (position H).0 < 2 ^ 32) (sym (take_all i F past)) is.sections
-    fewer (inl lt) =
-        let before : IsBefore (position (take i F)) (position (take (length F) F)) = position_rises F i (length F) lt (omega arith) in
-        let whole : take (length F) F ≡ F = take_all (length F) F (omega arith) in
-        at_most (position (take i F)) (position F) (subst (λ H. IsBefore (position (take i F)) (position H)) whole before) is.sections
-      where
-        at_most : (a b : ℕ × ℕ) → IsBefore a b → b.0 < 2 ^ 32 → a.0 < 2 ^ 32
-        at_most a b (inl earlier) h = omega arith
-        at_most a b (inr same) h = omega arith

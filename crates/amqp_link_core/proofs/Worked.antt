@@ -8,7 +8,8 @@ use Rattle.amqp_link_types.specs.declared.types.delivery_state.DeliveryState.The
 use Rattle.amqp_link_types.specs.declared.types.errors.ReceiverTransferError.TheVariants.{DeliveryIdIsNone, DeliveryTagIsNone, InconsistentFieldInMultiFrameDelivery}
 use Rattle.amqp_link_types.specs.declared.types.transfer.Transfer.{Transfer}
 use Rattle.amqp_link_core.specs.Held.{Held, held_bytes}
-use Rattle.amqp_link_core.specs.IncompleteRefusals.{differs, is_too_long, is_inconsistent, is_of_another, start_tests, resume_tests}
+use Rattle.amqp_link_payloads.specs.Sections.{is_too_long}
+use Rattle.amqp_link_core.specs.IncompleteRefusals.{differs, is_inconsistent, is_of_another, start_tests, resume_tests}
 use Rattle.amqp_link_core.specs.Merging.{present, settled_by, state_by}
 use Rattle.amqp_link_core.specs.Resuming.{is_beyond, rest_from, resolution}
 use Rattle.amqp_link_core.specs.declared.resumption.Resolution.TheVariants.{Resuming, Outcome}

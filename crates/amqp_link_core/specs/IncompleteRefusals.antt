@@ -1,20 +1,16 @@
 -- Why a transfer of a delivery is refused (OASIS AMQP 1.0 core, 2.7.5).
-use Rattle.std.specs.Prelude.{◌^◌, ℕ, Bool, false, not, ◌||◌, List, [], ◌∷◌, ◌++◌, length, nat_eq, nat_le, Option, Some, is_none}
+use Rattle.std.specs.Prelude.{ℕ, Bool, false, not, ◌||◌, List, [], ◌∷◌, ◌++◌, nat_eq, Option, Some, is_none}
 use Rattle.std.specs.Str.{bytes_eq}
 use Rattle.amqp_link_types.specs.declared.types.transfer.Transfer.{Transfer}
 use Rattle.amqp_link_types.specs.declared.types.errors.ReceiverTransferError.{ReceiverTransferError}
 use Rattle.amqp_link_types.specs.declared.types.errors.ReceiverTransferError.TheVariants.{DeliveryIdIsNone, DeliveryTagIsNone, InconsistentFieldInMultiFrameDelivery, PayloadTooLong}
-use Rattle.amqp_link_payloads.specs.Position.{position}
+use Rattle.amqp_link_payloads.specs.Sections.{is_too_long}
 use Rattle.amqp_link_core.specs.Held.{Held, held_bytes}
 
 -- both are there, and not the same
 abbrev pub differs : {A : Type 0} → (A → A → Bool) → Option A → Option A → Bool
 differs same (Some a) (Some b) = not (same a b)
 differs same _ _ = false
-
--- more bytes than a u64 counts, or more sections past the first than a u32
-abbrev pub is_too_long : List ℕ → Bool
-is_too_long bytes = nat_le (2 ^ 64) (length bytes) || nat_le (2 ^ 32) (position bytes).0
 
 -- a test, and the error where it holds
 abbrev pub Test : Type 0

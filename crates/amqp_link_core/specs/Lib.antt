@@ -4,12 +4,14 @@ pub use Rattle.amqp_link_types.specs.DeliveryStates
 pub use Rattle.amqp_link_types.specs.Entries
 pub use Rattle.amqp_link_payloads.specs.Header
 pub use Rattle.amqp_link_payloads.specs.Position
+pub use Rattle.amqp_link_payloads.specs.Sections
 pub use Rattle.amqp_link_types.specs.Refusals
 pub use Rattle.amqp_link_types.specs.Size
 pub mod AttachFields
 pub mod AttachSent
 pub mod AttachTests
 pub mod Attaching
+pub mod Carries
 pub mod Detaching
 pub mod Failing
 pub mod Held

@@ -20,7 +20,7 @@ mod resuming;
 
 use crate::incomplete_transfer::merging::merge;
 use crate::incomplete_transfer::pieces::push_piece;
-use amqp_link_payloads::position::position_of;
+use crate::position_carry::PositionCarry;
 use amqp_link_types::types::{DeliveryTag, Payload, ReceiverTransferError, Transfer};
 use std::alloc::{AllocError, Global};
 use std::marker::Model;
@@ -33,7 +33,7 @@ use std::marker::Model;
 pub struct IncompleteTransfer {
     performative: Transfer,
     pieces: Vec<Payload>,
-    size: u64,
+    carry: PositionCarry,
 }
 
 impl Model for IncompleteTransfer {
@@ -41,7 +41,8 @@ impl Model for IncompleteTransfer {
     ghost use Rattle.std.specs.List.{concat};
     ghost use Rattle.std.specs.Coded.{codes};
     ghost use Rattle.amqp_link_values.specs.contracts.fields.Fields as fields;
-    ghost use Rattle.amqp_link_core.specs.Held.{Held, IsCountable};
+    ghost use Rattle.amqp_link_core.specs.Held.{Held};
+    ghost use Rattle.amqp_link_core.specs.Carries.{IsKept};
 
     ghost Value = { Held };
 
@@ -50,14 +51,14 @@ impl Model for IncompleteTransfer {
     ghost view = { λ a. record { performative = a.performative; pieces = a.pieces.items } };
 
     ghost invariant = { λ a. IsTrue (is_some a.performative.delivery_tag)
-        × IsCountable (concat a.pieces.items) a.size };
+        × IsKept a.carry (concat a.pieces.items) };
 }
 
 impl IncompleteTransfer {
     /// Begins a delivery with its first transfer, which it keeps as it is.
     ///
     /// Refused in this order: `DeliveryIdIsNone`, `DeliveryTagIsNone`, `PayloadTooLong`, and only
-    /// then `OutOfMemory`. Reads no bytes of a payload of less than 2^32.
+    /// then `OutOfMemory`. Reads the payload once, for its position.
     pub fn start(
         alloc: Global,
         transfer: Transfer,
@@ -79,11 +80,11 @@ impl IncompleteTransfer {
             return Err(ReceiverTransferError::DeliveryTagIsNone);
         }
         let mut pieces = Vec::new(alloc);
-        match push_piece(&mut pieces, 0, payload) {
-            Ok(size) => Ok(IncompleteTransfer {
+        match push_piece(&mut pieces, PositionCarry::new(), payload) {
+            Ok(carry) => Ok(IncompleteTransfer {
                 performative: transfer,
                 pieces,
-                size,
+                carry,
             }),
             Err(refused) => {
                 drop((transfer, pieces));
@@ -95,8 +96,7 @@ impl IncompleteTransfer {
     /// Adds a continuation. The transfer may leave out its tag, id and format.
     ///
     /// Refused in this order, with nothing changed: `InconsistentFieldInMultiFrameDelivery`,
-    /// `PayloadTooLong`, and only then `OutOfMemory`. Reads no bytes while the delivery has less than 2^32;
-    /// from there on each call reads them all, to count the sections.
+    /// `PayloadTooLong`, and only then `OutOfMemory`. Reads the payload once, and none of the bytes before it.
     pub fn try_append(
         &mut self,
         transfer: Transfer,
@@ -145,9 +145,9 @@ impl IncompleteTransfer {
             result (long_test (held_bytes self.old ++ payload)) }
         ensures err { OnErr result (self.new ≡ self.old) }
     {
-        match push_piece(&mut self.pieces, self.size, payload) {
-            Ok(size) => {
-                self.size = size;
+        match push_piece(&mut self.pieces, self.carry, payload) {
+            Ok(carry) => {
+                self.carry = carry;
                 merge(&mut self.performative, transfer, opens);
                 Ok(())
             }
@@ -188,15 +188,14 @@ impl IncompleteTransfer {
         }
     }
 
-    /// The number of the section in which the bytes end, counted from 0. Reads all bytes; a caller that needs
-    /// `section_offset` as well calls `position` once.
+    /// The number of the section in which the bytes end, counted from 0. Reads no bytes.
     pub fn section_number(&self) -> u32
         ensures { result ≡ (position (held_bytes self.now)).0 }
     {
         self.position().0
     }
 
-    /// The bytes since the start of that section. Reads all bytes.
+    /// The bytes since the start of that section. Reads no bytes.
     pub fn section_offset(&self) -> u64
         ensures { result ≡ (position (held_bytes self.now)).1 }
     {
@@ -204,21 +203,18 @@ impl IncompleteTransfer {
     }
 
     /// The number of the section in which the bytes end, counted from 0, and the bytes since the start
-    /// of that section. Reads all bytes, once for both.
+    /// of that section. Reads no bytes.
     pub fn position(&self) -> (u32, u64)
         ensures { result ≡ position (held_bytes self.now) }
     {
-        match position_of(self.pieces.as_slice()) {
-            Some(position) => position,
-            None => unreachable!(),
-        }
+        self.carry.position()
     }
 
     /// The number of bytes that have arrived.
     pub fn accumulated_payload_size(&self) -> u64
         ensures { result ≡ length (held_bytes self.now) }
     {
-        self.size
+        self.carry.len()
     }
 
     /// The fields of all transfers that have arrived, merged.
@@ -256,7 +252,7 @@ impl Clone for IncompleteTransfer {
             Ok(pieces) => Ok(IncompleteTransfer {
                 performative,
                 pieces,
-                size: self.size,
+                carry: self.carry,
             }),
             Err(refused) => {
                 drop(performative);

@@ -7,6 +7,7 @@ pub mod endpoint;
 pub mod incomplete_transfer;
 pub mod laws;
 pub mod link_parts;
+pub mod position_carry;
 pub mod resumption;
 
 pub use incomplete_transfer::IncompleteTransfer;

@@ -6,6 +6,8 @@ mod dividing;
 #[cfg(test)]
 mod incomplete_transfer;
 #[cfg(test)]
+mod positions_kept;
+#[cfg(test)]
 mod properties;
 #[cfg(test)]
 mod resumption;

@@ -18,7 +18,8 @@ use Rattle.amqp_link_types.specs.declared.types.performatives.LinkFlow.{LinkFlow
 use Rattle.amqp_link_types.specs.declared.types.terminus.Target.{Target}
 use Rattle.amqp_link_types.specs.declared.types.transfer.Transfer.{Transfer}
 use Rattle.amqp_link_core.specs.Held.{Held, held_bytes}
-use Rattle.amqp_link_core.specs.IncompleteRefusals.{is_too_long, differs, is_inconsistent}
+use Rattle.amqp_link_payloads.specs.Sections.{is_too_long}
+use Rattle.amqp_link_core.specs.IncompleteRefusals.{differs, is_inconsistent}
 use Rattle.amqp_link_sender.specs.Senders.{Sender}
 use Rattle.amqp_link_receiver.specs.Receivers.{Receiver}
 use Rattle.amqp_link_receiver.specs.ReceiverDeliveries.{is_settled}

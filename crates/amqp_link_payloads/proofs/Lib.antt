@@ -1,3 +1,5 @@
+pub mod BlockLemmas
+pub mod CarryLemmas
 pub mod FrontLemmas
 pub mod HeaderLemmas
 pub mod PieceLemmas

@@ -1,11 +1,12 @@
 -- The position, as one more byte comes.
-use Rattle.std.proofs.Common.{◌≡◌, ℕ, ◌+◌, ◌-◌, ◌<◌, ◌≤◌, List, [], ◌∷◌, ◌++◌, length, get_or, take, drop, append_assoc, refl, sym, ap, ◌∙◌, inl, inr, arith, length-append, zero, suc}
+use Rattle.std.proofs.Common.{◌≡◌, ℕ, ◌+◌, ◌-◌, ◌*◌, ◌<◌, ◌≤◌, List, [], ◌∷◌, ◌++◌, length, get_or, take, drop, append_assoc, refl, sym, ap, ◌∙◌, subst, inl, inr, arith, length-append, zero, suc}
 use Rattle.std.proofs.lemmas.Bool.{cases_lt, cases_eq}
-use Rattle.std.proofs.lemmas.List.{length_push, get_or_push, take_more, append-nil}
+use Rattle.std.proofs.lemmas.List.{length_push, length-drop, get_or_push, take_more, take_all, take-append-drop, append-nil}
+use Rattle.std.proofs.Math.Seq.{take-add}
 use Rattle.std.specs.List.{concat}
 use Rattle.amqp_link_payloads.specs.Header.{header_len}
 use Rattle.amqp_link_payloads.specs.Position.{starts, position}
-use Rattle.amqp_link_payloads.specs.Tail.{EndsAt, EndsIn}
+use Rattle.amqp_link_payloads.specs.Tail.{EndsAt, EndsIn, NoneEnds}
 use Rattle.amqp_link_payloads.proofs.StartsLemmas.{starts_new, starts_old, starts_some, start_case, start_within, last_start, apart_at, kept_at}
 
 pub last_within : (P : List ℕ) → last_start P + header_len (drop (last_start P) P) ≤ length P
@@ -69,6 +70,44 @@ position_old F b h ends none = position_stay F b (starts_old F b
 -- a loop over the bytes that follow F reads one more
 pub front_next : (F xs : List ℕ) (i : ℕ) → i < length xs → (F ++ take i xs) ++ get_or xs i 0 ∷ [] ≡ F ++ take (i + 1) xs
 front_next F xs i lt = append_assoc F (take i xs) (get_or xs i 0 ∷ []) ∙ ap (λ t. F ++ t) (sym (take_more xs i 0 lt))
+
+-- a loop over blocks of the bytes that follow F reads one more
+pub front_block : (F xs : List ℕ) (i : ℕ)
+    → (F ++ take (i * 64) xs) ++ take (i * 64 + 64 - i * 64) (drop (i * 64) xs) ≡ F ++ take ((i + 1) * 64) xs
+front_block F xs i =
+    let one : i * 64 + 64 - i * 64 ≡ 64 = omega arith in
+    let next : i * 64 + 64 ≡ (i + 1) * 64 = omega arith in
+    append_assoc F (take (i * 64) xs) (take (i * 64 + 64 - i * 64) (drop (i * 64) xs))
+    ∙ ap (λ ys. F ++ ys)
+    (ap (λ k. take (i * 64) xs ++ take k (drop (i * 64) xs)) one
+    ∙ sym (take-add (i * 64) 64 xs)
+    ∙ ap (λ k. take k xs) next)
+
+-- and what is left after it
+pub front_rest : (F xs : List ℕ) (n : ℕ) → (F ++ take n xs) ++ take (length xs - n) (drop n xs) ≡ F ++ xs
+front_rest F xs n =
+    append_assoc F (take n xs) (take (length xs - n) (drop n xs))
+    ∙ ap (λ ys. F ++ ys)
+    (ap (λ ys. take n xs ++ ys) (take_all (length xs - n) (drop n xs) (omega (arith, length-drop n xs)))
+    ∙ take-append-drop n xs)
+
+-- bytes in which no header ends make the last section longer
+passed_front : (F xs : List ℕ) → NoneEnds F xs → (k : ℕ) → k ≤ length xs
+    → position (F ++ take k xs) ≡ ((position F).0, (position F).1 + k)
+passed_front F xs none zero le = ap position (append-nil F) ∙ (let same : ◌≡◌ {A = ℕ} ((position F).1) ((position F).1 + 0) = omega arith in ap (λ k. ((position F).0, k)) same)
+passed_front F xs none (suc k) le =
+    let before : position (F ++ take k xs) ≡ ((position F).0, (position F).1 + k) = passed_front F xs none k (omega arith) in
+    let next : (F ++ take k xs) ++ get_or xs k 0 ∷ [] ≡ F ++ take (k + 1) xs = front_next F xs k (omega arith) in
+    let stays : position ((F ++ take k xs) ++ get_or xs k 0 ∷ []) ≡ ((position (F ++ take k xs)).0, (position (F ++ take k xs)).1 + 1)
+    = position_stay (F ++ take k xs) (get_or xs k 0)
+    (starts_old (F ++ take k xs) (get_or xs k 0) (λ n pos at. none k n (omega arith) (subst (λ G. EndsAt G n) next at))) in
+    let sum : (position F).1 + k + 1 ≡ (position F).1 + suc k = omega arith in
+    ap (λ j. position (F ++ take j xs)) (let one : suc k ≡ k + 1 = omega arith in one)
+    ∙ ap position (sym next) ∙ stays ∙ ap (λ p. (p.0, p.1 + 1)) before ∙ ap (λ j. ((position F).0, j)) sum
+
+pub position_passed : (F xs : List ℕ) → NoneEnds F xs → position (F ++ xs) ≡ ((position F).0, (position F).1 + length xs)
+position_passed F xs none =
+    ap (λ ys. position (F ++ ys)) (sym (take_all (length xs) xs (omega arith))) ∙ passed_front F xs none (length xs) (omega arith)
 
 -- one more piece
 pub concat_push : (xss : List (List ℕ)) (xs : List ℕ) → concat (xss ++ xs ∷ []) ≡ concat xss ++ xs

@@ -1,11 +1,11 @@
 -- What a scan keeps, as one more byte comes.
-use Rattle.std.proofs.Common.{◌≡◌, ℕ, ◌+◌, ◌-◌, ◌<◌, ◌≤◌, ◌^◌, List, [], ◌∷◌, ◌++◌, sym, ap, ◌∙◌, subst, inl, inr, arith, Some, None, cond, true, unwrap_or}
+use Rattle.std.proofs.Common.{◌≡◌, ℕ, ◌+◌, ◌-◌, ◌<◌, ◌≤◌, ◌^◌, List, [], ◌∷◌, ◌++◌, length, sym, ap, ◌∙◌, subst, inl, inr, arith, Some, None, cond, true, unwrap_or}
 use Rattle.std.proofs.lemmas.Bool.{cases_lt, lt-ltb, le-ltb}
 use Rattle.amqp_link_payloads.specs.declared.position.Scan.{Scan}
 use Rattle.amqp_link_payloads.specs.Position.{starts, position}
-use Rattle.amqp_link_payloads.specs.Tail.{EndsIn, IsTailOf}
+use Rattle.amqp_link_payloads.specs.Tail.{EndsIn, IsTailOf, NoneEnds}
 use Rattle.amqp_link_payloads.specs.Scan.{HasSeen, number_below}
-use Rattle.amqp_link_payloads.proofs.PositionLemmas.{position_new, position_old}
+use Rattle.amqp_link_payloads.proofs.PositionLemmas.{position_new, position_old, position_passed}
 
 pub nothing_seen : (s : Scan) → s.number ≡ Some 0 → s.distance ≡ Some 0 → IsTailOf s.tail [] → HasSeen s []
 unfolding starts
@@ -47,6 +47,16 @@ seen_old s t F b h has ends tail fits none number distance =
     = position_old F b h ends (λ some past. none some
     (subst (λ o. h ≤ unwrap_or o (2 ^ 64 - 1)) (sym has.distance_is)
     (beyond_distance (position F).1 h past fits))) in
+    record {
+      number_is = number ∙ has.number_is ∙ ap (λ p. number_below (2 ^ 32) p.0) (sym grown);
+      distance_is = distance ∙ ap (λ p. number_below (2 ^ 64) p.1) (sym grown);
+      tail_is = tail;
+    }
+
+pub seen_block : (s t : Scan) (F xs : List ℕ) → HasSeen s F → NoneEnds F xs → IsTailOf t.tail (F ++ xs)
+    → t.number ≡ s.number → t.distance ≡ number_below (2 ^ 64) ((position F).1 + length xs) → HasSeen t (F ++ xs)
+seen_block s t F xs has none tail number distance =
+    let grown : position (F ++ xs) ≡ ((position F).0, (position F).1 + length xs) = position_passed F xs none in
     record {
       number_is = number ∙ has.number_is ∙ ap (λ p. number_below (2 ^ 32) p.0) (sym grown);
       distance_is = distance ∙ ap (λ p. number_below (2 ^ 64) p.1) (sym grown);

@@ -69,7 +69,7 @@ window_has F b n at = elim (header_tests (drop n (F ++ b ∷ []))) [
   | inr bytes ↦ ap header_len (window_at 2 F b n 0 (omega (arith, at.ends, length_push F b)))
 ]
 
-two_bytes : (xs : List ℕ) → length xs ≡ 2 → get_or xs 0 0 ∷ get_or xs 1 0 ∷ [] ≡ xs
+pub two_bytes : (xs : List ℕ) → length xs ≡ 2 → get_or xs 0 0 ∷ get_or xs 1 0 ∷ [] ≡ xs
 two_bytes [] e = absurd (omega arith)
 two_bytes (x ∷ []) e = absurd (omega arith)
 two_bytes (x ∷ (y ∷ [])) e = refl

@@ -3,6 +3,8 @@ pub mod Places
 pub mod Position
 pub mod Scan
 pub mod Section
+pub mod SectionCounts
+pub mod Sections
 pub mod Seek
 pub mod Tail
 pub mod Bodies

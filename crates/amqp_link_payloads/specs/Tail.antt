@@ -1,5 +1,5 @@
 -- The last bytes of those that were read.
-use Rattle.std.specs.Prelude.{ℕ, List, ◌++◌, ◌≡◌, ◌+◌, ◌<◌, length, drop, replicate}
+use Rattle.std.specs.Prelude.{ℕ, List, ◌++◌, ◌≡◌, ◌+◌, ◌<◌, length, drop, take, replicate}
 use Rattle.amqp_link_payloads.specs.declared.position.header.Tail.{Tail}
 use Rattle.amqp_link_payloads.specs.Header.{header_len}
 
@@ -20,3 +20,7 @@ recent n F = drop (length F) (replicate n 0xff ++ F)
 -- t has the last bytes of F, the bytes that were read
 pub record IsTailOf (t : Tail) (F : List ℕ) : Type 0 where
   pub last_is : t.last ≡ recent 2 F
+
+-- no header ends in one of these bytes, which follow F
+abbrev pub NoneEnds : List ℕ → List ℕ → Type 0
+NoneEnds F xs = (k n : ℕ) → k < length xs → EndsAt (F ++ take (k + 1) xs) n → ⊥

@@ -12,9 +12,11 @@ ghost use Rattle.amqp_link_payloads.specs.Scan.{HasSeen, number_below};
 
 mod header;
 mod places;
+mod section_counts;
+pub mod sections;
 
 use crate::payload::{Payload, joined_len};
-use crate::position::header::Tail;
+use crate::position::header::{BLOCK, Tail};
 use crate::position::places::Seek;
 
 // What a scan keeps of the bytes that it has read.
@@ -49,11 +51,11 @@ impl Scan {
             self.number = next_number(self.number);
             self.distance = Some(header);
         } else {
-            self.distance = next_distance(self.distance);
+            self.distance = distance_on(self.distance, 1);
         }
     }
 
-    fn feed_all(&mut self, bytes: &[u8])
+    fn feed_bytes(&mut self, bytes: &[u8])
         ensures { (F : List ℕ) → HasSeen self.old F → HasSeen self.new (F ++ bytes.now) }
     {
         for byte in bytes {
@@ -61,12 +63,30 @@ impl Scan {
         }
     }
 
-    // The position of the end of the bytes that were read.
-    fn end(self) -> Option<(u32, u64)>
-        ensures { (F : List ℕ) → HasSeen self F → let at = position F
-            in SomeIff result ((at.0 < 2 ^ 32) × (at.1 < 2 ^ 64)) at }
+    // A block in which no header ends is not read byte by byte.
+    fn feed_block(&mut self, block: &[u8])
+        requires { 2 ≤ length block.now }
+        ensures { (F : List ℕ) → HasSeen self.old F → HasSeen self.new (F ++ block.now) }
     {
-        Some((self.number?, self.distance?))
+        let mut tail = self.tail;
+        if tail.pass(block) {
+            self.distance = distance_on(self.distance, block.len() as u64);
+            self.tail = tail;
+        } else {
+            self.feed_bytes(block);
+        }
+    }
+
+    fn feed_all(&mut self, bytes: &[u8])
+        ensures { (F : List ℕ) → HasSeen self.old F → HasSeen self.new (F ++ bytes.now) }
+    {
+        let blocks = bytes.len() / BLOCK;
+        let mut scan = *self;
+        for i in 0..blocks {
+            scan.feed_block(&bytes[i * BLOCK..i * BLOCK + BLOCK]);
+        }
+        scan.feed_bytes(&bytes[blocks * BLOCK..]);
+        *self = scan;
     }
 }
 
@@ -76,11 +96,11 @@ fn next_number(number: Option<u32>) -> Option<u32>
     number?.checked_add(1)
 }
 
-fn next_distance(distance: Option<u64>) -> Option<u64>
+fn distance_on(distance: Option<u64>, bytes: u64) -> Option<u64>
     ensures { (k : ℕ) → distance ≡ number_below (2 ^ 64) k
-        → result ≡ number_below (2 ^ 64) (k + 1) }
+        → result ≡ number_below (2 ^ 64) (k + bytes) }
 {
-    distance?.checked_add(1)
+    distance?.checked_add(bytes)
 }
 
 /// The position of the end of the joined pieces: the section's number, counted from 0, and the bytes since
@@ -123,18 +143,4 @@ pub fn place_in(pieces: &[Payload], section_number: u32, section_offset: u64) ->
         seek.feed_all(piece.as_slice());
     }
     seek.place(section_offset)
-}
-
-/// The position of the end of the joined pieces and one more after them, as [`position_of`] returns it. Does
-/// not allocate.
-pub fn position_with(pieces: &[Payload], next: &Payload) -> Option<(u32, u64)>
-    ensures { let at = position (concat pieces.now ++ next.now)
-        in SomeIff result ((at.0 < 2 ^ 32) × (at.1 < 2 ^ 64)) at }
-{
-    let mut seen = Scan::new();
-    for part in pieces {
-        seen.feed_all(part.as_slice());
-    }
-    seen.feed_all(next.as_slice());
-    seen.end()
 }

@@ -14,7 +14,8 @@ use Rattle.amqp_link_types.specs.Refusals.{refusal}
 use Rattle.amqp_link_types.specs.Size.{transfer_len, before, list_of, content}
 use Rattle.amqp_link_values.specs.Length.{text_len}
 use Rattle.amqp_link_core.specs.Held.{Held, held_bytes}
-use Rattle.amqp_link_core.specs.IncompleteRefusals.{is_too_long, differs, is_of_another, is_inconsistent}
+use Rattle.amqp_link_payloads.specs.Sections.{is_too_long}
+use Rattle.amqp_link_core.specs.IncompleteRefusals.{differs, is_of_another, is_inconsistent}
 use Rattle.amqp_link_payloads.specs.Position.{position, starts, is_header_at}
 use Rattle.amqp_link_split.specs.Room.{worst, has_room}
 use Rattle.amqp_link_sender.specs.Senders.{Sender, IsSent, new_entry}

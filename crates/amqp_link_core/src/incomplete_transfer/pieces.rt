@@ -1,50 +1,51 @@
 //! The pieces of a payload, and whether they can be counted.
 ghost use Rattle.std.specs.Prelude.{◌≡◌, ◌+◌, ◌^◌, ◌<◌, ◌≤◌, ◌++◌, ◌∷◌, []};
-ghost use Rattle.std.specs.Prelude.{true, length, take, slice_get, OnOk, OnErr, IfOk, IfSome, IfNone, IsSomeAnd};
+ghost use Rattle.std.specs.Prelude.{false, length, take, slice_get, OnOk, OnErr, IfOk, IsSomeAnd};
 ghost use Rattle.std.specs.List.{concat};
-ghost use Rattle.amqp_link_core.specs.Held.{IsCountable};
+ghost use Rattle.amqp_link_core.specs.Carries.{HasPushed, IsKept};
 ghost use Rattle.amqp_link_types.specs.Refusals.{AnswersThenOutOfMemory};
-ghost use Rattle.amqp_link_core.specs.IncompleteRefusals.{is_too_long, long_test};
+ghost use Rattle.amqp_link_core.specs.IncompleteRefusals.{long_test};
+ghost use Rattle.amqp_link_payloads.specs.Sections.{is_too_long};
 
-use amqp_link_payloads::position::position_with;
+use crate::position_carry::PositionCarry;
 use amqp_link_types::types::{Payload, ReceiverTransferError};
 use std::alloc::AllocError;
 
-// Adds a piece to pieces of this total size, and returns the new size. If it is refused the pieces stay as
-// they are.
+// Adds a piece to pieces with this position, and returns the new position. If it is refused the pieces stay
+// as they are. Reads the new piece alone.
 pub(crate) fn push_piece(
     pieces: &mut Vec<Payload>,
-    size: u64,
+    carry: PositionCarry,
     piece: Payload,
-) -> Result<u64, ReceiverTransferError>
-    requires size { size ≡ length (concat pieces.old.items) }
+) -> Result<PositionCarry, ReceiverTransferError>
+    requires { HasPushed carry (concat pieces.old.items) }
     ensures pushed { OnOk result (pieces.new.items ≡ pieces.old.items ++ piece ∷ []) }
-    ensures countable { IfOk result (λ size. IsCountable (concat pieces.new.items) size) }
+    ensures kept { IfOk result (λ next. IsKept next (concat pieces.new.items)) }
     ensures refused { AnswersThenOutOfMemory ReceiverTransferError.OutOfMemory
         result (long_test (concat pieces.old.items ++ piece)) }
     ensures err { OnErr result (pieces.new.items ≡ pieces.old.items) }
 {
-    let Some(size) = counted_size(pieces.as_slice(), size, &piece) else {
+    let mut next = carry;
+    if let Err(refused) = next.push(&piece) {
         drop(piece);
-        return Err(ReceiverTransferError::PayloadTooLong);
-    };
+        return Err(refused);
+    }
     pieces.push(piece)?;
-    Ok(size)
+    Ok(next)
 }
 
-// The size of pieces of this total size and one more, if their bytes and sections can be counted. Each
-// section has at least one byte, so that less than 2^32 bytes need not be read.
-fn counted_size(pieces: &[Payload], size: u64, next: &Payload) -> Option<u64>
-    requires size { size ≡ length (concat pieces.now) }
-    ensures some { IfSome result (λ size. IsCountable (concat pieces.now ++ next.now) size) }
-    ensures none { IfNone result (is_too_long (concat pieces.now ++ next.now) ≡ true) }
+// The position of the end of pieces that are not too long. Reads them all.
+pub(crate) fn carry_of(pieces: &[Payload]) -> PositionCarry
+    requires { is_too_long (concat pieces.now) ≡ false }
+    ensures { HasPushed result (concat pieces.now) }
 {
-    let size = size.checked_add(next.len() as u64)?;
-    if size <= u64::from(u32::MAX) {
-        return Some(size);
+    let mut carry = PositionCarry::new();
+    for piece in pieces {
+        let Ok(()) = carry.push(piece) else {
+            unreachable!();
+        };
     }
-    position_with(pieces, next)?;
-    Some(size)
+    carry
 }
 
 // Keeps the first `size` bytes of the pieces: some pieces whole, and a front of the next one. If it is out of

@@ -7,7 +7,7 @@ ghost use Rattle.amqp_link_core.specs.Held.{held_bytes, KeepsFront};
 ghost use Rattle.amqp_link_types.specs.Refusals.{AnswersThenOutOfMemory};
 ghost use Rattle.amqp_link_core.specs.IncompleteRefusals.{resume_tests, is_of_another};
 
-use crate::incomplete_transfer::pieces::cut_pieces;
+use crate::incomplete_transfer::pieces::{carry_of, cut_pieces};
 use crate::incomplete_transfer::{IncompleteTransfer, differs};
 use amqp_link_payloads::position::place_in;
 use amqp_link_types::types::{Payload, ReceiverTransferError, Transfer};
@@ -19,7 +19,7 @@ impl IncompleteTransfer {
     ///
     /// Refused in this order, with nothing changed: `DeliveryIdIsNone`, `DeliveryTagIsNone`,
     /// `InconsistentFieldInMultiFrameDelivery` (another tag or format), `PayloadTooLong`, and only then
-    /// `OutOfMemory`. Reads no bytes while the delivery has less than 2^32.
+    /// `OutOfMemory`. Reads the payload once, and none of the bytes before it.
     pub fn try_resume(
         &mut self,
         transfer: Transfer,
@@ -70,8 +70,8 @@ impl IncompleteTransfer {
     }
 
     /// Keeps the bytes up to this offset in this section, and drops the rest; position and size are those of
-    /// the front that is kept. If the bytes have no such place nothing changes. Reads all bytes and copies
-    /// none.
+    /// the front that is kept. If the bytes have no such place nothing changes. Reads all bytes to find the
+    /// place, then those that are kept, and copies none.
     ///
     /// Refused if it is out of memory, with nothing changed. Allocates for the piece in which the front ends,
     /// and nothing if there is no such place.
@@ -89,7 +89,7 @@ impl IncompleteTransfer {
             return Ok(());
         };
         cut_pieces(&mut self.pieces, place)?;
-        self.size = place;
+        self.carry = carry_of(self.pieces.as_slice());
         Ok(())
     }
 }

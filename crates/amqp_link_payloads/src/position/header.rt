@@ -1,7 +1,10 @@
 //! Section headers: the only module that reads their bytes (3.2).
-ghost use Rattle.std.specs.Prelude.{◌≡◌, ◌≤◌, ℕ, List, [], ◌∷◌, ◌++◌, length};
+ghost use Rattle.std.specs.Prelude.{◌≡◌, ◌<◌, ◌≤◌, ℕ, List, [], ◌∷◌, ◌++◌, length, drop, true, false};
 ghost use Rattle.amqp_link_payloads.specs.Header.{header_len};
-ghost use Rattle.amqp_link_payloads.specs.Tail.{IsTailOf, EndsIn};
+ghost use Rattle.amqp_link_payloads.specs.Tail.{IsTailOf, EndsIn, NoneEnds};
+
+// The bytes that are tested for headers at once. Fewer are read one by one.
+pub(crate) const BLOCK: usize = 64;
 
 // A byte that no header contains.
 const BLANK: u8 = 0xff;
@@ -18,8 +21,30 @@ pub(crate) fn header_len(bytes: &[u8]) -> usize
     }
 }
 
+// Whether these three bytes are a header, by tests without branches.
+#[tactic(auto, using(crate::proofs::HeaderLemmas::header_tests))]
+fn is_header(first: u8, second: u8, third: u8) -> bool
+    ensures stands { result ≡ true → 0 < header_len (first ∷ second ∷ third ∷ []) }
+    ensures none { result ≡ false → header_len (first ∷ second ∷ third ∷ []) ≡ 0 }
+{
+    (first == 0x00) & ((second == 0x53) | (second == 0x80)) & (0x70 <= third) & (third <= 0x78)
+}
+
+// Whether a whole header stands anywhere in the bytes. Reads them all, so that the compiler can test many at
+// once.
+fn holds_header(bytes: &[u8]) -> bool
+    ensures stands { result ≡ true → (n : ℕ) × (0 < header_len (drop n bytes.now)) }
+    ensures none { result ≡ false → (n : ℕ) → header_len (drop n bytes.now) ≡ 0 }
+{
+    let mut found = false;
+    for i in 2..bytes.len() {
+        found = found | is_header(bytes[i - 2], bytes[i - 1], bytes[i]);
+    }
+    found
+}
+
 // The last bytes that were read, as many as may begin a header, with blanks before the first byte.
-#[derive(Clone, Copy)]
+#[derive(Clone, Copy, Debug)]
 pub(crate) struct Tail {
     last: [u8; 2],
 }
@@ -41,5 +66,22 @@ impl Tail {
         let [older, newer] = self.last;
         self.last = [newer, byte];
         header_len(&[older, newer, byte]) as u64
+    }
+
+    // Reads a block at once, if no header ends in it. If one does it reads nothing, and returns false.
+    pub(crate) fn pass(&mut self, block: &[u8]) -> bool
+        requires { 2 ≤ length block.now }
+        ensures passed { (F : List ℕ) → IsTailOf self.old F → result ≡ true
+            → IsTailOf self.new (F ++ block.now) × NoneEnds F block.now }
+        ensures left { result ≡ false → self.new ≡ self.old }
+    {
+        let mut tail = *self;
+        let first = tail.read(block[0]);
+        let second = tail.read(block[1]);
+        if first > 0 || second > 0 || holds_header(block) {
+            return false;
+        }
+        self.last = [block[block.len() - 2], block[block.len() - 1]];
+        true
     }
 }

@@ -1,10 +1,11 @@
+use Rattle.std.proofs.Common.{◌≡◌, false, sym, subst}
 use Rattle.std.specs.List.{concat}
-use Rattle.amqp_link_core.proofs.CutLemmas.{front_counted}
+use Rattle.amqp_link_payloads.specs.Sections.{is_too_long}
+use Rattle.amqp_link_core.proofs.CountLemmas.{cut_not_long}
 use Rattle.amqp_link_core.proofs.incomplete_transfer.IncompleteTransfer.keep_buffer_till_section_number_and_offset.Goals as goal
 
-pub invariant_of-self-2 : goal.invariant_of-self-2
-invariant_of-self-2 c = (
-  c.self.invariant.0,
-  front_counted (concat c.self.inside.pieces.items) (concat c.cut_pieces.new.pieces.items) c.self.inside.size c.in-Some.place
-      c.self.invariant.1 (rw c.as_slice.ensures.value at c.in-Some.ensures.within) c.in_ok-cut_pieces.ensures.kept,
-)
+pub carry_of-self-inside-requires : goal.carry_of-self-inside-requires
+carry_of-self-inside-requires c =
+    subst (λ pieces. is_too_long (concat pieces) ≡ false) (sym c.as_slice-2.ensures.value)
+    (cut_not_long (concat c.self.inside.pieces.items) (concat c.cut_pieces.new.pieces.items) c.in-Some.place
+    c.in_ok-cut_pieces.ensures.kept c.self.invariant.1.counted)

@@ -1,11 +1,16 @@
-use Rattle.std.proofs.Common.{◌≡◌, ◌++◌, ◌∷◌, [], sym, subst, rules}
+use Rattle.std.proofs.Common.{◌≡◌, ◌++◌, sym, ap, ◌∙◌, subst}
 use Rattle.std.specs.List.{concat}
-use Rattle.amqp_link_core.specs.Held.{IsCountable}
-use Rattle.amqp_link_core.proofs.CountLemmas.{pushed_counted}
+use Rattle.amqp_link_payloads.proofs.PositionLemmas.{concat_push}
+use Rattle.amqp_link_core.specs.Carries.{IsKept}
+use Rattle.amqp_link_core.proofs.CountLemmas.{not_refused}
 use Rattle.amqp_link_core.proofs.incomplete_transfer.pieces.push_piece.Goals as goal
 
-pub returns-clause-countable : goal.returns-clause-countable
-returns-clause-countable c =
-    let items : c.push.new.self.items ≡ c.args.pieces.now.items ++ c.args.piece ∷ [] = search rules in
-    let counted : IsCountable (concat c.args.pieces.now.items ++ c.args.piece) c.in-Some.size = search rules in
-    subst (λ pieces. IsCountable (concat pieces) c.in-Some.size) (sym items) (pushed_counted c.args.pieces.now.items c.args.piece c.in-Some.size counted)
+pub returns-clause-kept : goal.returns-clause-kept
+returns-clause-kept c =
+    let front = concat c.args.pieces.now.items in
+    let all : concat c.push-2.new.self.items ≡ front ++ c.args.piece
+    = ap concat c.in_ok-push.ensures.items ∙ concat_push c.args.pieces.now.items c.args.piece in
+    subst (IsKept c.push.new.self) (sym all) (record {
+      pushed = c.in_default.ensures.pushed front c.requires;
+      counted = not_refused (front ++ c.args.piece) (c.in_default.ensures.refused front c.requires);
+    })

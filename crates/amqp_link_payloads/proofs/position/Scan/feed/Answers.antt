@@ -17,4 +17,4 @@ returns-else-header-gt0 c = λ F has.
       | else-header-gt0-via-then-header-gt0+else-header-unwrap_or w ↦ omega arith
       | else-header-gt0-via-else-header-gt0 w ↦ omega arith
     ])
-    refl (c.next_distance-self.ensures _ has.distance_is)
+    refl (c.distance_on-self.ensures _ has.distance_is)

@@ -1,18 +1,21 @@
-use Rattle.std.proofs.Common.{◌++◌, sym, subst}
-use Rattle.std.proofs.lemmas.List.{append-nil, take_all}
+use Rattle.std.proofs.Common.{◌≡◌, ◌++◌, ◌*◌, ◌/◌, sym, subst, take, length, arith}
+use Rattle.std.proofs.lemmas.List.{append-nil}
 use Rattle.amqp_link_payloads.specs.Scan.{HasSeen}
-use Rattle.amqp_link_payloads.proofs.PositionLemmas.{front_next}
+use Rattle.amqp_link_payloads.proofs.PositionLemmas.{front_block, front_rest}
 use Rattle.amqp_link_payloads.proofs.position.Scan.feed_all.Goals as goal
 
-pub loop-byte-init : goal.loop-byte-init
-loop-byte-init c = λ F has. subst (HasSeen c.args.self.now) (sym (append-nil F)) has
+pub loop-i-init : goal.loop-i-init
+loop-i-init c = λ F has. subst (HasSeen c.args.self.now) (sym (append-nil F)) has
 
-pub loop-byte-preserved : goal.loop-byte-preserved
-loop-byte-preserved c = λ F has.
-    subst (HasSeen c.feed.new.self) (front_next F c.args.bytes.now c.loop-byte.byte-index c.loop-byte-test.true)
-    (c.feed.ensures _ (c.loop-byte.invariant F has))
+pub loop-i-preserved : goal.loop-i-preserved
+loop-i-preserved c = λ F has.
+    subst (HasSeen c.feed_block.new.self) (front_block F c.args.bytes.now c.loop-i.i)
+    (c.feed_block.ensures (F ++ take (c.loop-i.i * 64) c.args.bytes.now) (c.loop-i.invariant F has))
 
 pub returns : goal.returns
 returns c = λ F has.
-    subst (λ t. HasSeen c.loop-byte.self (F ++ t))
-    (take_all c.loop-byte.byte-index c.args.bytes.now c.loop-byte-test.false) (c.loop-byte.invariant F has)
+    let xs = c.args.bytes.now in
+    let last : c.loop-i.i ≡ length xs / 64 = omega (arith, c.loop-i-test.false, c.loop-i.auto.i-end) in
+    subst (HasSeen c.feed_bytes.new.self) (front_rest F xs (length xs / 64 * 64))
+    (c.feed_bytes.ensures (F ++ take (length xs / 64 * 64) xs)
+    (subst (λ i. HasSeen c.loop-i.scan (F ++ take (i * 64) xs)) last (c.loop-i.invariant F has)))
