@@ -18,7 +18,7 @@ use Rattle.amqp_link_types.specs.declared.types.errors.ReceiverTransferError.The
 use Rattle.amqp_link_payloads.specs.declared.message.Message.{Message}
 use Rattle.amqp_link_core.specs.AttachTests.{first_of}
 use Rattle.amqp_link_receiver.specs.Completing.{is_illegal_mode, info_of, unsettled_tag, transfer_refusal, completion_refusal}
-use Rattle.amqp_link_receiver.specs.ReceiverDeliveries.{is_settled, shown_of}
+use Rattle.amqp_link_receiver.specs.ReceiverDeliveries.{is_settled, session_record}
 use Rattle.amqp_link_receiver.specs.Receivers.{Receiver}
 use Rattle.amqp_link_sender.specs.Senders.{Sender, next_tag, delivery_of, settled_by_mode, payload_tests, missing_credit, refused}
 
@@ -171,10 +171,10 @@ third = record at_rest {
 unset_flag_settles_nothing : is_settled third ≡ false
 unset_flag_settles_nothing = refl
 
-session_gets_it_in_mode_second : shown_of (record (receiver 1) { rcv_settle_mode = Second }) third ≡ Some (3, 1 ∷ [])
+session_gets_it_in_mode_second : session_record (record (receiver 1) { rcv_settle_mode = Second }) third ≡ Some (3, 1 ∷ [])
 session_gets_it_in_mode_second = refl
 
-session_gets_nothing_in_mode_first : shown_of (receiver 1) third ≡ None
+session_gets_nothing_in_mode_first : session_record (receiver 1) third ≡ None
 session_gets_nothing_in_mode_first = refl
 
 second_is_illegal_at_first : is_illegal_mode First (Some Second) ≡ true
