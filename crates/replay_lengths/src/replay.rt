@@ -72,7 +72,7 @@ fn replay_lines<R: BufRead, W: Write>(
         match compare(alloc, line.as_slice()) {
             Ok(compared) => {
                 tallies.count(&compared);
-                tell(number, &compared, output)?;
+                report_difference(number, &compared, output)?;
             }
             Err(RowError::NotARow) => return refuse(number, output),
             Err(RowError::OutOfMemory) => return Ok(Verdict::Failed),
@@ -82,7 +82,7 @@ fn replay_lines<R: BufRead, W: Write>(
 }
 
 // Writes a row that does not agree.
-fn tell<W: Write>(number: u64, compared: &Compared, output: &mut W) -> io::Result<()> {
+fn report_difference<W: Write>(number: u64, compared: &Compared, output: &mut W) -> io::Result<()> {
     if compared.agrees() {
         return Ok(());
     }
