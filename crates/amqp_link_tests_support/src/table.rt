@@ -40,7 +40,7 @@ fn line_of(call: Call) -> [Option<LinkState>; 11] {
     let part_come = Some(LinkState::IncompleteAttachReceived);
     let both = Some(LinkState::Attached);
     let part_both = Some(LinkState::IncompleteAttachExchanged);
-    let detach_by = Some(LinkState::DetachSent);
+    let detaching = Some(LinkState::DetachSent);
     let gone = Some(LinkState::Detached);
     let closing = Some(LinkState::CloseSent);
     let shut = Some(LinkState::Closed);
@@ -54,7 +54,7 @@ fn line_of(call: Call) -> [Option<LinkState>; 11] {
         Call::IncomingAttach(true) => [
             part_come, part_both, part_both, o, o, o, o, o, part_come, o, o,
         ],
-        Call::SendDetach(false) => [o, o, o, o, o, detach_by, o, o, o, o, o],
+        Call::SendDetach(false) => [o, o, o, o, o, detaching, o, o, o, o, o],
         Call::SendDetach(true) => [o, o, o, o, o, closing, o, o, o, o, o],
         Call::DetachReply(false) => [o, o, o, o, o, o, o, gone, o, o, o],
         Call::DetachReply(true) => [o, o, o, o, o, o, o, o, o, shut, o],

@@ -70,7 +70,7 @@ pub fn accept(
     link: &mut ReceiverLink<Target>,
     delivery: &Delivery<Whole>,
 ) -> Result<Option<LinkFrame>, DispositionError>
-    ensures entry { IfOk result (λ frame. frame ≡ disposition_of_one (Some true) link.old.rcv_settle_mode DeliveryState.Accepted false
+    ensures frame { IfOk result (λ frame. frame ≡ disposition_of_one (Some true) link.old.rcv_settle_mode DeliveryState.Accepted false
         delivery.now.info link.old.unsettled) }
     ensures after { OnOk result (link.new ≡ record link.old {
       unsettled = after_one true DeliveryState.Accepted delivery.now.info.delivery_tag link.old.unsettled;

@@ -234,7 +234,7 @@ attaches_fit s r limit =
 
 -- whether an attach has begun at another frame limit, and not finished
 abbrev pub is_halfway_at_other : ℕ → Phase → Bool
-is_halfway_at_other limit (Halfway initial_progress) = not (limit == initial_progress)
+is_halfway_at_other limit (Halfway earlier) = not (limit == earlier)
 is_halfway_at_other limit _ = false
 
 abbrev pub PairTests : Type 0
