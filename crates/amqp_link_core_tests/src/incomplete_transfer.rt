@@ -44,8 +44,8 @@ const FIRST: Row = Row {
     state: Shown::Nothing,
 };
 
-fn state_of(actual: Shown) -> Option<DeliveryState> {
-    match actual {
+fn state_of(shown: Shown) -> Option<DeliveryState> {
+    match shown {
         Shown::Nothing => None,
         Shown::Front => Some(DeliveryState::Received {
             section_number: 0,

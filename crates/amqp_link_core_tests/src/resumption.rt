@@ -30,8 +30,8 @@ enum Answer {
     Failed,
 }
 
-fn state_of(actual: Shown) -> Option<DeliveryState> {
-    match actual {
+fn state_of(shown: Shown) -> Option<DeliveryState> {
+    match shown {
         Shown::Absent | Shown::Null => None,
         Shown::Front(section_number, section_offset) => Some(DeliveryState::Received {
             section_number,
@@ -48,10 +48,10 @@ fn state_of(actual: Shown) -> Option<DeliveryState> {
     }
 }
 
-fn remote_of(actual: Shown) -> Option<Option<DeliveryState>> {
-    match actual {
+fn remote_of(shown: Shown) -> Option<Option<DeliveryState>> {
+    match shown {
         Shown::Absent => None,
-        _ => Some(state_of(actual)),
+        _ => Some(state_of(shown)),
     }
 }
 

@@ -145,14 +145,14 @@ fn session_gets_unsettled_transfers_in_mode_second(rt: HostRuntime) {
         (first, (None, Some(3), true), None),
     ] {
         for more in [false, true] {
-            let actual = Shown {
+            let shown = Shown {
                 frame: Some((6, 6, 2)),
                 name,
             };
             let begins = link != first && !more;
             assert_eq!(rt;
                 named_after(&rt, link, transfer, more),
-                (Some(actual), begins),
+                (Some(shown), begins),
                 "{transfer:?} at {link:?}"
             );
         }

@@ -31,16 +31,16 @@ fn unnamed(
 // What a flow leaves: the count, the credit, and the drain flag.
 #[derive(Clone, Copy, Debug, PartialEq, Eq)]
 struct Left {
-    actual: Result<Option<FlowFields>, LinkRelayError>,
+    reply: Result<Option<FlowFields>, LinkRelayError>,
     count: u32,
     credit: u32,
     drain: bool,
 }
 
 fn left_of(link: &mut SenderLink<Target>, flow: LinkFlow) -> Left {
-    let actual = reply_fields(link.on_incoming_flow(flow));
+    let reply = reply_fields(link.on_incoming_flow(flow));
     Left {
-        actual,
+        reply,
         count: link.flow_state().delivery_count(),
         credit: link.flow_state().link_credit(),
         drain: link.flow_state().drain(),
@@ -100,7 +100,7 @@ fn credit_is_counted_from_the_count_of_the_flow(rt: HostRuntime) {
             ..LinkFlow::default()
         };
         let left = Left {
-            actual: Ok(None),
+            reply: Ok(None),
             count: own,
             credit: wanted,
             drain: false,
@@ -130,7 +130,7 @@ fn drain_takes_all_credit_to_the_count(rt: HostRuntime) {
             echo,
             ..LinkFlow::default()
         };
-        let actual = FlowFields {
+        let reply = FlowFields {
             handle: 7,
             count: Some(count),
             credit: Some(0),
@@ -139,7 +139,7 @@ fn drain_takes_all_credit_to_the_count(rt: HostRuntime) {
             echo: false,
         };
         let left = Left {
-            actual: Ok(Some(actual)),
+            reply: Ok(Some(reply)),
             count,
             credit: 0,
             drain: true,
@@ -158,7 +158,7 @@ fn asked_for_an_answer_a_sender_gives_one(rt: HostRuntime) {
         echo: true,
         ..LinkFlow::default()
     };
-    let actual = FlowFields {
+    let reply = FlowFields {
         handle: 7,
         count: Some(2),
         credit: Some(4),
@@ -167,7 +167,7 @@ fn asked_for_an_answer_a_sender_gives_one(rt: HostRuntime) {
         echo: false,
     };
     let left = Left {
-        actual: Ok(Some(actual)),
+        reply: Ok(Some(reply)),
         count: 2,
         credit: 4,
         drain: false,
@@ -183,7 +183,7 @@ fn without_handle_no_flow_is_taken(rt: HostRuntime) {
         ..LinkFlow::default()
     };
     let left = Left {
-        actual: Err(LinkRelayError::UnattachedHandle),
+        reply: Err(LinkRelayError::UnattachedHandle),
         count: 2,
         credit: 4,
         drain: false,

@@ -94,9 +94,9 @@ fn answered_of(sending: &Result<Sending, LinkStateError>) -> SendAnswer {
 }
 
 pub(crate) fn answered_by(sending: Result<Sending, LinkStateError>) -> SendAnswer {
-    let actual = answered_of(&sending);
+    let answer = answered_of(&sending);
     drop(sending);
-    actual
+    answer
 }
 
 // Sends a payload with this flag, with nothing waiting.
@@ -230,15 +230,15 @@ fn twelve_bytes_are_three_frames(rt: HostRuntime) {
 // What a link shows after a send: the result, its credit, its count, and how many deliveries are pending.
 #[derive(Clone, Copy, Debug, PartialEq, Eq)]
 struct Standing {
-    actual: SendAnswer,
+    answer: SendAnswer,
     credit: u32,
     count: u32,
     pending: usize,
 }
 
-fn after(link: &SenderLink<Target>, actual: SendAnswer) -> Standing {
+fn after(link: &SenderLink<Target>, answer: SendAnswer) -> Standing {
     Standing {
-        actual,
+        answer,
         credit: link.flow_state().link_credit(),
         count: link.flow_state().delivery_count(),
         pending: link.unsettled().len(),
@@ -251,8 +251,8 @@ fn sent_twice(rt: &(impl Abort + AllocGlobal)) -> (Standing, bool, SendAnswer) {
     let mut link = link(rt, SenderSettleMode::Mixed, 30, 1);
     let payload = payload_of(rt, &[7]);
     let tag = count_tag(rt, 0);
-    let actual = answered_by(send_flagged(&mut link, &payload, None));
-    let sent = after(&link, actual);
+    let answer = answered_by(send_flagged(&mut link, &payload, None));
+    let sent = after(&link, answer);
     let is_kept = link.unsettled().contains(&tag);
     let again = answered_by(send_flagged(&mut link, &payload, None));
     drop((payload, tag));
@@ -264,7 +264,7 @@ fn sent_twice(rt: &(impl Abort + AllocGlobal)) -> (Standing, bool, SendAnswer) {
 #[test]
 fn sent_delivery_is_pending(rt: HostRuntime) {
     let sent = Standing {
-        actual: SendAnswer::Unsettled,
+        answer: SendAnswer::Unsettled,
         credit: 0,
         count: 1,
         pending: 1,
@@ -276,8 +276,8 @@ fn sent_delivery_is_pending(rt: HostRuntime) {
 fn sent_at(rt: &(impl Abort + AllocGlobal), limit: u32, bytes: &[u8]) -> Standing {
     let mut link = link(rt, SenderSettleMode::Mixed, limit, 1);
     let payload = payload_of(rt, bytes);
-    let actual = answered_by(send_flagged(&mut link, &payload, None));
-    let after = after(&link, actual);
+    let answer = answered_by(send_flagged(&mut link, &payload, None));
+    let after = after(&link, answer);
     drop((payload, link));
     after
 }
@@ -286,13 +286,13 @@ fn sent_at(rt: &(impl Abort + AllocGlobal), limit: u32, bytes: &[u8]) -> Standin
 #[test]
 fn frames_have_room_or_nothing_changes(rt: HostRuntime) {
     let refused = Standing {
-        actual: SendAnswer::NoRoom,
+        answer: SendAnswer::NoRoom,
         credit: 1,
         count: 0,
         pending: 0,
     };
     let sent = Standing {
-        actual: SendAnswer::Unsettled,
+        answer: SendAnswer::Unsettled,
         credit: 0,
         count: 1,
         pending: 1,
@@ -344,12 +344,12 @@ fn settled_at(
 ) -> (SendAnswer, bool) {
     let mut link = link(rt, mode, 64, 1);
     let payload = payload_of(rt, &[7]);
-    let actual = answered_by(send_flagged(&mut link, &payload, given));
+    let answer = answered_by(send_flagged(&mut link, &payload, given));
     let tag = count_tag(rt, 0);
     let is_pending = link.unsettled().contains(&tag);
     drop((payload, tag));
     drop(link);
-    (actual, is_pending)
+    (answer, is_pending)
 }
 
 #[test]
@@ -361,12 +361,12 @@ fn settled_goes_by_mode(rt: HostRuntime) {
         (SenderSettleMode::Mixed, None, false),
         (SenderSettleMode::Mixed, Some(true), true),
     ] {
-        let actual = if settled {
+        let answer = if settled {
             SendAnswer::Settled
         } else {
             SendAnswer::Unsettled
         };
-        let wanted = (actual, !settled);
+        let wanted = (answer, !settled);
         assert_eq!(rt; settled_at(&rt, mode, given), wanted, "{mode:?} {given:?}");
     }
 }
@@ -389,9 +389,9 @@ fn answered_of_transfer(sent: &Result<(Settlement, Vec<LinkFrame>), LinkStateErr
 }
 
 fn answered_by_transfer(sent: Result<(Settlement, Vec<LinkFrame>), LinkStateError>) -> SendAnswer {
-    let actual = answered_of_transfer(&sent);
+    let answer = answered_of_transfer(&sent);
     drop(sent);
-    actual
+    answer
 }
 
 // Sends one byte with a transfer, and returns the result.
@@ -401,9 +401,9 @@ fn send_with(
     transfer: Transfer,
 ) -> SendAnswer {
     let payload = payload_of(rt, &[7]);
-    let actual = answered_by_transfer(link.send_payload_with_transfer(3, transfer, &payload));
+    let answer = answered_by_transfer(link.send_payload_with_transfer(3, transfer, &payload));
     drop(payload);
-    actual
+    answer
 }
 
 // Whether the delivery with count 1 has an entry with format 3 and no state.
@@ -431,12 +431,12 @@ fn sent_thrice(rt: &(impl Abort + AllocGlobal)) -> ([SendAnswer; 3], bool, usize
 // A pending tag refuses an unsettled transfer, not a settled one; the entry has no state.
 #[test]
 fn transfers_name_their_delivery(rt: HostRuntime) {
-    let actual = [
+    let answers = [
         SendAnswer::Unsettled,
         SendAnswer::TagPending,
         SendAnswer::Settled,
     ];
-    assert_eq!(rt; sent_thrice(&rt), (actual, true, 1));
+    assert_eq!(rt; sent_thrice(&rt), (answers, true, 1));
 }
 
 // What the frames of a transfer of two bytes show.
@@ -473,8 +473,8 @@ fn frames_go_with_their_transfer(rt: HostRuntime) {
 #[test]
 fn unnamed_transfer_is_refused(rt: HostRuntime) {
     let mut link = link(&rt, SenderSettleMode::Mixed, 64, 0);
-    let actual = send_with(&rt, &mut link, Transfer::default());
-    assert_eq!(rt; actual, SendAnswer::IllegalState);
+    let answer = send_with(&rt, &mut link, Transfer::default());
+    assert_eq!(rt; answer, SendAnswer::IllegalState);
     drop(link);
 }
 
@@ -484,7 +484,7 @@ fn frames_alone_need_no_tag(rt: HostRuntime) {
     let link = link(&rt, SenderSettleMode::Mixed, 64, 0);
     let bytes = payload_of(&rt, &[7]);
     let sent = link.send_transfer_without_modifying_unsettled_map(Transfer::default(), &bytes);
-    let actual = sent.ok().map(|(settled, frames)| (settled, frames.len()));
-    assert_eq!(rt; actual, Some((false, 1)));
+    let answer = sent.ok().map(|(settled, frames)| (settled, frames.len()));
+    assert_eq!(rt; answer, Some((false, 1)));
     drop(link);
 }

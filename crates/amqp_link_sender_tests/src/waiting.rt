@@ -13,7 +13,7 @@ use std::process::Abort;
 // The result of a send at an attached link with credit 1 while this is pending, and what the link shows.
 #[derive(Clone, Copy, Debug, PartialEq, Eq)]
 struct Left {
-    actual: SendAnswer,
+    answer: SendAnswer,
     state: LinkState,
     has_handle: bool,
     credit: u32,
@@ -24,7 +24,7 @@ fn left_by(rt: &(impl Abort + AllocGlobal), waiting: Waiting) -> Left {
     let payload = payload_of(rt, &[7]);
     let sending = link.send_payload(waiting, &payload, 0, None, None, false);
     let left = Left {
-        actual: answered_by(sending),
+        answer: answered_by(sending),
         state: *link.local_state(),
         has_handle: link.output_handle_mut().is_some(),
         credit: link.flow_state().link_credit(),
@@ -50,9 +50,9 @@ fn error(rt: &(impl Abort + AllocGlobal)) -> Error {
 }
 
 // What a link shows that was detached.
-fn gone(actual: SendAnswer, state: LinkState) -> Left {
+fn gone(answer: SendAnswer, state: LinkState) -> Left {
     Left {
-        actual,
+        answer,
         state,
         has_handle: false,
         credit: 1,
@@ -60,9 +60,9 @@ fn gone(actual: SendAnswer, state: LinkState) -> Left {
 }
 
 // What a link shows that did not change.
-fn kept(actual: SendAnswer) -> Left {
+fn kept(answer: SendAnswer) -> Left {
     Left {
-        actual,
+        answer,
         state: LinkState::Attached,
         has_handle: true,
         credit: 1,
