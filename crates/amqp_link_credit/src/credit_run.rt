@@ -170,9 +170,9 @@ impl CreditRun {
     /// Refused in this order, with nothing changed, so that the frame stays under way: `QueueEmpty`;
     /// `OutOfMemory`.
     ///
-    /// The cost of a transfer grows with the bytes that are held of its delivery, which are read for their
-    /// position; that of a last one also with the number of its transfers and, for an unsettled delivery, with
-    /// the number of those that the receiver has pending.
+    /// The cost of a transfer grows with its bytes, which are read for the position; that of a last one also
+    /// with the bytes and the number of transfers of its delivery, which are joined, and for an unsettled
+    /// delivery with the number of those that the receiver has pending.
     pub fn forward_arrives(&mut self, id: DeliveryNumber) -> Result<Arrival, CreditRunError>
         ensures done { IfOk result (λ came. ArrivesForward self.old id came self.new) }
         ensures refused { AnswersThenOutOfMemory CreditRunError.OutOfMemory result (forward_tests self.old) }

@@ -283,8 +283,8 @@ impl Pair {
     /// Refused in this order, with nothing changed, so that the transfer stays on the wire: `NotAttached`,
     /// `WireEmpty`, `OutOfMemory`.
     ///
-    /// Its cost grows with the bytes that are held of the delivery, which are read for their position, and
-    /// with the number of deliveries that the receiver reports, whose tags are compared.
+    /// Its cost grows with the bytes of the transfer, which are read for the position, and with the number of
+    /// deliveries that the receiver reports, whose tags are compared.
     pub fn arrive(&mut self, id: DeliveryNumber) -> Result<Arrived, PairError>
         ensures done { IfOk result (λ came. Arrives self.old id came.tag
             (came.section_number, came.section_offset) came.whole self.new) }
