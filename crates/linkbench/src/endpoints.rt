@@ -1,0 +1,114 @@
+//! The two endpoints of a link.
+use crate::refused::{Refused, completed, done};
+use amqp_link::state::LinkFlowStateInner;
+use amqp_link::types::{
+    Attach, Detach, Handle, OutputHandle, ReceiverSettleMode, SenderSettleMode, Source, Target,
+    Text,
+};
+use amqp_link::{LinkAttach, LinkDetach, LinkExt, LinkFrame, LinkParts, ReceiverLink, SenderLink};
+use std::alloc::Global;
+
+/// The endpoints of a link, with nothing between them.
+#[derive(Drop)]
+pub struct Endpoints {
+    pub sender: SenderLink<Target>,
+    pub receiver: ReceiverLink<Target>,
+}
+
+/// The endpoints of a new link, attached, with all the credit there is, and this frame limit.
+pub fn attached(alloc: Global, limit: u32) -> Result<Endpoints, Refused> {
+    let sender = SenderLink::new(alloc, parts(alloc, limit));
+    let receiver = ReceiverLink::new(alloc, parts(alloc, limit));
+    let mut ends = Endpoints {
+        sender: sender.with_output_handle(OutputHandle(0)),
+        receiver: receiver.with_output_handle(OutputHandle(0)),
+    };
+    let answer = open(&mut ends);
+    completed(ends, answer)
+}
+
+// A link without a name, for which nothing is allocated.
+fn parts(alloc: Global, limit: u32) -> LinkParts<Target> {
+    LinkParts {
+        name: Text::from(String::new(alloc)),
+        snd_settle_mode: SenderSettleMode::Mixed,
+        rcv_settle_mode: ReceiverSettleMode::First,
+        source: Some(Source::default()),
+        target: Some(Target::default()),
+        max_message_size: 0,
+        offered_capabilities: None,
+        desired_capabilities: None,
+        flow_state: LinkFlowStateInner::default(),
+        max_frame_size: limit,
+        verify_incoming_source: false,
+        verify_incoming_target: false,
+    }
+}
+
+fn open(ends: &mut Endpoints) -> Result<(), Refused> {
+    attach(ends)?;
+    grant(ends)
+}
+
+fn attach(ends: &mut Endpoints) -> Result<(), Refused> {
+    let asked = attach_of_sender(&mut ends.sender)?;
+    drop(done(ends.receiver.on_incoming_attach(asked))?);
+    let answered = attach_of_receiver(&mut ends.receiver)?;
+    drop(done(ends.sender.on_incoming_attach(answered))?);
+    Ok(())
+}
+
+/// The attach that a sender sends.
+pub fn attach_of_sender(sender: &mut SenderLink<Target>) -> Result<Attach, Refused> {
+    let (frame, resolved) = done(sender.send_attach(false))?;
+    drop(resolved);
+    attach_in(frame)
+}
+
+/// The attach that a receiver sends.
+pub fn attach_of_receiver(receiver: &mut ReceiverLink<Target>) -> Result<Attach, Refused> {
+    let (frame, resolved) = done(receiver.send_attach(false))?;
+    drop(resolved);
+    attach_in(frame)
+}
+
+fn attach_in(frame: LinkFrame) -> Result<Attach, Refused> {
+    match frame {
+        LinkFrame::Attach(attach) => Ok(attach),
+        other => {
+            drop(other);
+            Err(Refused)
+        }
+    }
+}
+
+fn grant(ends: &mut Endpoints) -> Result<(), Refused> {
+    match done(ends.receiver.send_flow(Some(u32::MAX), None, false, false))? {
+        LinkFrame::Flow(flow) => {
+            drop(done(ends.sender.on_incoming_flow(flow))?);
+            Ok(())
+        }
+        other => {
+            drop(other);
+            Err(Refused)
+        }
+    }
+}
+
+/// Detaches both endpoints, which may attach again with what is unsettled.
+pub fn cut(ends: &mut Endpoints) -> Result<(), Refused> {
+    detach(&mut ends.sender)?;
+    detach(&mut ends.receiver)
+}
+
+// Detaches an endpoint, whose peer replies.
+fn detach<L: LinkDetach + LinkExt>(link: &mut L) -> Result<(), Refused> {
+    drop(done(link.send_detach(false, None))?);
+    done(link.on_detach_reply(Detach {
+        handle: Handle(0),
+        closed: false,
+        error: None,
+    }))?;
+    *link.output_handle_mut() = Some(OutputHandle(0));
+    Ok(())
+}

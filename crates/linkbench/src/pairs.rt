@@ -1,0 +1,98 @@
+//! Whole runs of a pair.
+use crate::measured::Work;
+use crate::payloads::{Kind, payload_of};
+use crate::refused::{Refused, done};
+use crate::unread::Unread;
+use amqp_link::Pair;
+use amqp_link::types::{DeliveryTag, Payload};
+use std::alloc::Global;
+
+/// A delivery is sent, cut off after its first transfer, resumed, handed out and settled.
+#[derive(Drop)]
+pub struct Walking {
+    pair: Pair,
+    payload: Payload,
+    limit: u32,
+    count: u32,
+}
+
+impl Walking {
+    /// So many deliveries of this length.
+    pub fn ready(alloc: Global, length: usize, limit: u32, count: u32) -> Result<Walking, Refused> {
+        let payload = payload_of(alloc, Kind::Text, length)?;
+        let pair = done(Pair::new(alloc, 0))?;
+        Ok(Walking {
+            pair,
+            payload,
+            limit,
+            count,
+        })
+    }
+}
+
+impl Work for Walking {
+    fn perform(&mut self) -> Result<u64, Refused> {
+        let mut offsets = 0u64;
+        for _ in 0..self.count {
+            offsets = offsets.wrapping_add(walk(&mut self.pair, &self.payload, self.limit)?);
+        }
+        Ok(offsets)
+    }
+}
+
+// One delivery; returns the offset that was reached.
+fn walk(pair: &mut Pair, payload: &Payload, limit: u32) -> Result<u64, Refused> {
+    begin(pair, limit)?;
+    let tag = send(pair, payload)?;
+    let offset = resume(pair, limit);
+    let settled = settle(pair, &tag);
+    drop(tag);
+    settled?;
+    offset
+}
+
+// Attaches the link, and grants credit for the delivery as it is sent, and as it is handed out.
+fn begin(pair: &mut Pair, limit: u32) -> Result<(), Refused> {
+    done(pair.attach(limit))?;
+    done(pair.grant(2))?;
+    Ok(())
+}
+
+// Sends a payload, of which the first transfer arrives.
+fn send(pair: &mut Pair, payload: &Payload) -> Result<DeliveryTag, Refused> {
+    let sent = done(pair.send(payload))?;
+    let tag = sent.tag;
+    match pair.arrive(0) {
+        Ok(arrived) => {
+            drop(arrived);
+            Ok(tag)
+        }
+        Err(_) => {
+            drop(tag);
+            Err(Refused)
+        }
+    }
+}
+
+// Cuts the link and attaches it again; the rest of the delivery arrives.
+fn resume(pair: &mut Pair, limit: u32) -> Result<u64, Refused> {
+    done(pair.cut())?;
+    done(pair.attach(limit))?;
+    let resumed = done(pair.resume_next())?;
+    let frames = resumed.frames;
+    drop(resumed);
+    let mut offset = 0u64;
+    for _ in 0..frames {
+        let arrived = done(pair.arrive(0))?;
+        offset = arrived.section_offset;
+        drop(arrived);
+    }
+    Ok(offset)
+}
+
+// Hands the delivery out and settles it, and cuts the link.
+fn settle(pair: &mut Pair, tag: &DeliveryTag) -> Result<(), Refused> {
+    drop(done(pair.hand_out::<Unread>(tag))?);
+    done(pair.settle(tag))?;
+    done(pair.cut())
+}

@@ -1,0 +1,173 @@
+//! The works that are measured, each at several sizes.
+use crate::exchanging::{Attaching, Exchanging};
+use crate::measured::{Measured, measure};
+use crate::merging::Merging;
+use crate::pairs::Walking;
+use crate::payloads::Kind;
+use crate::receiving::{Flowing, Receiving};
+use crate::refused::Refused;
+use crate::scanning::{Positioning, Scanning};
+use crate::sending::Splitting;
+use crate::settling::{Batching, Disposing, Resolving};
+use std::alloc::Global;
+use std::rt::Clock;
+
+// The frame limit of works whose deliveries are split.
+const LIMIT: u32 = 4096;
+
+/// A work, whose size is the bytes of a payload, or a number of deliveries.
+#[derive(Clone, Copy)]
+pub enum Task {
+    /// Payloads are split, registered and sent.
+    Split,
+    /// Transfers are merged, with a position after each.
+    Merge,
+    /// Large deliveries are received and settled.
+    Receive,
+    /// Payloads of this kind are scanned as they arrive.
+    Scan(Kind),
+    /// The position of a payload is computed anew.
+    Position,
+    /// Deliveries of 64 bytes are sent, received and settled while so many are pending.
+    Deliver,
+    /// So many deliveries are accepted by a disposition each.
+    Resolve,
+    /// A sender settles so many deliveries at once.
+    BatchDispose,
+    /// A receiver settles so many deliveries at once.
+    DisposeAll,
+    /// Both endpoints attach with so many unsettled deliveries.
+    Attach,
+    /// A sender takes an attach with so many unsettled deliveries.
+    Exchange,
+    /// A pair sends, is cut, resumes, hands out and settles.
+    Pair,
+}
+
+/// How much is done: a work of this size, so often.
+#[derive(Clone, Copy)]
+pub struct Amount {
+    pub size: u32,
+    pub count: u32,
+}
+
+const fn of(size: u32, count: u32) -> Amount {
+    Amount { size, count }
+}
+
+impl Task {
+    /// What the work does.
+    pub fn name(self) -> &'static str {
+        match self {
+            Task::Split => "split and register",
+            Task::Merge => "merge",
+            Task::Receive => "receive and settle",
+            Task::Scan(Kind::Text) => "scan text",
+            Task::Scan(Kind::Random) => "scan random bytes",
+            Task::Scan(Kind::Zeros) => "scan zeros",
+            Task::Scan(Kind::Headers) => "scan headers",
+            Task::Position => "position_of text",
+            Task::Deliver => "send, receive, settle",
+            Task::Resolve => "on_incoming_disposition",
+            Task::BatchDispose => "batch_dispose",
+            Task::DisposeAll => "dispose_all",
+            Task::Attach => "send_attach, both",
+            Task::Exchange => "on_incoming_attach",
+            Task::Pair => "pair through a cut",
+        }
+    }
+
+    /// What its size counts.
+    pub fn unit(self) -> &'static str {
+        match self {
+            Task::Split | Task::Merge | Task::Receive | Task::Pair => "bytes",
+            Task::Scan(_) | Task::Position => "bytes",
+            Task::Deliver => "pending",
+            Task::Resolve | Task::BatchDispose | Task::DisposeAll => "deliveries",
+            Task::Attach | Task::Exchange => "deliveries",
+        }
+    }
+
+    /// A small amount, to show what is done.
+    pub fn shown(self) -> Amount {
+        match self {
+            Task::Split | Task::Merge | Task::Receive | Task::Pair => of(10_000, 1),
+            Task::Scan(_) | Task::Position => of(1_000, 1),
+            Task::Deliver => of(1, 1),
+            Task::Resolve | Task::BatchDispose | Task::DisposeAll => of(10, 1),
+            Task::Attach | Task::Exchange => of(10, 1),
+        }
+    }
+
+    /// The amounts that are timed.
+    pub fn timed(self) -> [Amount; 3] {
+        match self {
+            Task::Split | Task::Merge | Task::Receive | Task::Pair => {
+                [of(64, 1_000), of(65_536, 100), of(1_048_576, 10)]
+            }
+            Task::Scan(_) | Task::Position => {
+                [of(64, 100_000), of(65_536, 100), of(1_048_576, 10)]
+            }
+            Task::Deliver => [of(1, 10_000), of(100, 10_000), of(10_000, 1_000)],
+            Task::Resolve | Task::BatchDispose | Task::DisposeAll => {
+                [of(10, 1), of(1_000, 1), of(10_000, 1)]
+            }
+            Task::Attach | Task::Exchange => [of(10, 1), of(1_000, 1), of(10_000, 1)],
+        }
+    }
+
+    /// The operations in an amount: a payload or a delivery each.
+    pub fn operations(self, amount: Amount) -> u32 {
+        match self {
+            Task::Resolve | Task::BatchDispose | Task::DisposeAll => amount.size,
+            Task::Attach | Task::Exchange => amount.size,
+            _ => amount.count,
+        }
+    }
+
+    /// Makes the work ready, does it and measures it.
+    pub fn measure<C: Clock>(
+        self,
+        clock: &C,
+        alloc: Global,
+        amount: Amount,
+    ) -> Result<Measured, Refused> {
+        let Amount { size, count } = amount;
+        let length = size as usize;
+        match self {
+            Task::Split => measure(clock, Splitting::ready(alloc, length, LIMIT, count)?),
+            Task::Merge => measure(clock, Merging::ready(alloc, length, LIMIT, count)?),
+            Task::Receive => measure(clock, Receiving::ready(alloc, length, LIMIT, count)?),
+            Task::Scan(kind) => measure(clock, Scanning::ready(alloc, kind, length, count)?),
+            Task::Position => measure(clock, Positioning::ready(alloc, length, count)?),
+            Task::Deliver => measure(clock, Flowing::ready(alloc, length, count)?),
+            Task::Resolve => measure(clock, Resolving::ready(alloc, size)?),
+            Task::BatchDispose => measure(clock, Batching::ready(alloc, size)?),
+            Task::DisposeAll => measure(clock, Disposing::ready(alloc, size)?),
+            Task::Attach => measure(clock, Attaching::ready(alloc, size)?),
+            Task::Exchange => measure(clock, Exchanging::ready(alloc, size)?),
+            Task::Pair => measure(clock, Walking::ready(alloc, length, LIMIT, count)?),
+        }
+    }
+}
+
+/// All works, in the order in which they are printed.
+pub fn all() -> [Task; 15] {
+    [
+        Task::Split,
+        Task::Merge,
+        Task::Receive,
+        Task::Scan(Kind::Text),
+        Task::Scan(Kind::Random),
+        Task::Scan(Kind::Zeros),
+        Task::Scan(Kind::Headers),
+        Task::Position,
+        Task::Deliver,
+        Task::Resolve,
+        Task::BatchDispose,
+        Task::DisposeAll,
+        Task::Attach,
+        Task::Exchange,
+        Task::Pair,
+    ]
+}
