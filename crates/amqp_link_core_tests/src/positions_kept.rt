@@ -77,14 +77,14 @@ fn pushed_in_two(alloc: Global, bytes: &[u8], cut: usize) -> Result<((u32, u64),
     }
 }
 
-// Blocks of 64 bytes are tested at once: a header at each place near their borders is found, wherever the
+// Blocks of 66 bytes are tested at once: a header at each place near their borders is found, wherever the
 // payload is cut near it.
 #[test]
 fn headers_at_the_borders_of_blocks_are_found(rt: HostRuntime) -> Result<(), Fail> {
     let alloc = rt.alloc();
-    for place in 60..68 {
+    for place in 62..70 {
         let bytes = text_with_header(alloc, place)?;
-        for cut in 58..72 {
+        for cut in 60..74 {
             let shown = pushed_in_two(alloc, bytes.as_slice(), cut)?;
             let wanted = ((1, 200 - place as u64), 200);
             assert_eq!(rt; shown, wanted, "a header at {place}, cut at {cut}");

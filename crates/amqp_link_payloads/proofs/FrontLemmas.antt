@@ -45,7 +45,7 @@ before_push F b = elim (end_case (F ++ b ∷ [])) [
   | inl found ↦ subst (λ p. IsBefore (position F) p)
       (sym (position_push F b found.0 (starts_new F b found.0 found.1 found.2))) (inl (omega arith))
   | inr none ↦ subst (λ p. IsBefore (position F) p)
-      (sym (position_stay F b (starts_old F b none))) (inr (refl, omega arith))
+      (sym (position_stay F (b ∷ []) (starts_old F b none))) (inr (refl, omega arith))
 ]
 
 pub before_append : (F : List ℕ) (b : ℕ) (G : List ℕ) → IsBefore (position F) (position (F ++ b ∷ G))

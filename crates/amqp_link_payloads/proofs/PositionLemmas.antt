@@ -25,11 +25,10 @@ position_push F b n e =
     = ap (λ xs. get_or xs (length xs - 1) 0) e ∙ get_or_push (starts F) n 0 (length (starts F ++ n ∷ []) - 1) (omega (arith, length_push (starts F) n)) in
     pair_same _ _ _ _ (omega arith) (omega (arith, length_push F b))
 
-pub position_stay : (F : List ℕ) (b : ℕ) → starts (F ++ b ∷ []) ≡ starts F
-    → position (F ++ b ∷ []) ≡ ((position F).0, (position F).1 + 1)
-position_stay F b e =
-    let last : last_start (F ++ b ∷ []) ≡ last_start F = ap (λ xs. get_or xs (length xs - 1) 0) e in
-    pair_same _ _ _ _ (ap (λ xs. length xs - 1) e) (omega (arith, length_push F b, last_within F))
+pub position_stay : (F G : List ℕ) → starts (F ++ G) ≡ starts F → position (F ++ G) ≡ ((position F).0, (position F).1 + length G)
+position_stay F G e =
+    let last : last_start (F ++ G) ≡ last_start F = ap (λ xs. get_or xs (length xs - 1) 0) e in
+    pair_same _ _ _ _ (ap (λ xs. length xs - 1) e) (omega (arith, length-append F G, last_within F))
 
 -- a header that ends in the new byte, no longer than the distance from the last start, begins a section
 pub position_new : (F : List ℕ) (b n h : ℕ) → EndsAt (F ++ b ∷ []) n → header_len (drop n (F ++ b ∷ [])) ≡ h
@@ -63,7 +62,7 @@ later_start F b n pos at = elim (cases_lt (last_start F) n) [
 -- where no such header ends in the new byte, the last section grows
 pub position_old : (F : List ℕ) (b h : ℕ) → EndsIn (F ++ b ∷ []) h → (0 < h → h ≤ (position F).1 → ⊥)
     → position (F ++ b ∷ []) ≡ ((position F).0, (position F).1 + 1)
-position_old F b h ends none = position_stay F b (starts_old F b
+position_old F b h ends none = position_stay F (b ∷ []) (starts_old F b
     (λ n pos at. none (omega (arith, at.whole, ends.same n at))
     (omega (arith, later_start F b n pos at, at.ends, ends.same n at, length_push F b))))
 
@@ -73,14 +72,14 @@ front_next F xs i lt = append_assoc F (take i xs) (get_or xs i 0 ∷ []) ∙ ap 
 
 -- a loop over blocks of the bytes that follow F reads one more
 pub front_block : (F xs : List ℕ) (i : ℕ)
-    → (F ++ take (i * 64) xs) ++ take (i * 64 + 64 - i * 64) (drop (i * 64) xs) ≡ F ++ take ((i + 1) * 64) xs
+    → (F ++ take (i * 66) xs) ++ take (i * 66 + 66 - i * 66) (drop (i * 66) xs) ≡ F ++ take ((i + 1) * 66) xs
 front_block F xs i =
-    let one : i * 64 + 64 - i * 64 ≡ 64 = omega arith in
-    let next : i * 64 + 64 ≡ (i + 1) * 64 = omega arith in
-    append_assoc F (take (i * 64) xs) (take (i * 64 + 64 - i * 64) (drop (i * 64) xs))
+    let one : i * 66 + 66 - i * 66 ≡ 66 = omega arith in
+    let next : i * 66 + 66 ≡ (i + 1) * 66 = omega arith in
+    append_assoc F (take (i * 66) xs) (take (i * 66 + 66 - i * 66) (drop (i * 66) xs))
     ∙ ap (λ ys. F ++ ys)
-    (ap (λ k. take (i * 64) xs ++ take k (drop (i * 64) xs)) one
-    ∙ sym (take-add (i * 64) 64 xs)
+    (ap (λ k. take (i * 66) xs ++ take k (drop (i * 66) xs)) one
+    ∙ sym (take-add (i * 66) 66 xs)
     ∙ ap (λ k. take k xs) next)
 
 -- and what is left after it
@@ -91,23 +90,23 @@ front_rest F xs n =
     (ap (λ ys. take n xs ++ ys) (take_all (length xs - n) (drop n xs) (omega (arith, length-drop n xs)))
     ∙ take-append-drop n xs)
 
--- bytes in which no header ends make the last section longer
-passed_front : (F xs : List ℕ) → NoneEnds F xs → (k : ℕ) → k ≤ length xs
-    → position (F ++ take k xs) ≡ ((position F).0, (position F).1 + k)
-passed_front F xs none zero le = ap position (append-nil F) ∙ (let same : ◌≡◌ {A = ℕ} ((position F).1) ((position F).1 + 0) = omega arith in ap (λ k. ((position F).0, k)) same)
-passed_front F xs none (suc k) le =
-    let before : position (F ++ take k xs) ≡ ((position F).0, (position F).1 + k) = passed_front F xs none k (omega arith) in
+-- bytes in which no header ends bring no start
+kept_front : (F xs : List ℕ) → NoneEnds F xs → (k : ℕ) → k ≤ length xs → starts (F ++ take k xs) ≡ starts F
+kept_front F xs none zero le = ap starts (append-nil F)
+kept_front F xs none (suc k) le =
     let next : (F ++ take k xs) ++ get_or xs k 0 ∷ [] ≡ F ++ take (k + 1) xs = front_next F xs k (omega arith) in
-    let stays : position ((F ++ take k xs) ++ get_or xs k 0 ∷ []) ≡ ((position (F ++ take k xs)).0, (position (F ++ take k xs)).1 + 1)
-    = position_stay (F ++ take k xs) (get_or xs k 0)
-    (starts_old (F ++ take k xs) (get_or xs k 0) (λ n pos at. none k n (omega arith) (subst (λ G. EndsAt G n) next at))) in
-    let sum : (position F).1 + k + 1 ≡ (position F).1 + suc k = omega arith in
-    ap (λ j. position (F ++ take j xs)) (let one : suc k ≡ k + 1 = omega arith in one)
-    ∙ ap position (sym next) ∙ stays ∙ ap (λ p. (p.0, p.1 + 1)) before ∙ ap (λ j. ((position F).0, j)) sum
+    ap (λ j. starts (F ++ take j xs)) (let one : suc k ≡ k + 1 = omega arith in one)
+    ∙ ap starts (sym next)
+    ∙ starts_old (F ++ take k xs) (get_or xs k 0) (λ n pos at. none k n (omega arith) (subst (λ G. EndsAt G n) next at))
+    ∙ kept_front F xs none k (omega arith)
 
+pub starts_passed : (F xs : List ℕ) → NoneEnds F xs → starts (F ++ xs) ≡ starts F
+starts_passed F xs none =
+    ap (λ ys. starts (F ++ ys)) (sym (take_all (length xs) xs (omega arith))) ∙ kept_front F xs none (length xs) (omega arith)
+
+-- and make the last section longer
 pub position_passed : (F xs : List ℕ) → NoneEnds F xs → position (F ++ xs) ≡ ((position F).0, (position F).1 + length xs)
-position_passed F xs none =
-    ap (λ ys. position (F ++ ys)) (sym (take_all (length xs) xs (omega arith))) ∙ passed_front F xs none (length xs) (omega arith)
+position_passed F xs none = position_stay F xs (starts_passed F xs none)
 
 -- one more piece
 pub concat_push : (xss : List (List ℕ)) (xs : List ℕ) → concat (xss ++ xs ∷ []) ≡ concat xss ++ xs

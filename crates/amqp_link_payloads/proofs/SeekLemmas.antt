@@ -2,15 +2,16 @@
 use Rattle.std.proofs.Common.{◌≡◌, ℕ, zero, suc, ◌+◌, ◌-◌, ◌<◌, ◌≤◌, Bool, true, false, cond, List, [], ◌∷◌, ◌++◌, length, get_or, drop, refl, sym, ap, ◌∙◌, subst, inl, inr, arith, Some, None, slice_get, nat_eq, ltb, ◌&&◌, add-one}
 use Rattle.std.specs.Prelude.{Option, option_map}
 use Rattle.std.proofs.lemmas.Bool.{cases_eq, eq-eqb, ne_eqb, ltb-true, ltb-false, and_parts, and_cases}
-use Rattle.std.proofs.lemmas.List.{length_push}
+use Rattle.std.proofs.lemmas.List.{length_push, length-append}
 use Rattle.std.proofs.lemmas.Option.{slice_get_within, get_or_from_slice_get}
 use Rattle.amqp_link_payloads.specs.Header.{header_len}
 use Rattle.amqp_link_payloads.specs.Places.{header_end}
 use Rattle.amqp_link_payloads.specs.Position.{starts}
 use Rattle.amqp_link_payloads.specs.Seek.{HasSought}
-use Rattle.amqp_link_payloads.specs.Tail.{EndsAt, EndsIn, IsTailOf}
+use Rattle.amqp_link_payloads.specs.Tail.{EndsAt, EndsIn, IsTailOf, NoneEnds}
 use Rattle.amqp_link_payloads.specs.declared.position.places.Seek.{Seek}
 use Rattle.amqp_link_payloads.proofs.StartsLemmas.{starts_new, starts_old, start_header, start_within, kept_at}
+use Rattle.amqp_link_payloads.proofs.PositionLemmas.{starts_passed}
 
 -- ---- a list that grew by one
 
@@ -36,19 +37,19 @@ start_appended xs n k = elim (cases_eq (length xs) k) [
 abbrev end_of : List ℕ → Option ℕ → Option ℕ
 end_of P start = option_map (λ n. n + header_len (drop n P)) start
 
--- a byte more does not move the end of a header that is there
-end_kept : (F : List ℕ) (b k : ℕ) (o : Option ℕ) → slice_get (starts F) (suc k) ≡ o → end_of (F ++ b ∷ []) o ≡ end_of F o
-end_kept F b k None e = refl
-end_kept F b k (Some n) e =
+-- bytes that follow do not move the end of a header that is there
+end_kept : (F G : List ℕ) (k : ℕ) (o : Option ℕ) → slice_get (starts F) (suc k) ≡ o → end_of (F ++ G) o ≡ end_of F o
+end_kept F G k None e = refl
+end_kept F G k (Some n) e =
     let lt : suc k < length (starts F) = slice_get_within (starts F) (suc k) n e in
     let is : get_or (starts F) (suc k) 0 ≡ n = get_or_from_slice_get (starts F) (suc k) n 0 e in
     let some : 0 < header_len (drop n F) = subst (λ i. 0 < header_len (drop i F)) is (start_header F k lt) in
     let within : n + header_len (drop n F) ≤ length F
     = subst (λ i. i + header_len (drop i F) ≤ length F) is (start_within F (suc k) lt) in
-    ap (λ h. Some (n + h)) (kept_at F (b ∷ []) n (omega arith) some)
+    ap (λ h. Some (n + h)) (kept_at F G n (omega arith) some)
 
-pub end_stays : (F : List ℕ) (b k : ℕ) → starts (F ++ b ∷ []) ≡ starts F → header_end (F ++ b ∷ []) (suc k) ≡ header_end F (suc k)
-end_stays F b k same = ap (λ xs. end_of (F ++ b ∷ []) (slice_get xs (suc k))) same ∙ end_kept F b k (slice_get (starts F) (suc k)) refl
+pub end_stays : (F G : List ℕ) (k : ℕ) → starts (F ++ G) ≡ starts F → header_end (F ++ G) (suc k) ≡ header_end F (suc k)
+end_stays F G k same = ap (λ xs. end_of (F ++ G) (slice_get xs (suc k))) same ∙ end_kept F G k (slice_get (starts F) (suc k)) refl
 
 pub end_appended : (F : List ℕ) (b n k : ℕ) → starts (F ++ b ∷ []) ≡ starts F ++ n ∷ [] → EndsAt (F ++ b ∷ []) n
     → header_end (F ++ b ∷ []) (suc k) ≡ cond (nat_eq (length (starts F)) (suc k)) (Some (length F + 1)) (header_end F (suc k))
@@ -56,14 +57,34 @@ end_appended F b n k grown at =
     let appended : slice_get (starts (F ++ b ∷ [])) (suc k) ≡ cond (nat_eq (length (starts F)) (suc k)) (Some n) (slice_get (starts F) (suc k))
     = ap (λ xs. slice_get xs (suc k)) grown ∙ start_appended (starts F) n (suc k) in
     ap (end_of (F ++ b ∷ [])) appended
-    ∙ both (nat_eq (length (starts F)) (suc k)) (slice_get (starts F) (suc k)) (end_kept F b k (slice_get (starts F) (suc k)) refl)
+    ∙ both (nat_eq (length (starts F)) (suc k)) (slice_get (starts F) (suc k)) (end_kept F (b ∷ []) k (slice_get (starts F) (suc k)) refl)
   where
     both : (is : Bool) (o : Option ℕ) → end_of (F ++ b ∷ []) o ≡ end_of F o
         → end_of (F ++ b ∷ []) (cond is (Some n) o) ≡ cond is (Some (length F + 1)) (end_of F o)
     both true o e = ap Some (at.ends ∙ length_push F b)
     both false o e = e
 
--- ---- one more byte
+-- ---- more bytes
+
+-- bytes that bring no start
+sought_same : (s t : Seek) (F G : List ℕ) → HasSought s F → starts (F ++ G) ≡ starts F → IsTailOf t.tail (F ++ G)
+    → t.number ≡ s.number → t.length ≡ s.length + length G → t.seen ≡ s.seen → t.start ≡ s.start → t.end ≡ s.end
+    → HasSought t (F ++ G)
+sought_same s t F G has same tail number len seen start end = record {
+  length_is = omega (arith, has.length_is, length-append F G);
+  seen_is = ap (λ k. k + 1) seen ∙ has.seen_is ∙ ap length (sym same);
+  start_is = start ∙ has.start_is ∙ ap (λ xs. slice_get xs s.number) (sym same) ∙ ap (slice_get (starts (F ++ G))) (sym number);
+  end_is = end ∙ has.end_is ∙ ap (header_end F) (add-one s.number) ∙ sym (end_stays F G s.number same)
+      ∙ ap (header_end (F ++ G)) (sym (add-one s.number) ∙ ap (λ k. k + 1) (sym number));
+  tail_is = tail;
+}
+
+-- a block in which no header ends
+pub sought_block : (s t : Seek) (F xs : List ℕ) → HasSought s F → NoneEnds F xs → IsTailOf t.tail (F ++ xs)
+    → t.number ≡ s.number → t.length ≡ s.length + length xs → t.seen ≡ s.seen → t.start ≡ s.start → t.end ≡ s.end
+    → HasSought t (F ++ xs)
+sought_block s t F xs has none tail number len seen start end =
+    sought_same s t F xs has (starts_passed F xs none) tail number len seen start end
 
 -- whether the header of length h that ends in the new byte is a start
 abbrev pub is_start : ℕ → ℕ → Bool
@@ -117,14 +138,7 @@ sought_old s t F b h has ends tail is number len seen start end =
       | inl none ↦ omega (arith, ltb-false 0 h none, ends.same n at, at.whole)
       | inr long ↦ omega (arith, ltb-false h (s.length + 1) long, ends.same n at, at.ends, has.length_is)
     ]) in
-    record {
-      length_is = omega (arith, has.length_is);
-      seen_is = ap (λ k. k + 1) seen ∙ has.seen_is ∙ ap length (sym same);
-      start_is = start ∙ has.start_is ∙ ap (λ xs. slice_get xs s.number) (sym same) ∙ ap (slice_get (starts (F ++ b ∷ []))) (sym number);
-      end_is = end ∙ has.end_is ∙ ap (header_end F) (add-one s.number) ∙ sym (end_stays F b s.number same)
-          ∙ ap (header_end (F ++ b ∷ [])) (sym (add-one s.number) ∙ ap (λ k. k + 1) (sym number));
-      tail_is = tail;
-    }
+    sought_same s t F (b ∷ []) has same tail number len seen start end
 
 pub sought_more : (s t : Seek) (F : List ℕ) (b h : ℕ) (is : Bool) → HasSought s F → EndsIn (F ++ b ∷ []) h → IsTailOf t.tail (F ++ b ∷ [])
     → is ≡ is_start h (s.length + 1) → t.number ≡ s.number → t.length ≡ s.length + 1 → t.seen ≡ cond is (s.seen + 1) s.seen

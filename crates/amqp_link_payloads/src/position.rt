@@ -16,7 +16,7 @@ mod section_counts;
 pub mod sections;
 
 use crate::payload::{Payload, joined_len};
-use crate::position::header::{BLOCK, Tail};
+use crate::position::header::{BLOCK, SHORT, Tail};
 use crate::position::places::Seek;
 
 // What a scan keeps of the bytes that it has read.
@@ -65,11 +65,10 @@ impl Scan {
 
     // A block in which no header ends is not read byte by byte.
     fn feed_block(&mut self, block: &[u8])
-        requires { 2 ≤ length block.now }
         ensures { (F : List ℕ) → HasSeen self.old F → HasSeen self.new (F ++ block.now) }
     {
         let mut tail = self.tail;
-        if tail.pass(block) {
+        if block.len() >= SHORT && tail.pass(block) {
             self.distance = distance_on(self.distance, block.len() as u64);
             self.tail = tail;
         } else {
@@ -85,7 +84,7 @@ impl Scan {
         for i in 0..blocks {
             scan.feed_block(&bytes[i * BLOCK..i * BLOCK + BLOCK]);
         }
-        scan.feed_bytes(&bytes[blocks * BLOCK..]);
+        scan.feed_block(&bytes[blocks * BLOCK..]);
         *self = scan;
     }
 }

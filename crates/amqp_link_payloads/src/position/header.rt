@@ -3,8 +3,11 @@ ghost use Rattle.std.specs.Prelude.{◌≡◌, ◌<◌, ◌≤◌, ℕ, List, []
 ghost use Rattle.amqp_link_payloads.specs.Header.{header_len};
 ghost use Rattle.amqp_link_payloads.specs.Tail.{IsTailOf, EndsIn, NoneEnds};
 
-// The bytes that are tested for headers at once. Fewer are read one by one.
-pub(crate) const BLOCK: usize = 64;
+// The bytes that are tested for headers at once: a header can end in 64 of them, which fill whole vectors.
+pub(crate) const BLOCK: usize = 66;
+
+// Fewer bytes than these are read one by one.
+pub(crate) const SHORT: usize = 16;
 
 // A byte that no header contains.
 const BLANK: u8 = 0xff;

@@ -3,7 +3,7 @@ ghost use Rattle.std.specs.Prelude.{◌≡◌, ◌+◌, ◌^◌, ◌<◌, ◌≤
 ghost use Rattle.std.specs.Prelude.{ℕ, List, Some, length, nat_eq, nat_lt, ◌&&◌, if◌then◌else◌};
 ghost use Rattle.amqp_link_payloads.specs.Places.{place_by};
 
-use crate::position::header::Tail;
+use crate::position::header::{BLOCK, SHORT, Tail};
 
 // What a search for a place in a section keeps of the bytes that it has read.
 #[derive(Clone, Copy)]
@@ -66,7 +66,7 @@ impl Seek {
         };
     }
 
-    pub(crate) fn feed_all(&mut self, bytes: &[u8])
+    fn feed_bytes(&mut self, bytes: &[u8])
         requires { self.old.length + length bytes.now < 2 ^ 64 }
         ensures number { self.new.number ≡ self.old.number }
         ensures length { self.new.length ≡ self.old.length + length bytes.now }
@@ -75,6 +75,37 @@ impl Seek {
         for byte in bytes {
             self.feed(*byte);
         }
+    }
+
+    // A block in which no header ends is not read byte by byte.
+    fn feed_block(&mut self, block: &[u8])
+        requires { self.old.length + length block.now < 2 ^ 64 }
+        ensures number { self.new.number ≡ self.old.number }
+        ensures length { self.new.length ≡ self.old.length + length block.now }
+        ensures sought { (F : List ℕ) → HasSought self.old F → HasSought self.new (F ++ block.now) }
+    {
+        let mut tail = self.tail;
+        if block.len() >= SHORT && tail.pass(block) {
+            self.length += block.len() as u64;
+            self.tail = tail;
+        } else {
+            self.feed_bytes(block);
+        }
+    }
+
+    pub(crate) fn feed_all(&mut self, bytes: &[u8])
+        requires { self.old.length + length bytes.now < 2 ^ 64 }
+        ensures number { self.new.number ≡ self.old.number }
+        ensures length { self.new.length ≡ self.old.length + length bytes.now }
+        ensures sought { (F : List ℕ) → HasSought self.old F → HasSought self.new (F ++ bytes.now) }
+    {
+        let blocks = bytes.len() / BLOCK;
+        let mut seek = *self;
+        for i in 0..blocks {
+            seek.feed_block(&bytes[i * BLOCK..i * BLOCK + BLOCK]);
+        }
+        seek.feed_block(&bytes[blocks * BLOCK..]);
+        *self = seek;
     }
 
     // The place of that offset in the section, after all bytes were read.

@@ -2,7 +2,7 @@
 ghost use Rattle.std.specs.Prelude.{◌≡◌, ◌+◌, ◌^◌, ◌<◌, ◌≤◌, ◌++◌, [], ◌∷◌};
 ghost use Rattle.std.specs.Prelude.{ℕ, List, length, IfSome, MatchOption};
 
-use crate::position::header::{BLOCK, Tail};
+use crate::position::header::{BLOCK, SHORT, Tail};
 
 // The number of starts past the first byte, and the bytes since the last start.
 #[derive(Clone, Copy, Debug)]
@@ -76,15 +76,14 @@ impl SectionCounts {
 
     // A block in which no header ends is not read byte by byte.
     fn read_block(self, block: &[u8]) -> Option<SectionCounts>
-        requires long { 2 ≤ length block.now }
-        requires short { self.offset + length block.now < 2 ^ 64 }
+        requires { self.offset + length block.now < 2 ^ 64 }
         ensures read { (F : List ℕ) → HasCounted self F
             → MatchOption result (2 ^ 32 ≤ (position (F ++ block.now)).0)
             (λ next. HasCounted next (F ++ block.now)) }
         ensures offset { IfSome result (λ next. next.offset ≤ self.offset + length block.now) }
     {
         let mut tail = self.tail;
-        if tail.pass(block) {
+        if block.len() >= SHORT && tail.pass(block) {
             return Some(SectionCounts {
                 number: self.number,
                 offset: self.offset + block.len() as u64,
@@ -109,6 +108,6 @@ impl SectionCounts {
             };
             next = counts;
         }
-        next.read_bytes(&bytes[blocks * BLOCK..])
+        next.read_block(&bytes[blocks * BLOCK..])
     }
 }
