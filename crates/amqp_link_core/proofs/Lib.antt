@@ -3,4 +3,5 @@ pub mod CutLemmas
 pub mod Halving
 pub mod MergeLemmas
 pub mod ResumingLemmas
+pub mod SentLemmas
 pub mod Worked

@@ -12,6 +12,7 @@ ghost use Rattle.amqp_link_types.specs.contracts.types.definitions.OutputHandle.
 ghost use Rattle.amqp_link_values.specs.contracts.fields.Fields.{the_row as fields_row};
 ghost use Rattle.amqp_link_state.specs.declared.state.LinkState.{LinkState as TheState};
 ghost use Rattle.amqp_link_values.specs.Data.{Data};
+ghost use Rattle.amqp_link_types.specs.Entries.{Entries};
 ghost use Rattle.amqp_link_types.specs.declared.types.definitions.OutputHandle.{OutputHandle as TheHandle};
 ghost use Rattle.amqp_link_types.specs.declared.types.definitions.Error.{Error as TheError};
 ghost use Rattle.amqp_link_types.specs.declared.types.attach.Attach.{Attach as TheAttach};
@@ -43,11 +44,17 @@ pub trait LinkDetach {
     /// Why a detach is refused, or the error that the peer's detach carries.
     type DetachError: Drop;
 
-    /// What the endpoint keeps of its unsettled deliveries.
+    /// The map of the unsettled deliveries, by tag.
     type Unsettled;
 
+    /// What the endpoint keeps of one of them.
+    type Entry;
+
+    // The pairs of the map, as contracts see them.
+    ghost unsettled_pairs: { Self.Unsettled → Entries Self.Entry };
+
     // All that it shows.
-    ghost shown: { Self → Shown Self.Unsettled };
+    ghost shown: { Self → Shown (Entries Self.Entry) };
 
     // The endpoint in another state and with another output handle, and all else as it is.
     ghost moved: { Self → TheState → Option TheHandle → Self };
@@ -122,7 +129,7 @@ pub trait LinkAttach: LinkDetach {
     // The endpoint without its unsettled deliveries, and what it keeps if there are none.
     ghost emptied: { Self → Self };
 
-    ghost nothing_unsettled: { Self.Unsettled };
+    ghost nothing_unsettled: { Entries Self.Entry };
 
     // A copy of the target is equal to it.
     ghost copies: { Type 0 };
@@ -174,7 +181,7 @@ pub trait LinkAttach: LinkDetach {
 
     // What the exchange of the endpoint's own unsettled deliveries and those that the attach states returns,
     // in the state after the attach.
-    ghost exchanged: { Self.Unsettled → States → TheState → Self.AttachExchange → Type 0 };
+    ghost exchanged: { Entries Self.Entry → States → TheState → Self.AttachExchange → Type 0 };
 
     // The errors that carry a list: there may be no memory for it.
     ghost is_listing: { Self.AttachError → Bool };
@@ -268,7 +275,7 @@ pub trait LinkExt: Link {
 
     /// The unsettled deliveries, by tag.
     fn unsettled(&self) -> &Self::Unsettled
-        ensures { result.now ≡ (Self.shown self.now).unsettled };
+        ensures { Self.unsettled_pairs result.now ≡ (Self.shown self.now).unsettled };
 
     /// When the receiver settles: by itself, or only after the sender.
     fn rcv_settle_mode(&self) -> &ReceiverSettleMode

@@ -1,4 +1,8 @@
 //! What a link is made with.
+ghost use Rattle.std.specs.Prelude.{◌≡◌, None, false};
+ghost use Rattle.amqp_link_types.specs.declared.types.definitions.ReceiverSettleMode.TheVariants.{First};
+ghost use Rattle.amqp_link_types.specs.declared.types.definitions.SenderSettleMode.TheVariants.{Mixed};
+
 use amqp_link_state::state::LinkFlowStateInner;
 use amqp_link_types::types::{ReceiverSettleMode, SenderSettleMode, Source, Symbols, Text};
 
@@ -31,4 +35,54 @@ pub struct LinkParts<T: Drop> {
     pub verify_incoming_source: bool,
     /// Whether the target of the peer's attach is to be verified (3.5.4), if this endpoint has one.
     pub verify_incoming_target: bool,
+}
+
+impl<T: Drop> LinkParts<T> {
+    /// A link of which nothing else is said: the sender says of each delivery whether it is settled, the
+    /// receiver settles by itself, messages are of any size, nothing is offered or desired, the counts begin
+    /// at 0 without credit, and no terminus of the peer is verified. Set what is to be otherwise. Does not
+    /// allocate.
+    pub fn new(
+        name: Text,
+        source: Option<Source>,
+        target: Option<T>,
+        max_frame_size: u32,
+    ) -> LinkParts<T>
+        ensures { result ≡ record {
+          name = name;
+          snd_settle_mode = Mixed;
+          rcv_settle_mode = First;
+          source = source;
+          target = target;
+          max_message_size = 0;
+          offered_capabilities = None;
+          desired_capabilities = None;
+          flow_state = record {
+            initial_delivery_count = 0;
+            delivery_count = 0;
+            link_credit = 0;
+            available = 0;
+            drain = false;
+            properties = None;
+          };
+          max_frame_size = max_frame_size;
+          verify_incoming_source = false;
+          verify_incoming_target = false;
+        } }
+    {
+        LinkParts {
+            name,
+            snd_settle_mode: SenderSettleMode::Mixed,
+            rcv_settle_mode: ReceiverSettleMode::First,
+            source,
+            target,
+            max_message_size: 0,
+            offered_capabilities: None,
+            desired_capabilities: None,
+            flow_state: LinkFlowStateInner::default(),
+            max_frame_size,
+            verify_incoming_source: false,
+            verify_incoming_target: false,
+        }
+    }
 }

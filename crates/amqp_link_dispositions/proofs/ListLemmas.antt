@@ -6,7 +6,8 @@ use Rattle.amqp_link_runs.specs.Order.{sorted_by}
 use Rattle.amqp_link_runs.proofs.OrderLemmas.{sorted-map}
 use Rattle.amqp_link_types.specs.declared.types.delivery_state.DeliveryState.{DeliveryState}
 use Rattle.amqp_link_types.specs.Entries.{Tag, Entries, entry_at, without_entry, changed_at}
-use Rattle.amqp_link_types.proofs.MapLemmas.{missing_from_lookup, changed-nothing, changed-twice}
+use Rattle.amqp_link_types.proofs.MapLemmas.{removed-absent, changed-nothing, changed-twice}
+use Rattle.amqp_link_types.proofs.EntriesLemmas.{changed-absent}
 use Rattle.amqp_link_dispositions.specs.Changes.{StateChange, with_states}
 
 -- pairs are sorted by their numbers; what is seen of them is sorted alike
@@ -58,5 +59,5 @@ unmoved {V} es tag f b h = by b
     none (Some v) h = cc
 
     by : (b : Bool) → es ≡ (if b then without_entry es tag else changed_at f (tag ∷ []) es)
-    by true = sym (missing_from_lookup es tag (none (entry_at es tag) h)).removed
-    by false = sym ((missing_from_lookup es tag (none (entry_at es tag) h)).changed f)
+    by true = sym (removed-absent es tag (none (entry_at es tag) h))
+    by false = sym (changed-absent f es tag (none (entry_at es tag) h))

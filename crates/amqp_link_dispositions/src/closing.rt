@@ -1,11 +1,11 @@
 //! The outcomes of a sender's deliveries when a detach closes the link, and the reply to a detach (2.6.5,
 //! 2.6.6 and 2.7.7).
-ghost use Rattle.std.specs.Prelude.{◌≡◌, ◌+◌, ◌≤◌, ◌++◌, [], true, is_some, vec_len, vec_capacity, All, IfOk, OnOk, OnErr};
+ghost use Rattle.std.specs.Prelude.{◌≡◌, ◌+◌, ◌≤◌, ◌++◌, [], true, is_some, length, vec_len, vec_capacity, All, IfOk, OnOk, OnErr};
 ghost use Rattle.amqp_link_dispositions.specs.Ending.{closed_for as why_closed, all_closed as all_closed_for, reply_of};
 
 use amqp_link_types::delivery::{Outcomes, UnsettledMessage};
 use amqp_link_types::types::unsettled_map::UnsettledMap;
-use amqp_link_types::types::{DeliveryTag, Detach, Error, LinkStateError, OutputHandle};
+use amqp_link_types::types::{Detach, Error, LinkStateError, OutputHandle};
 use amqp_link_values::copy::copy_of;
 use std::alloc::{AllocError, Global};
 
@@ -50,19 +50,19 @@ fn reasons_for(
 
 // Resolves each delivery with its copy, in a list that has room for all.
 fn end_each(
-    pairs: Vec<(DeliveryTag, UnsettledMessage)>,
+    unsettled: UnsettledMap<UnsettledMessage>,
     reasons: Vec<LinkStateError>,
     outcomes: &mut Outcomes,
     error: &Option<Error>,
 )
-    requires count { vec_len reasons ≡ vec_len pairs }
+    requires count { vec_len reasons ≡ length unsettled }
     requires each { All (λ reason. reason ≡ why_closed error.now) reasons.items }
-    requires room { vec_len outcomes.old + vec_len pairs ≤ vec_capacity outcomes.old }
-    ensures { outcomes.new.items ≡ outcomes.old.items ++ all_closed_for error.now pairs.items }
+    requires room { vec_len outcomes.old + length unsettled ≤ vec_capacity outcomes.old }
+    ensures { outcomes.new.items ≡ outcomes.old.items ++ all_closed_for error.now unsettled }
 {
     let _why = error;
     let mut reasons = reasons;
-    for (tag, message) in pairs {
+    for (tag, message) in unsettled.into_map() {
         drop(message);
         let Some(reason) = reasons.pop() else {
             unreachable!()
@@ -87,7 +87,6 @@ pub fn all_closed(
     let reasons = reasons_for(alloc, error, unsettled.len())?;
     let mut outcomes = Vec::with_capacity(alloc, unsettled.len())?;
     // From here on nothing can fail.
-    let pairs = unsettled.take_all().into_pairs();
-    end_each(pairs, reasons, &mut outcomes, error);
+    end_each(unsettled.take_all(), reasons, &mut outcomes, error);
     Ok(outcomes)
 }

@@ -1,8 +1,9 @@
 -- A plan of an exchange: the steps of its deliveries, as they are decided and as they are carried out.
-use Rattle.std.proofs.Common.{◌≡◌, ◌∙◌, sym, ap, subst, Bool, true, false, cond, List, [], ◌∷◌, ◌++◌, refl, ℕ, zero, suc, ◌+◌, ◌<◌, ◌≤◌, map, filter, Option, Some, None, length, take, arith, slice_get, slice_set}
-use Rattle.std.specs.Prelude.{is_none, bytes_eq, slice_index_or}
-use Rattle.std.specs.List.{filter_map, cons_option}
+use Rattle.std.proofs.Common.{◌≡◌, ◌∙◌, sym, ap, subst, Bool, true, false, cond, List, [], ◌∷◌, ◌++◌, refl, ℕ, zero, suc, ◌+◌, ◌<◌, ◌≤◌, map, filter, Option, Some, None, length, arith, slice_get, slice_set}
+use Rattle.std.specs.Prelude.{is_none, bytes_eq}
+use Rattle.std.specs.List.{cons_option}
 use Rattle.std.proofs.lemmas.Slice.Eq.{bytes_eq-Decides}
+use Rattle.amqp_link_types.specs.Deliveries.{Ended}
 use Rattle.amqp_link_types.specs.Entries.{Tag, Entries, entry_at, IsMap}
 use Rattle.amqp_link_types.specs.declared.delivery.UnsettledMessage.{UnsettledMessage}
 use Rattle.amqp_link_types.specs.declared.types.delivery_state.DeliveryState.{DeliveryState}
@@ -13,7 +14,7 @@ use Rattle.amqp_link_core.specs.declared.resumption.PlannedResolution.TheVariant
 use Rattle.amqp_link_types.specs.declared.types.delivery_state.DeliveryState.TheVariants.{Accepted, Rejected, Released, Modified, Received}
 use Rattle.amqp_link_core.specs.declared.resumption.ResumingDelivery.{ResumingDelivery}
 use Rattle.amqp_link_core.specs.declared.resumption.ResumingDelivery.TheVariants.{Abort}
-use Rattle.amqp_link_exchange.specs.Exchanges.{resolutions, to_resume, unknown_aborted}
+use Rattle.amqp_link_exchange.specs.Exchanges.{resolutions, to_resume, to_return, unknown_aborted}
 use Rattle.std.specs.List.{IsDistinct, AllByRecursion}
 use Rattle.std.specs.Map.{keys_of}
 use Rattle.std.proofs.Common.{append_assoc}
@@ -21,7 +22,7 @@ use Rattle.std.proofs.lemmas.List.{append-nil}
 use Rattle.indexmap.proofs.MapLemmas.{absent_from_lookup}
 use Rattle.amqp_link_types.proofs.MapLemmas.{false_is_not_true, is_false}
 use Rattle.amqp_link_core.specs.Resuming.{is_ended_by}
-use Rattle.amqp_link_exchange.specs.Plans.{Planned, Pairwise, IsStepFor, IsPlanOf, IsResolvable, IsProgress, resolved_by, resumed_count, ended_count}
+use Rattle.amqp_link_exchange.specs.Plans.{Planned, Pairwise, IsStepFor, IsPlanOf, IsResolvable, IsProgress, resolved_by, resumed_by, ended_by_steps, resumed_count, ended_count}
 use Rattle.amqp_link_exchange.specs.declared.planning.Step.{Step}
 
 some_is : {X : Type 0} {x y : X} → Some x ≡ Some y → x ≡ y
@@ -51,13 +52,11 @@ module _ {X Y : Type 0} (R S : X → Y → Type 0) where
   Pairwise-map f (u ∷ xs) (v ∷ ys) p = (f u v p.0, Pairwise-map f xs ys p.1)
 
 module _ {X Y : Type 0} (R : X → Y → Type 0) where
-  pub Pairwise-next : (xs : List X) (ys : List Y) (i : ℕ) (x : X) (y : Y) → i < length xs → x ≡ slice_index_or xs i x → Pairwise R (take i xs) ys → R x y
-      → Pairwise R (take (suc i) xs) (ys ++ y ∷ [])
-  Pairwise-next [] ys i x y h at p r = absurd (omega arith)
-  Pairwise-next (u ∷ xs) [] zero x y h at p r = (subst (λ z. R z y) at r, tt)
-  Pairwise-next (u ∷ xs) (v ∷ ys) zero x y h at p r = absurd p
-  Pairwise-next (u ∷ xs) [] (suc i) x y h at p r = absurd p
-  Pairwise-next (u ∷ xs) (v ∷ ys) (suc i) x y h at p r = (p.0, Pairwise-next xs ys i x y (omega arith) at p.1 r)
+  pub Pairwise-push : (xs : List X) (ys : List Y) (x : X) (y : Y) → Pairwise R xs ys → R x y → Pairwise R (xs ++ x ∷ []) (ys ++ y ∷ [])
+  Pairwise-push [] [] x y p r = (r, tt)
+  Pairwise-push [] (v ∷ ys) x y p r = absurd p
+  Pairwise-push (u ∷ xs) [] x y p r = absurd p
+  Pairwise-push (u ∷ xs) (v ∷ ys) x y p r = (p.0, Pairwise-push xs ys x y p.1 r)
 
 -- ---- the plan of an exchange carried out
 
@@ -238,18 +237,37 @@ no_tag e plan is = record {
   tag = λ h. absurd (false_is_not_true (sym (carries_nothing plan e.1 e.0 e.1.state (is.answers e.0)) ∙ h));
 }
 
--- ---- how many are resumed
+-- ---- how many are resumed, and how many have ended
 
-one_more : (e : Tag × UnsettledMessage) (list : Entries ResumingDelivery) (n : ℕ) → length list ≤ n → (p : PlannedResolution)
-    → length (cons_option (to_resume (e.0, resolution_by p e.0 e.1)) list) ≤ cond (is_ended_by p) 0 1 + n
-one_more e list n h plan.Resend = omega (arith, h)
-one_more e list n h (plan.Resume rest) = omega (arith, h)
-one_more e list n h plan.Abort = omega (arith, h)
-one_more e list n h plan.LocalOutcome = omega (arith, h)
-one_more e list n h (plan.RemoteOutcome state) = omega (arith, h)
-one_more e list n h plan.RestateOutcome = omega (arith, h)
+one_step : (e : Tag × UnsettledMessage) (resumed : Entries ResumingDelivery) (ended : List Ended) (n m : ℕ) → length resumed ≤ n → length ended ≤ m → (p : PlannedResolution)
+    → (length (cons_option (to_resume (e.0, resolution_by p e.0 e.1)) resumed) ≤ cond (is_ended_by p) 0 1 + n)
+    × (length (cons_option (to_return (e.0, resolution_by p e.0 e.1)) ended) ≤ cond (is_ended_by p) 1 0 + m)
+one_step e resumed ended n m h k plan.Resend = (omega (arith, h), omega (arith, k))
+one_step e resumed ended n m h k (plan.Resume rest) = (omega (arith, h), omega (arith, k))
+one_step e resumed ended n m h k plan.Abort = (omega (arith, h), omega (arith, k))
+one_step e resumed ended n m h k plan.LocalOutcome = (omega (arith, h), omega (arith, k))
+one_step e resumed ended n m h k (plan.RemoteOutcome state) = (omega (arith, h), omega (arith, k))
+one_step e resumed ended n m h k plan.RestateOutcome = (omega (arith, h), omega (arith, k))
 
-pub length-resumed_by : (own : Entries UnsettledMessage) (steps : List Step) → length (filter_map to_resume (resolved_by own steps)) ≤ resumed_count steps
-length-resumed_by [] steps = omega arith
-length-resumed_by (e ∷ own) [] = omega arith
-length-resumed_by (e ∷ own) (s ∷ steps) = one_more e (filter_map to_resume (resolved_by own steps)) (resumed_count steps) (length-resumed_by own steps) s.plan
+-- both lists are at most as long as the steps are counted
+pub within_counts : (own : Entries UnsettledMessage) (steps : List Step)
+    → (length (resumed_by own steps) ≤ resumed_count steps) × (length (ended_by_steps own steps) ≤ ended_count steps)
+within_counts [] steps = (omega arith, omega arith)
+within_counts (e ∷ own) [] = (omega arith, omega arith)
+within_counts (e ∷ own) (s ∷ steps) =
+    let rest = within_counts own steps in
+    one_step e (resumed_by own steps) (ended_by_steps own steps) (resumed_count steps) (ended_count steps) rest.0 rest.1 s.plan
+
+-- ---- the first of them, and the others
+
+first_and_others : {B : Type 0} (o : Option B) (list : List B) → cons_option o list ≡ cons_option o [] ++ list
+first_and_others None list = refl
+first_and_others (Some x) list = refl
+
+pub resumed_first : (e : Tag × UnsettledMessage) (s : Step) (own : Entries UnsettledMessage) (steps : List Step)
+    → resumed_by (e ∷ own) (s ∷ steps) ≡ resumed_by (e ∷ []) (s ∷ []) ++ resumed_by own steps
+resumed_first e s own steps = first_and_others (to_resume (e.0, resolution_by s.plan e.0 e.1)) (resumed_by own steps)
+
+pub ended_first : (e : Tag × UnsettledMessage) (s : Step) (own : Entries UnsettledMessage) (steps : List Step)
+    → ended_by_steps (e ∷ own) (s ∷ steps) ≡ ended_by_steps (e ∷ []) (s ∷ []) ++ ended_by_steps own steps
+ended_first e s own steps = first_and_others (to_return (e.0, resolution_by s.plan e.0 e.1)) (ended_by_steps own steps)

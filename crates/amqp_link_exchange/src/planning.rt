@@ -14,6 +14,7 @@ use amqp_link_core::resumption::{
 use amqp_link_types::delivery::{DeliveryOutcome, Outcomes, UnsettledMessage};
 use amqp_link_types::types::unsettled_map::UnsettledMap;
 use amqp_link_types::types::{DeliveryState, DeliveryTag};
+use indexmap::map::Slice;
 use std::alloc::{AllocError, Global};
 use std::marker::Model;
 use std::mem;
@@ -156,7 +157,7 @@ fn plan_each(
 {
     let mut steps = unreported_steps(alloc, own)?;
     let mut aborts = Vec::new(alloc);
-    for (tag, state) in remote.into_pairs() {
+    for (tag, state) in remote.into_map() {
         read_report(own, &mut steps, &mut aborts, tag, state)?;
     }
     let resumed = resumed_among(steps.as_slice());
@@ -210,17 +211,21 @@ impl ExchangePlan {
 // Copies of the outcomes of deliveries, by their steps.
 fn copies_by(
     alloc: Global,
-    pairs: &[(DeliveryTag, UnsettledMessage)],
+    pairs: Slice<'_, DeliveryTag, UnsettledMessage>,
     steps: &[Step],
 ) -> Result<Vec<DeliveryOutcome>, AllocError>
-    requires { length steps.now ≡ length pairs.now }
+    requires { length steps.now ≡ length pairs }
     ensures copies { IfOk result (λ copies. copies.items
-        ≡ map (λ ended. ended.1) (ended_by_steps pairs.now steps.now)) }
-    ensures memory { OnErr result (ended_by_steps pairs.now steps.now ≢ []) }
+        ≡ map (λ ended. ended.1) (ended_by_steps pairs.entry steps.now)) }
+    ensures memory { OnErr result (ended_by_steps pairs.entry steps.now ≢ []) }
 {
     let mut copies = Vec::new(alloc);
-    for (i, (_, entry)) in pairs.iter().enumerate() {
-        if let Some(copy) = steps[i].plan.copy_of_outcome(entry)? {
+    let mut steps = steps.iter();
+    for (_, entry) in pairs {
+        let Some(step) = steps.next() else {
+            unreachable!()
+        };
+        if let Some(copy) = step.plan.copy_of_outcome(entry)? {
             copies.push(copy)?;
         }
     }
@@ -247,7 +252,7 @@ pub fn exchange(
         mut list,
         mut outcomes,
     } = plan;
-    resolve_each(own.into_pairs(), steps, &mut list, &mut outcomes);
+    resolve_each(own, steps, &mut list, &mut outcomes);
     append(aborts, &mut list);
     (ResumingDeliveries::from(list), outcomes)
 }
@@ -267,20 +272,20 @@ fn append(
 
 // Resolves deliveries by their steps, into lists that have room for them.
 fn resolve_each(
-    pairs: Vec<(DeliveryTag, UnsettledMessage)>,
+    own: UnsettledMap<UnsettledMessage>,
     steps: Vec<Step>,
     list: &mut Vec<(DeliveryTag, ResumingDelivery)>,
     outcomes: &mut Outcomes,
 )
-    requires able { Pairwise IsResolvable pairs.items steps.items }
+    requires able { Pairwise IsResolvable own steps.items }
     requires list_room { vec_len list.old + resumed_count steps.items ≤ vec_capacity list.old }
     requires outcome_room { vec_len outcomes.old + ended_count steps.items ≤ vec_capacity outcomes.old }
-    ensures list { list.new.items ≡ list.old.items ++ resumed_by pairs.items steps.items }
-    ensures outcomes { outcomes.new.items ≡ outcomes.old.items ++ ended_by_steps pairs.items steps.items }
+    ensures list { list.new.items ≡ list.old.items ++ resumed_by own steps.items }
+    ensures outcomes { outcomes.new.items ≡ outcomes.old.items ++ ended_by_steps own steps.items }
     ensures capacity { vec_capacity list.old ≤ vec_capacity list.new }
 {
     let mut steps = steps.into_iter();
-    for (tag, entry) in pairs {
+    for (tag, entry) in own.into_map() {
         let Some(step) = steps.next() else {
             unreachable!()
         };

@@ -1,19 +1,17 @@
 -- What keeps a ledger's pending registrations those of its endpoint's unsettled deliveries, where deliveries
 -- are disposed of.
-use Rattle.std.proofs.Common.{◌≡◌, ◌∙◌, sym, ap, subst, Bool, true, false, cond, List, [], ◌∷◌, ◌++◌, refl, ℕ, ◌+◌, ◌<◌, map, length, take, get_or, Option, Some, None, is_some, if◌then◌else◌, Result, Ok, Err}
+use Rattle.std.proofs.Common.{◌≡◌, ◌∙◌, sym, ap, subst, Bool, true, false, cond, List, [], ◌∷◌, refl, Option, Some, None, is_some, if◌then◌else◌, Ok}
 use Rattle.std.specs.Prelude.{bytes_eq, option_map}
 use Rattle.std.specs.List.{IsDistinct, list_any}
 use Rattle.std.specs.Map.{keys_of}
 use Rattle.std.specs.Option.{option_to_list}
-use Rattle.std.proofs.lemmas.List.{take_more}
 use Rattle.std.proofs.lemmas.Map.Made.{is_some-lookup}
 use Rattle.amqp_link_types.specs.declared.delivery.UnsettledMessage.{UnsettledMessage}
 use Rattle.amqp_link_types.specs.declared.types.definitions.Error.{Error}
 use Rattle.amqp_link_types.specs.declared.types.delivery_state.DeliveryState.{DeliveryState}
-use Rattle.amqp_link_types.specs.declared.types.errors.LinkStateError.{LinkStateError}
 use Rattle.amqp_link_types.specs.Entries.{Tag, Entries, entry_at, without_entry, changed_at}
 use Rattle.amqp_link_types.proofs.MapLemmas.{IsMap-removed, entry_at-removed}
-use Rattle.amqp_link_dispositions.specs.Ending.{does_end, message_with_state, ended_by, map_after_receiver_disposition, all_closed, closed_for}
+use Rattle.amqp_link_dispositions.specs.Ending.{does_end, message_with_state, ended_by, map_after_receiver_disposition, all_closed}
 use Rattle.amqp_link_ledger.specs.Fates.{Records, Resolves, after, IsRecorded}
 use Rattle.amqp_link_ledger.proofs.ListSteps.{by_test, tag_is, entry_at-map, is_some-option_map}
 use Rattle.amqp_link_ledger.proofs.RecordLemmas.{IsRecorded-changed, IsRecorded-resolves, IsRecorded-resolves_all, resolves-none}
@@ -67,21 +65,3 @@ module _ (m : Entries UnsettledMessage) (records : Records) (h : IsRecorded m re
   recorded-closed why =
       IsRecorded-resolves_all m records h UnsettledMessage (all_closed why m)
       (λ tag there. ap is_some (entry_at-map _ m tag) ∙ is_some-option_map _ (entry_at m tag) ∙ there)
-
--- the outcomes of a closed link, without their tags
-module _ (why : Option Error) where
-  abbrev pub outcomes_closed : Entries UnsettledMessage → List (Result (Option DeliveryState) LinkStateError)
-  outcomes_closed es = map (λ ended. ended.1) (all_closed why es)
-
-  one_closed : (es : Entries UnsettledMessage) (e : Tag × UnsettledMessage) → outcomes_closed (es ++ e ∷ []) ≡ outcomes_closed es ++ Err (closed_for why) ∷ []
-  one_closed [] e = refl
-  one_closed (x ∷ es) e = ap (λ l. Err (closed_for why) ∷ l) (one_closed es e)
-
-  pub closed_next : (es : Entries UnsettledMessage) (i : ℕ) (e : Tag × UnsettledMessage) (items next : List (Result (Option DeliveryState) LinkStateError)) (outcome : Result (Option DeliveryState) LinkStateError)
-      → i < length es → next ≡ items ++ outcome ∷ [] → outcome ≡ Err (closed_for why) → items ≡ outcomes_closed (take i es) → next ≡ outcomes_closed (take (i + 1) es)
-  closed_next es i e items next outcome within step is before =
-      step
-      ∙ ap (λ o. items ++ o ∷ []) is
-      ∙ ap (λ l. l ++ Err (closed_for why) ∷ []) before
-      ∙ sym (one_closed (take i es) (get_or es i e))
-      ∙ sym (ap outcomes_closed (take_more es i e within))

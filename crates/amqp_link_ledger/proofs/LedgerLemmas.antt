@@ -1,10 +1,9 @@
 -- What keeps a ledger's pending registrations those of its endpoint's unsettled deliveries.
-use Rattle.std.proofs.Common.{◌≡◌, ◌∙◌, sym, ap, subst, false, [], ◌∷◌, ◌++◌, refl, ℕ, ◌+◌, ◌<◌, map, length, take, get_or, Option, Some, None, is_some, if◌then◌else◌}
-use Rattle.std.proofs.lemmas.List.{map-append, take_more}
+use Rattle.std.proofs.Common.{◌≡◌, ◌∙◌, sym, ap, false, [], ◌∷◌, ◌++◌, refl, map, Option, Some, None, is_some, if◌then◌else◌}
+use Rattle.std.proofs.lemmas.List.{map-append}
 use Rattle.std.proofs.lemmas.Cmp.{nat_list_eq_equiv}
 use Rattle.indexmap.proofs.MapLemmas.{absent_before}
 use Rattle.amqp_link_types.specs.Entries.{Tag, Entries, entry_at, with_entry, IsMap}
-use Rattle.amqp_link_types.proofs.EntriesLemmas.{IsMap-take}
 use Rattle.amqp_link_types.proofs.MapLemmas.{put-absent}
 use Rattle.amqp_link_ledger.specs.declared.fate.Fate.TheVariants.{Pending}
 use Rattle.amqp_link_ledger.specs.Fates.{Records, Enters, after, pending_count, registered, IsRecorded}
@@ -25,20 +24,14 @@ module _ {V : Type 0} (m : Entries V) (records : Records) (tag : Tag) (h : IsRec
 
 -- ---- the registrations of a list of pairs, one after the other
 
-module _ {V : Type 0} (es : Entries V) (i : ℕ) (e : Tag × V) (within : i < length es) (at : e ≡ get_or es i e) where
-  one_more : take (i + 1) es ≡ take i es ++ e ∷ []
-  one_more = take_more es i e within ∙ ap (λ x. take i es ++ x ∷ []) (sym at)
+module _ {V : Type 0} (done left : Entries V) (e : Tag × V) (is : IsMap (done ++ e ∷ left)) where
+  pub absent_at : entry_at done e.0 ≡ None
+  absent_at = absent_before nat_list_eq_equiv done left e is
 
-  pub absent_at : IsMap es → entry_at (take i es) e.0 ≡ None
-  absent_at is = absent_before nat_list_eq_equiv (take i es) [] e (subst IsMap one_more (IsMap-take es (i + 1) is))
-
-  pub pending_next : (now next : Records) → now ≡ map (λ e. (e.0, Pending)) (take i es) → next ≡ registered e.0 now → next ≡ map (λ e. (e.0, Pending)) (take (i + 1) es)
+  pub pending_next : (now next : Records) → now ≡ map (λ e. (e.0, Pending)) done → next ≡ registered e.0 now → next ≡ map (λ e. (e.0, Pending)) (done ++ e ∷ [])
   pending_next now next before step =
-      step ∙ ap (λ l. l ++ (e.0, Pending) ∷ []) before
-      ∙ sym (map-append (λ (e : Tag × V). (e.0, Pending)) (take i es) (e ∷ []))
-      ∙ sym (ap (map (λ (e : Tag × V). (e.0, Pending))) one_more)
+      step ∙ ap (λ l. l ++ (e.0, Pending) ∷ []) before ∙ sym (map-append (λ (e : Tag × V). (e.0, Pending)) done (e ∷ []))
 
-  pub recorded_next : (now next : Records) → IsMap es → IsRecorded (take i es) now → next ≡ registered e.0 now → IsRecorded (take (i + 1) es) next
-  recorded_next now next is before step =
-      rw (one_more, ← put-absent (take i es) e.0 e.1 (absent_at is), step)
-      (IsRecorded-enters (take i es) now e.0 e.1 before (absent_at is))
+  pub recorded_next : (now next : Records) → IsRecorded done now → next ≡ registered e.0 now → IsRecorded (done ++ e ∷ []) next
+  recorded_next now next before step =
+      rw (← put-absent done e.0 e.1 absent_at, step) (IsRecorded-enters done now e.0 e.1 before absent_at)

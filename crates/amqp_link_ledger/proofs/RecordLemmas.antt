@@ -4,7 +4,7 @@ use Rattle.std.specs.Prelude.{bytes_eq, option_map}
 use Rattle.std.proofs.lemmas.Cmp.{nat_list_eq_equiv}
 use Rattle.amqp_link_types.specs.Entries.{Tag, Entries, entry_at, with_entry, without_entry, without_entries, IsMap}
 use Rattle.amqp_link_types.specs.Deliveries.{Ended}
-use Rattle.amqp_link_types.proofs.MapLemmas.{entry_at-put, entry_at-put_other, entry_at-removed, IsMap-removed, put-absent, missing_from_lookup}
+use Rattle.amqp_link_types.proofs.MapLemmas.{entry_at-put, entry_at-put_other, entry_at-removed, IsMap-removed, put-absent}
 use Rattle.amqp_link_types.proofs.EntriesLemmas.{IsMap-none, IsMap-push}
 use Rattle.amqp_link_core.specs.declared.resumption.ResumingDelivery.{ResumingDelivery}
 use Rattle.amqp_link_ledger.specs.declared.fate.Fate.{Fate}
@@ -41,7 +41,7 @@ module _ {V : Type 0} (m : Entries V) (records : Records) (tag : Tag) (v : V) (h
   pub IsRecorded-enters : IsRecorded (with_entry m tag v) (after (Enters tag) records)
   unfolding Counted
   IsRecorded-enters = record {
-    distinct = subst IsMap (sym (put-absent m tag v absent)) (IsMap-push m tag v h.distinct (missing_from_lookup m tag absent));
+    distinct = subst IsMap (sym (put-absent m tag v absent)) (IsMap-push m tag v h.distinct absent);
     pending = λ other. by_test (bytes_eq other tag)
         (λ y. subst Counted (sym (tag_is other tag y)) counted_here)
         (λ y. counted_there other (λ p. false_true y (is_tag other tag p)));

@@ -27,6 +27,7 @@ use amqp_link_core::endpoint::LinkExt;
 use amqp_link_core::endpoint::target::LinkTarget;
 use amqp_link_sender::sender_link::SenderLink;
 use amqp_link_types::types::{DeliveryTag, OutputHandle};
+use indexmap::map::Slice;
 use std::alloc::{AllocError, Global};
 use std::marker::Model;
 
@@ -65,11 +66,11 @@ impl<T: LinkTarget> Model for OutcomeLedger<T> {
 // Registers each of these tags, which are distinct, in their order.
 fn registrations_of<V>(
     alloc: Global,
-    pairs: &[(DeliveryTag, V)],
+    pairs: Slice<'_, DeliveryTag, V>,
 ) -> Result<Registrations, AllocError>
-    requires { IsMap pairs.now }
-    ensures records { IfOk result (λ all. all.records ≡ map (λ entry. (entry.0, Pending)) pairs.now) }
-    ensures recorded { IfOk result (λ all. IsRecorded pairs.now all.records) }
+    requires { IsMap pairs }
+    ensures records { IfOk result (λ all. all.records ≡ map (λ entry. (entry.0, Pending)) pairs.entry) }
+    ensures recorded { IfOk result (λ all. IsRecorded pairs.entry all.records) }
 {
     let mut all = Registrations::new(alloc);
     for (tag, _) in pairs {
@@ -97,7 +98,7 @@ impl<T: LinkTarget> OutcomeLedger<T> {
         ensures back { IfErr result (λ back. back ≡ link) }
     {
         let _distinct = link.unsettled().len();
-        let Ok(registrations) = registrations_of(alloc, link.unsettled().pairs()) else {
+        let Ok(registrations) = registrations_of(alloc, link.unsettled().as_slice()) else {
             return Err(link);
         };
         Ok(OutcomeLedger {

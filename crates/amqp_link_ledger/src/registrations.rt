@@ -103,7 +103,7 @@ impl Registrations {
         has_number(&self.numbers, tag)
     }
 
-    /// Allocates all that a registration of this tag needs: two copies of the tag, and room. Refused only if
+    /// Allocates all that a registration of this tag needs: room, and two copies of a long tag. Refused only if
     /// it is out of memory. Changes no registration in either case.
     pub fn reserve(&mut self, alloc: Global, tag: &[u8]) -> Result<Reserved, AllocError>
         ensures tag { IfOk result (λ reserved. reserved ≡ tag.now) }
@@ -111,8 +111,8 @@ impl Registrations {
         ensures records { self.new.records ≡ self.old.records }
         ensures kept { IsTrue self.old.has_room → IsTrue self.new.has_room }
     {
-        let key = DeliveryTag::from(tag.to_vec(alloc)?);
-        let tag = DeliveryTag::from(tag.to_vec(alloc)?);
+        let key = DeliveryTag::copied(alloc, tag)?;
+        let tag = DeliveryTag::copied(alloc, tag)?;
         self.records.reserve(1)?;
         self.numbers.reserve(1)?;
         Ok(Reserved { key, tag })

@@ -80,7 +80,7 @@ struct Standing {
 }
 
 fn tag_at(ledger: &OutcomeLedger<Target>, index: usize) -> Option<u8> {
-    let (tag, _) = ledger.unsettled().pair_at(index)?;
+    let (tag, _) = ledger.unsettled().get_index(index)?;
     tag.as_bytes().last().copied()
 }
 

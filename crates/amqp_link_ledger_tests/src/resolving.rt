@@ -1,6 +1,7 @@
 //! What ends all registrations at once: a new attach and a detach that closes; and what ends none.
 use crate::ledgers::{assert_fates, attached, new_ledger, put, reattach, three_sent};
 use crate::samples::{attach_of, count_tag};
+use amqp_link_core::endpoint::dividing::attach_frame;
 use amqp_link_core::endpoint::{LinkAttach, LinkDetach, LinkExt};
 use amqp_link_ledger::fate::Fate;
 use amqp_link_ledger::ledger::OutcomeLedger;
@@ -63,10 +64,8 @@ fn attaches_are_those_of_the_link(rt: HostRuntime) {
     let mode = SenderSettleMode::Mixed;
     let mut ledger = new_ledger(&rt, mode);
     let sent = ledger.send_attach(false).expect(&rt, "an attach is sent");
-    let wanted = (
-        LinkFrame::Attach(attach_of(&rt, Role::Sender, mode)),
-        Vec::new(rt.alloc()),
-    );
+    let frame = attach_frame(rt.alloc(), attach_of(&rt, Role::Sender, mode));
+    let wanted = (frame.expect(&rt, "memory"), Vec::new(rt.alloc()));
     assert_eq!(rt; sent, wanted);
     drop((sent, wanted));
     let answer = ledger.on_incoming_attach(attach_of(&rt, Role::Receiver, mode));

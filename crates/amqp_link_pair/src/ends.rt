@@ -12,10 +12,7 @@ use amqp_link_core::link_parts::LinkParts;
 use amqp_link_ledger::ledger::OutcomeLedger;
 use amqp_link_receiver::receiver_link::ReceiverLink;
 use amqp_link_sender::sender_link::SenderLink;
-use amqp_link_state::state::LinkFlowStateInner;
-use amqp_link_types::types::{
-    Attach, OutputHandle, ReceiverSettleMode, SenderSettleMode, SequenceNo, Source, Target, Text,
-};
+use amqp_link_types::types::{Attach, OutputHandle, SequenceNo, Source, Target, Text};
 use std::alloc::{AllocError, Global};
 
 /// How far the endpoints are attached.
@@ -53,27 +50,10 @@ fn parts(alloc: Global, count: SequenceNo) -> Result<LinkParts<Target>, AllocErr
     ensures { IfOk result (λ parts. parts ≡ plain_parts count) }
 {
     let name = Text::from(String::from_str(alloc, "l")?);
-    Ok(LinkParts {
-        name,
-        snd_settle_mode: SenderSettleMode::Mixed,
-        rcv_settle_mode: ReceiverSettleMode::First,
-        source: Some(Source::default()),
-        target: Some(Target::default()),
-        max_message_size: 0,
-        offered_capabilities: None,
-        desired_capabilities: None,
-        flow_state: LinkFlowStateInner {
-            initial_delivery_count: count,
-            delivery_count: count,
-            link_credit: 0,
-            available: 0,
-            drain: false,
-            properties: None,
-        },
-        max_frame_size: 0,
-        verify_incoming_source: false,
-        verify_incoming_target: false,
-    })
+    let mut parts = LinkParts::new(name, Some(Source::default()), Some(Target::default()), 0);
+    parts.flow_state.initial_delivery_count = count;
+    parts.flow_state.delivery_count = count;
+    Ok(parts)
 }
 
 // The sender at handle 0, without deliveries.

@@ -217,7 +217,7 @@ impl Pair {
             .ends
             .ledger
             .unsettled()
-            .contains_bytes(&count.to_be_bytes())
+            .contains_key(count.to_be_bytes().as_slice())
         {
             PairError::TagPending
         } else {

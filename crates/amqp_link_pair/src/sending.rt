@@ -32,7 +32,7 @@ pub(crate) fn next_tag(
     ensures { IfOk result (λ tag. tag ≡ tag_of_next ledger.now.link) }
 {
     let count = ledger.flow_state().delivery_count();
-    Ok(DeliveryTag::from(count.to_be_bytes().to_vec(alloc)?))
+    DeliveryTag::copied(alloc, count.to_be_bytes().as_slice())
 }
 
 // The error of a sender that refuses only if it is out of memory.

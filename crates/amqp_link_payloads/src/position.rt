@@ -58,9 +58,11 @@ impl Scan {
     fn feed_bytes(&mut self, bytes: &[u8])
         ensures { (F : List ℕ) → HasSeen self.old F → HasSeen self.new (F ++ bytes.now) }
     {
+        let mut scan = *self;
         for byte in bytes {
-            self.feed(*byte);
+            scan.feed(*byte);
         }
+        *self = scan;
     }
 
     // A block in which no header ends is not read byte by byte.

@@ -669,7 +669,7 @@ impl<T: LinkTarget> SenderLink<T> {
 fn tags_of(alloc: Global, bytes: &[u8]) -> Result<(DeliveryTag, DeliveryTag), AllocError>
     ensures { IfOk result (λ tags. (tags.0 ≡ bytes.now) × (tags.1 ≡ bytes.now)) }
 {
-    let tag = DeliveryTag::from(bytes.to_vec(alloc)?);
-    let named = DeliveryTag::from(bytes.to_vec(alloc)?);
+    let tag = DeliveryTag::copied(alloc, bytes)?;
+    let named = DeliveryTag::copied(alloc, bytes)?;
     Ok((tag, named))
 }

@@ -1,5 +1,5 @@
 //! Worked values of a sender's attaches.
-use crate::samples::{attach_of, fields, parts, payload_of};
+use crate::samples::{attach_of, count_tag, fields, parts, payload_of};
 use crate::sending::{
     SendAnswer, answered_by, answered_by_error, attached, new_link, send_flagged,
 };
@@ -193,6 +193,21 @@ fn reattach_gives_pending_deliveries_up(rt: HostRuntime) {
     assert_eq!(rt; ends, Some((3, given_up)));
     assert_eq!(rt; pending, 0);
     assert_eq!(rt; state, LinkState::AttachSent);
+}
+
+// The last delivery moves to the place of one that is withdrawn, and a reattach resolves them in that order.
+#[test]
+fn reattach_resolves_in_the_order_of_the_map(rt: HostRuntime) {
+    let mut link = detached_after(&rt, 4, 0, false);
+    let second = count_tag(&rt, 1);
+    drop(link.withdraw(&second));
+    let sent = link.send_attach(true);
+    let ends = ends_in(&sent);
+    drop((second, sent));
+    drop(link);
+    let illegal = SendAnswer::IllegalState;
+    let given_up = [Some((0, illegal)), Some((3, illegal)), Some((2, illegal))];
+    assert_eq!(rt; ends, Some((3, given_up)));
 }
 
 // If there is no transition from the state, a reattach resolves nothing.

@@ -259,7 +259,7 @@ fn pending_entry_is_not_replaced(rt: HostRuntime) {
 
 // The last byte of the tag at this place of the map.
 fn tag_at(link: &SenderLink<Target>, index: usize) -> Option<u8> {
-    let (tag, _) = link.unsettled().pair_at(index)?;
+    let (tag, _) = link.unsettled().get_index(index)?;
     tag.as_bytes().last().copied()
 }
 

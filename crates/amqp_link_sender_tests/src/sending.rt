@@ -253,7 +253,7 @@ fn sent_twice(rt: &(impl Abort + AllocGlobal)) -> (Standing, bool, SendAnswer) {
     let tag = count_tag(rt, 0);
     let answer = answered_by(send_flagged(&mut link, &payload, None));
     let sent = after(&link, answer);
-    let is_kept = link.unsettled().contains(&tag);
+    let is_kept = link.unsettled().contains_key(&tag);
     let again = answered_by(send_flagged(&mut link, &payload, None));
     drop((payload, tag));
     drop(link);
@@ -346,7 +346,7 @@ fn settled_at(
     let payload = payload_of(rt, &[7]);
     let answer = answered_by(send_flagged(&mut link, &payload, given));
     let tag = count_tag(rt, 0);
-    let is_pending = link.unsettled().contains(&tag);
+    let is_pending = link.unsettled().contains_key(&tag);
     drop((payload, tag));
     drop(link);
     (answer, is_pending)

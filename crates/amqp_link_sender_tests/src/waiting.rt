@@ -2,6 +2,7 @@
 use crate::samples::{attach_of, payload_of, text};
 use crate::sending::{SendAnswer, answered_by, link};
 use amqp_link_core::endpoint::LinkExt;
+use amqp_link_core::endpoint::dividing::attach_frame;
 use amqp_link_sender::Waiting;
 use amqp_link_state::state::LinkState;
 use amqp_link_types::frame::LinkFrame;
@@ -88,7 +89,8 @@ fn waiting_detach_is_recorded(rt: HostRuntime) {
 #[test]
 fn nothing_else_may_wait(rt: HostRuntime) {
     let attach = attach_of(&rt, Role::Receiver, SenderSettleMode::Mixed);
-    let other = left_by(&rt, Waiting::Frame(LinkFrame::Attach(attach)));
+    let frame = attach_frame(rt.alloc(), attach).expect(&rt, "memory");
+    let other = left_by(&rt, Waiting::Frame(frame));
     assert_eq!(rt; other, kept(SendAnswer::ExpectImmediateDetach));
     assert_eq!(rt;
         left_by(&rt, Waiting::Stopped(None)),

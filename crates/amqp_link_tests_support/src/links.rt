@@ -1,6 +1,5 @@
 //! Parts of links for tests.
 use amqp_link_core::link_parts::LinkParts;
-use amqp_link_state::state::LinkFlowStateInner;
 use amqp_link_types::types::{
     Attach, DeliveryTag, Fields, Handle, LinkFlow, LinkRelayError, ReceiverSettleMode, Role,
     SenderSettleMode, Source, Symbol, Target, TargetArchetype, Text, Value,
@@ -18,20 +17,10 @@ pub fn parts(
     max_frame_size: u32,
 ) -> Result<LinkParts<Target>, AllocError> {
     let name = text(alloc, "l")?;
-    Ok(LinkParts {
-        name,
-        snd_settle_mode: mode,
-        rcv_settle_mode: ReceiverSettleMode::First,
-        source: Some(Source::default()),
-        target: Some(Target::default()),
-        max_message_size: 0,
-        offered_capabilities: None,
-        desired_capabilities: None,
-        flow_state: LinkFlowStateInner::default(),
-        max_frame_size,
-        verify_incoming_source: false,
-        verify_incoming_target: false,
-    })
+    let (source, target) = (Source::default(), Target::default());
+    let mut parts = LinkParts::new(name, Some(source), Some(target), max_frame_size);
+    parts.snd_settle_mode = mode;
+    Ok(parts)
 }
 
 /// The peer's attach of that link, at handle 0.
@@ -57,7 +46,7 @@ pub fn attach_of(alloc: Global, role: Role, mode: SenderSettleMode) -> Result<At
 
 /// The tag of a count that is less than 256.
 pub fn count_tag(alloc: Global, count: u8) -> Result<DeliveryTag, AllocError> {
-    Ok(DeliveryTag::from(vec![in alloc; 0, 0, 0, count]?))
+    DeliveryTag::copied(alloc, &[0, 0, 0, count])
 }
 
 /// Properties of one pair, a name to 7.

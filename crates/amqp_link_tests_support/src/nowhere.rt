@@ -1,9 +1,9 @@
 //! A link whose target accepts no target of the peer's.
-use crate::links::parts;
+use crate::links::text;
 use amqp_link_core::endpoint::target::LinkTarget;
 use amqp_link_core::link_parts::LinkParts;
 use amqp_link_types::types::{
-    ReceiverAttachError, SenderAttachError, SenderSettleMode, Target, TargetArchetype,
+    ReceiverAttachError, SenderAttachError, SenderSettleMode, Source, Target, TargetArchetype,
 };
 use amqp_link_verification::VerifyTargetArchetype;
 use std::alloc::{AllocError, Global};
@@ -65,19 +65,9 @@ pub fn parts_to_nowhere(
     alloc: Global,
     mode: SenderSettleMode,
 ) -> Result<LinkParts<Nowhere>, AllocError> {
-    let parts = parts(alloc, mode, 512)?;
-    Ok(LinkParts {
-        name: parts.name,
-        snd_settle_mode: parts.snd_settle_mode,
-        rcv_settle_mode: parts.rcv_settle_mode,
-        source: parts.source,
-        target: None,
-        max_message_size: 7,
-        offered_capabilities: None,
-        desired_capabilities: None,
-        flow_state: parts.flow_state,
-        max_frame_size: 512,
-        verify_incoming_source: false,
-        verify_incoming_target: false,
-    })
+    let name = text(alloc, "l")?;
+    let mut parts = LinkParts::new(name, Some(Source::default()), None, 512);
+    parts.snd_settle_mode = mode;
+    parts.max_message_size = 7;
+    Ok(parts)
 }

@@ -1,29 +1,16 @@
--- A search for a tag, and what puts and removals keep.
-use Rattle.std.proofs.Common.{◌≡◌, ℕ, zero, suc, ◌<◌, ◌+◌, Bool, true, false, cond, ◌||◌, not, nat_lt, List, [], ◌∷◌, ◌++◌, map, length, slice_get, slice_set, take, position, refl, sym, ap, ◌∙◌, subst, arith, Some, None, Option, IfSome, IfNone, is_some}
-use Rattle.std.specs.List.{position_or_len, swap_remove, slice_index_or, IsDistinct, AllByRecursion}
-use Rattle.std.specs.Map.{keys_of, values_of, set_value}
+-- Puts, writes and cuts of maps from tags.
+use Rattle.std.proofs.Common.{◌≡◌, Bool, true, false, cond, ◌||◌, [], ◌∷◌, ◌++◌, refl, sym, ap, ◌∙◌, subst, Some, None, Option, is_some}
+use Rattle.std.specs.List.{IsDistinct, AllByRecursion}
+use Rattle.std.specs.Option.{option_map}
+use Rattle.std.specs.Map.{keys_of, lookup_key, set_value}
 use Rattle.std.specs.Str.{bytes_eq}
-use lib.ListN.{length-map}
-use Rattle.std.proofs.lemmas.Map.Keys.{IsDistinct-push, IsDistinct-tail, IsDistinct-IsPermutation}
-use Rattle.std.proofs.lemmas.List.Sorted.{IsPermutation-swap_remove, IsPermutation-map}
-use Rattle.std.proofs.lemmas.List.{map-append, take-map}
-use Rattle.std.proofs.lemmas.Map.Made.{is_some-lookup}
+use Rattle.std.proofs.lemmas.Map.Keys.{IsDistinct-push}
+use Rattle.std.proofs.lemmas.List.{map-append}
+use Rattle.std.proofs.lemmas.Map.Made.{is_some-lookup, lookup_key_same}
 use Rattle.std.proofs.lemmas.Cmp.{nat_list_eq_equiv}
-use Rattle.indexmap.specs.IndexMap.{set_value_at}
-use Rattle.indexmap.proofs.MapLemmas.{Found-position, Missing-position, insert_entry-first, insert_entry-absent, swap_remove_entry-found, swap_remove_entry-missing, distinct-take}
 use Rattle.std.proofs.lemmas.Slice.Eq.{bytes_eq-Decides}
-use Rattle.std.proofs.lemmas.List.Quantifiers.{position-Some}
-use Rattle.std.proofs.lemmas.Option.{slice_get-get_or}
+use Rattle.indexmap.proofs.MapLemmas.{absent_from_lookup}
 use Rattle.amqp_link_types.specs.Entries.{Tag, Entries, entry_at, with_entry, changed_at, IsMap}
-use Rattle.amqp_link_types.specs.Found.{FoundAt, IsMissing}
-
-module _ {X Y : Type 0} (f : X → Y) (p : Y → Bool) where
-  or_len-map : (xs : List X) → position_or_len p (map f xs) ≡ position_or_len (λ x. p (f x)) xs
-  or_len-map [] = refl
-  or_len-map (x ∷ xs) = ap (λ n. cond (not (p (f x))) (1 + n) 0) (or_len-map xs)
-
-  pub position-map : (xs : List X) → position p (map f xs) ≡ position (λ x. p (f x)) xs
-  position-map xs = λ i. cond (nat_lt (or_len-map xs i) (length-map xs f i)) (Some (or_len-map xs i)) None
 
 module _ {V : Type 0} (f : V → V) where
   -- a pair with another tag stays, and the one with the tag is changed
@@ -37,92 +24,42 @@ module _ {V : Type 0} (f : V → V) where
   changed-none t [] h = refl
   changed-none t (e ∷ es) h = stays t e es h.0 ∙ ap (λ l. e ∷ l) (changed-none t es h.1)
 
-  changed-first : (t : Tag) (es : Entries V) (i : ℕ) (e : Tag × V) → IsMap es → bytes_eq t (slice_index_or es i e).0 ≡ true
-      → ((k : ℕ) → k < i → bytes_eq t (slice_index_or es k e).0 ≡ false) → i < length es → e ≡ slice_index_or es i e
-      → changed_at f (t ∷ []) es ≡ slice_set es i (e.0, f e.1)
+  -- where the tag is absent nothing is changed
+  pub changed-absent : (es : Entries V) (t : Tag) → entry_at es t ≡ None → changed_at f (t ∷ []) es ≡ es
+  changed-absent es t none = changed-none t es (absent_from_lookup (bytes_eq t) es none)
+
+  -- a write of what the function makes of a present entry is its change
+  pub changed-present : (es : Entries V) (t : Tag) (old v : V) → IsMap es → entry_at es t ≡ Some old → v ≡ f old
+      → set_value (bytes_eq t) es v ≡ changed_at f (t ∷ []) es
   unfolding IsDistinct
-  changed-first t [] i e m first before within at = absurd (omega arith)
-  changed-first t (x ∷ es) zero e m first before within at =
-      let is : t ≡ x.0 = (bytes_eq-Decides t x.0).0 first in
-      changes t x es first
-      ∙ ap (λ l. (x.0, f x.1) ∷ l) (changed-none t es (subst (λ k. AllByRecursion (λ y. bytes_eq k y ≡ false) (keys_of es)) (sym is) m.0))
-      ∙ ap (λ y. (y.0, f y.1) ∷ es) (sym at)
-  changed-first t (x ∷ es) (suc i) e m first before within at =
-      stays t x es (before zero (omega arith))
-      ∙ ap (λ l. x ∷ l) (changed-first t es i e m.1 first (λ k h. before (suc k) (omega arith)) (omega arith) at)
+  changed-present [] t old v m found is = absurd (cc)
+  changed-present (e ∷ es) t old v m found is =
+      elim (bytes_eq t e.0) as (λ b. bytes_eq t e.0 ≡ b → cond b (Some e.1) (entry_at es t) ≡ Some old
+      → cond b ((e.0, v) ∷ es) (e ∷ set_value (bytes_eq t) es v) ≡ changed_at f (t ∷ []) (e ∷ es)) [
+        | true ↦ λ h here.
+            let same : t ≡ e.0 = (bytes_eq-Decides t e.0).0 h in
+            let value : v ≡ f e.1 = let got : e.1 ≡ old = cc in is ∙ ap f (sym got) in
+            ap (λ w. (e.0, w) ∷ es) value
+            ∙ ap (λ l. (e.0, f e.1) ∷ l) (sym (changed-none t es (subst (λ k. AllByRecursion (λ y. bytes_eq k y ≡ false) (keys_of es)) (sym same) m.0)))
+            ∙ sym (changes t e es h)
+        | false ↦ λ h later. ap (λ l. e ∷ l) (changed-present es t old v m.1 later is) ∙ sym (stays t e es h)
+      ] refl found
 
-pub missing_from_position : {V : Type 0} (es : Entries V) (t : Tag) → position (λ e. bytes_eq t e.0) es ≡ None → IsMissing es t
-missing_from_position es t p =
-    let k = position-map (λ e. e.0) (bytes_eq t) es ∙ p in
-    let m = Missing-position (bytes_eq t) es k in
-    record {
-      value = m.value;
-      put = λ v. insert_entry-absent bytes_eq t v es m.absent;
-      removed = swap_remove_entry-missing (bytes_eq t) es k;
-      changed = λ f. changed-none f t es m.absent;
-    }
-
-module _ {V : Type 0} where
-  value_there : (es : Entries V) (i : ℕ) (e : Tag × V) → i < length es → e ≡ slice_index_or es i e → slice_get (values_of es) i ≡ Some e.1
-  value_there [] i e h at = absurd (omega arith)
-  value_there (x ∷ es) zero e h at = ap (λ y. Some y.1) (sym at)
-  value_there (x ∷ es) (suc i) e h at = value_there es i e (omega arith) at
-
-  set_there : (es : Entries V) (i : ℕ) (e : Tag × V) (v : V) → i < length es → e ≡ slice_index_or es i e → set_value_at es i v ≡ slice_set es i (e.0, v)
-  set_there [] i e v h at = absurd (omega arith)
-  set_there (x ∷ es) zero e v h at = ap (λ y. (y.0, v) ∷ es) (sym at)
-  set_there (x ∷ es) (suc i) e v h at = ap (λ l. x ∷ l) (set_there es i e v (omega arith) at)
-
-pub found_from_position : {V : Type 0} (es : Entries V) (t : Tag) (i : ℕ) → position (λ e. bytes_eq t e.0) es ≡ Some i → FoundAt es t i
-found_from_position es t i p =
-    let k = position-map (λ e. e.0) (bytes_eq t) es ∙ p in
-    let f = Found-position (bytes_eq t) es i k in
-    let there = λ (e : Tag × _). position-Some (λ y. bytes_eq t y.0) es i e p in
-    record {
-      within = f.within;
-      tag = λ e at. ap (λ y. y.0) at ∙ sym ((bytes_eq-Decides t (slice_index_or es i e).0).0 (there e).1);
-      value = λ e at. f.value ∙ value_there es i e f.within at;
-      pair = λ e at. slice_get-get_or es i e f.within ∙ ap Some (sym at) ∙ ap (λ t. Some (t, e.1)) (ap (λ y. y.0) at ∙ sym ((bytes_eq-Decides t (slice_index_or es i e).0).0 (there e).1));
-      put = λ e v at. insert_entry-first bytes_eq t v es i f.first ∙ set_there es i e v f.within at;
-      removed = λ e. swap_remove_entry-found (bytes_eq t) es i e k;
-      changed = λ e g v m at is. changed-first g t es i e m (there e).1 (there e).2 f.within at ∙ ap (λ w. slice_set es i (e.0, w)) (sym is);
-    }
-
--- the same, of a search's answer
-pub index-found : {V : Type 0} (es : Entries V) (t : Tag) (r : Option ℕ) → r ≡ position (λ e. bytes_eq t e.0) es → IfSome r (FoundAt es t)
-index-found es t None p = tt
-index-found es t (Some i) p = found_from_position es t i (sym p)
-
-pub index-missing : {V : Type 0} (es : Entries V) (t : Tag) (r : Option ℕ) → r ≡ position (λ e. bytes_eq t e.0) es → IfNone r (IsMissing es t)
-index-missing es t None p = missing_from_position es t (sym p)
-index-missing es t (Some i) p = tt
-
--- the empty list is a map; a put, a removal and a cut keep the tags distinct
+-- the empty list is a map; a put and a cut keep the tags distinct
 pub IsMap-none : (V : Type 0) → IsMap {V = V} []
 unfolding IsDistinct
 IsMap-none V = tt
 
-pub IsMap-push : {V : Type 0} (es : Entries V) (t : Tag) (v : V) → IsMap es → IsMissing es t → IsMap (es ++ (t, v) ∷ [])
-IsMap-push es t v m missing =
-    rw map-append (IsDistinct-push nat_list_eq_equiv (keys_of es) t m (sym (is_some-lookup (bytes_eq t) es) ∙ ap is_some missing.value))
+pub IsMap-push : {V : Type 0} (es : Entries V) (t : Tag) (v : V) → IsMap es → entry_at es t ≡ None → IsMap (es ++ (t, v) ∷ [])
+IsMap-push es t v m none =
+    rw map-append (IsDistinct-push nat_list_eq_equiv (keys_of es) t m (sym (is_some-lookup (bytes_eq t) es) ∙ ap is_some none))
 
-pub IsMap-set : {V : Type 0} (es : Entries V) (t : Tag) (i : ℕ) (e : Tag × V) (v : V) → IsMap es → i < length es → e ≡ slice_index_or es i e → IsMap (slice_set es i (e.0, v))
-IsMap-set {V} es t i e v m within at = subst (IsDistinct bytes_eq) (sym (keys_set es i e v within at)) m
-  where
-    keys_set : (es : Entries V) (i : ℕ) (e : Tag × V) (v : V) → i < length es → e ≡ slice_index_or es i e → keys_of (slice_set es i (e.0, v)) ≡ keys_of es
-    keys_set [] i e v h at = absurd (omega arith)
-    keys_set (x ∷ es) zero e v h at = ap (λ y. y.0 ∷ keys_of es) at
-    keys_set (x ∷ es) (suc i) e v h at = ap (λ l. x.0 ∷ l) (keys_set es i e v (omega arith) at)
-
-pub IsMap-swap_remove : {V : Type 0} (es : Entries V) (i : ℕ) (e : Tag × V) → IsMap es → i < length es → e ≡ slice_index_or es i e → IsMap (swap_remove es i e)
-IsMap-swap_remove es i e m within at =
-    IsDistinct-tail bytes_eq e.0 _
-    (IsDistinct-IsPermutation bytes_eq nat_list_eq_equiv.symm (keys_of es) (keys_of (e ∷ swap_remove es i e)) (IsPermutation-map (λ x. x.0) _ _ (IsPermutation-swap_remove es i e within at)) m)
-
-pub IsMap-take : {V : Type 0} (es : Entries V) (n : ℕ) → IsMap es → IsMap (take n es)
-IsMap-take es n m = subst (IsDistinct bytes_eq) (take-map (λ e. e.0) n es) (distinct-take nat_list_eq_equiv n (keys_of es) m)
-
-pub ruleset map_steps = (IsMap-none, IsMap-push, IsMap-set, IsMap-swap_remove, IsMap-take)
+-- what a look-up finds has the tag that was asked for
+pub pair_at_tag : {V : Type 0} (es : Entries V) (t : Tag) (found : Option (Tag × V)) → option_map (λ p. p.0) found ≡ lookup_key (bytes_eq t) es
+    → option_map (λ p. p.1) found ≡ entry_at es t → found ≡ option_map (λ v. (t, v)) (entry_at es t)
+pair_at_tag es t None key value = ap (option_map (λ v. (t, v))) value
+pair_at_tag es t (Some p) key value =
+    ap (λ k. Some (k, p.1)) (sym (lookup_key_same bytes_eq-Decides t es p.0 (sym key))) ∙ ap (option_map (λ v. (t, v))) value
 
 -- a write at a present tag is a put
 pub with_entry-present : {V : Type 0} (es : Entries V) (t : Tag) (old v : V) → entry_at es t ≡ Some old → set_value (bytes_eq t) es v ≡ with_entry es t v

@@ -1,5 +1,5 @@
 -- Puts and look-ups of maps from tags.
-use Rattle.std.proofs.Common.{◌≡◌, ◌≢◌, ◌∙◌, sym, ap, subst, Bool, true, false, cond, [], ◌∷◌, ◌++◌, refl, ℕ, suc, ◌+◌, ◌-◌, ◌||◌, List, map, Option, Some, None, not, slice_get, nat_lt, length, take, position, arith, length-append, slice_set, slice_index_or}
+use Rattle.std.proofs.Common.{◌≡◌, ◌≢◌, ◌∙◌, sym, ap, subst, Bool, true, false, cond, [], ◌∷◌, ◌++◌, refl, ℕ, suc, ◌+◌, ◌-◌, ◌||◌, List, map, Option, Some, None, not, nat_lt, length, take, position, arith, length-append, slice_set, slice_index_or}
 use Rattle.std.specs.Prelude.{bytes_eq}
 use Rattle.std.specs.List.{position_or_len, list_any}
 use Rattle.std.proofs.lemmas.List.Folds.{list_any-append}
@@ -10,11 +10,9 @@ use Rattle.std.proofs.lemmas.Bool.Decides.{nat_tests}
 use Rattle.std.proofs.lemmas.Slice.Eq.{bytes_eq-Decides}
 use Rattle.std.proofs.lemmas.Option.{slice_get-get_or}
 use Rattle.std.proofs.lemmas.Cmp.{nat_list_eq_equiv}
-use Rattle.indexmap.proofs.MapLemmas.{Found-position, absent_from_lookup, index-absent, insert_entry-absent, swap_remove_entry-found, swap_remove_entry-missing}
+use Rattle.indexmap.proofs.MapLemmas.{Found-position, absent_from_lookup, index-absent, swap_remove_entry-found, swap_remove_entry-missing}
 use Rattle.indexmap.proofs.RemoveLemmas.{none_out, swap_out}
 use Rattle.amqp_link_types.specs.Entries.{Tag, Entries, entry_at, with_entry, without_entry, changed_at, IsMap}
-use Rattle.amqp_link_types.specs.Found.{IsMissing}
-use Rattle.amqp_link_types.proofs.EntriesLemmas.{changed-none}
 
 pub false_is_not_true : false ≡ true → ⊥
 false_is_not_true h = cc
@@ -109,16 +107,10 @@ module _ {X : Type 0} where
       below n = grind (arith, nat_tests)
 
 module _ {X : Type 0} where
-  -- what follows from a look-up that finds nothing
-  pub missing_from_lookup : (m : Entries X) (tag : Tag) → entry_at m tag ≡ None → IsMissing m tag
-  missing_from_lookup m tag h =
-      let absent = absent_from_lookup (bytes_eq tag) m h in
-      record {
-        value = h;
-        put = λ v. insert_entry-absent bytes_eq tag v m absent;
-        removed = swap_remove_entry-missing (bytes_eq tag) m (index-absent (bytes_eq tag) m absent);
-        changed = λ f. changed-none f tag m absent;
-      }
+  -- a removal of what is not there leaves all
+  pub removed-absent : (m : Entries X) (tag : Tag) → entry_at m tag ≡ None → without_entry m tag ≡ m
+  removed-absent m tag h =
+      swap_remove_entry-missing (bytes_eq tag) m (index-absent (bytes_eq tag) m (absent_from_lookup (bytes_eq tag) m h))
 
   -- what a removal leaves: a map, in which the tag is not found, and the others are as before
   record Leaves (m : Entries X) (tag : Tag) : Type 0 where

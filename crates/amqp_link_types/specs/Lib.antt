@@ -3,7 +3,6 @@ pub use Rattle.amqp_link_values.specs.Length
 pub mod Deliveries
 pub mod DeliveryStates
 pub mod Entries
-pub mod Found
 pub mod Frames
 pub mod Refusals
 pub mod Size

@@ -3,6 +3,7 @@ ghost use Rattle.std.specs.Prelude.{◌≡◌, IfOk, option_copied};
 ghost use Rattle.amqp_link_types.specs.Frames.{cleared, link_transfer, performative_of};
 
 use crate::types::{Attach, Detach, Disposition, InputHandle, LinkFlow, Payload, Transfer};
+use amqp_link_values::boxed::Boxed;
 use amqp_link_values::copy::copy_of;
 use std::alloc::AllocError;
 
@@ -21,7 +22,7 @@ pub struct LinkTransfer {
 #[derive(Debug, PartialEq, Eq, Drop)]
 pub enum LinkFrame {
     /// An endpoint attaches to the link.
-    Attach(Attach),
+    Attach(Boxed<Attach>),
     /// An endpoint states its delivery-count and link-credit.
     Flow(LinkFlow),
     /// A transfer that has arrived from the peer.

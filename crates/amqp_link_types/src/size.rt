@@ -15,6 +15,7 @@ mod attach;
 mod terminus;
 
 use crate::types::{DeliveryState, Error, Fields, Outcome, ReceiverSettleMode, Transfer};
+use amqp_link_values::boxed::Boxed;
 use amqp_link_values::length::EncodedLen;
 use amqp_link_values::length::value::{compound_len, text_len};
 
@@ -95,7 +96,7 @@ impl EncodedLen for Error {
     }
 }
 
-fn rejected_len(error: &Option<Error>) -> Option<u64>
+fn rejected_len(error: &Option<Boxed<Error>>) -> Option<u64>
     ensures { IsU64Of (rejected_length error.now) result }
 {
     described(before_optional(error, 0)?)
@@ -104,7 +105,7 @@ fn rejected_len(error: &Option<Error>) -> Option<u64>
 fn modified_len(
     failed: &Option<bool>,
     undeliverable: &Option<bool>,
-    annotations: &Option<Fields>,
+    annotations: &Option<Boxed<Fields>>,
 ) -> Option<u64>
     ensures { IsU64Of (modified_length failed.now undeliverable.now annotations.now) result }
 {

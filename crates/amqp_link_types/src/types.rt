@@ -15,7 +15,7 @@ pub mod unsettled_map;
 
 pub use amqp_link_payloads::{DataBody, DecodeError, FromBody, Message, Payload, Whole};
 pub use amqp_link_values::{
-    DeliveryTag, Descriptor, Fields, FilterSet, Symbol, Symbols, Text, Value,
+    Boxed, DeliveryTag, Descriptor, Fields, FilterSet, Symbol, Symbols, Text, Value,
 };
 pub use attach::Attach;
 pub use definitions::{

@@ -1,7 +1,7 @@
 //! The lengths that the documents name, and one of each type. The other lengths that were worked by
 //! hand are rows of the program `replay_lengths`.
 use amqp_link_types::types::{
-    Attach, DeliveryState, DeliveryTag, DistributionMode, Error, Fields, Handle, Outcome,
+    Attach, Boxed, DeliveryState, DeliveryTag, DistributionMode, Error, Fields, Handle, Outcome,
     ReceiverSettleMode, Role, SenderSettleMode, Source, Symbol, Target, TargetArchetype, Text,
     Transfer, UnsettledMap, Value,
 };
@@ -120,7 +120,7 @@ fn a_first_transfer_has_21_bytes(rt: HostRuntime) {
     row(&rt, first_transfer(&rt, None), 21, "6; 1, 5, 6, 1, 1, 1");
     let accepted = Some(DeliveryState::Accepted);
     row(&rt, first_transfer(&rt, accepted), 26, "a null, 4 of state");
-    let error = Some(error(&rt));
+    let error = Boxed::new(rt.alloc(), error(&rt)).ok();
     let rejected = Some(DeliveryState::Rejected { error });
     row(
         &rt,

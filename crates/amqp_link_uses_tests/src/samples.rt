@@ -1,5 +1,4 @@
 //! What links are made with, and the attach of a peer.
-use amqp_link::state::LinkFlowStateInner;
 use amqp_link::types::{
     Attach, Handle, LinkFlow, OutputHandle, ReceiverSettleMode, Role, SenderSettleMode, Source,
     Target, TargetArchetype, Text,
@@ -13,20 +12,10 @@ fn name(rt: &(impl Abort + AllocGlobal)) -> Text {
 
 /// The link "l", with frames of at most 64 bytes.
 pub fn parts(rt: &(impl Abort + AllocGlobal), mode: SenderSettleMode) -> LinkParts<Target> {
-    LinkParts {
-        name: name(rt),
-        snd_settle_mode: mode,
-        rcv_settle_mode: ReceiverSettleMode::First,
-        source: Some(Source::default()),
-        target: Some(Target::default()),
-        max_message_size: 0,
-        offered_capabilities: None,
-        desired_capabilities: None,
-        flow_state: LinkFlowStateInner::default(),
-        max_frame_size: 64,
-        verify_incoming_source: false,
-        verify_incoming_target: false,
-    }
+    let (source, target) = (Source::default(), Target::default());
+    let mut parts = LinkParts::new(name(rt), Some(source), Some(target), 64);
+    parts.snd_settle_mode = mode;
+    parts
 }
 
 /// The attach of a peer of this role.

@@ -5,6 +5,8 @@ use Rattle.amqp_link_values.specs.Data.{null, uint, ulong, int, list, map, descr
 use Rattle.amqp_link_values.specs.Length.{encoded_len, fields_len}
 use Rattle.amqp_link_values.specs.declared.value.Descriptor.TheVariants.{Code}
 use Rattle.amqp_link_values.specs.Same.{same_data}
+use Rattle.amqp_link_values.specs.TagBytes.{tag_bytes}
+use Rattle.amqp_link_values.specs.declared.delivery_tag.TagBytes.TheVariants.{Few}
 
 uint_at_255 : encoded_len (uint 255) ≡ 2
 uint_at_255 = refl
@@ -31,3 +33,6 @@ kinds_are_apart = refl
 
 same_list : same_data (list (item (uint 7) no_items)) (list (item (uint 7) no_items)) ≡ true
 same_list = refl
+
+four_bytes : tag_bytes (Few (0 ∷ 0 ∷ 1 ∷ 2 ∷ 0 ∷ 0 ∷ 0 ∷ 0 ∷ 0 ∷ 0 ∷ 0 ∷ 0 ∷ 0 ∷ 0 ∷ 0 ∷ 0 ∷ []) 4) ≡ 0 ∷ 0 ∷ 1 ∷ 2 ∷ []
+four_bytes = refl

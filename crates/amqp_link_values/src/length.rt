@@ -5,6 +5,7 @@ ghost use Rattle.amqp_link_values.specs.Length.{fields_len, array_len as array_l
 
 pub mod value;
 
+use crate::boxed::Boxed;
 use crate::delivery_tag::DeliveryTag;
 use crate::fields::Fields;
 use crate::length::value::{array_len, compound_len, text_len, unsigned_len};
@@ -70,6 +71,15 @@ impl EncodedLen for DeliveryTag {
 
     fn encoded_len(&self) -> Option<u64> {
         text_len(self.as_bytes().len())
+    }
+}
+
+impl<T: EncodedLen> EncodedLen for Boxed<T> {
+    ghost len_of = { T.len_of };
+
+    fn encoded_len(&self) -> Option<u64> {
+        let value: &T = self;
+        value.encoded_len()
     }
 }
 

@@ -6,6 +6,7 @@
 //! is equal to its original.
 #![tactic(auto)]
 
+pub mod boxed;
 pub mod copy;
 pub mod delivery_tag;
 pub mod fields;
@@ -15,6 +16,7 @@ pub mod symbols;
 pub mod text;
 pub mod value;
 
+pub use boxed::Boxed;
 pub use delivery_tag::DeliveryTag;
 pub use fields::{Fields, FilterSet};
 pub use length::EncodedLen;

@@ -226,10 +226,6 @@ fn is_text(words: String, want: &str) -> bool {
 
 #[test]
 fn buffers_come_back(rt: HostRuntime) {
-    let bytes = tag(&rt, 255).into_bytes();
-    let is_tag = bytes.as_slice() == [0, 255].as_slice();
-    drop(bytes);
-    assert!(rt; is_tag, "a tag's");
     let name = symbol(rt.alloc(), 0).expect(&rt, "memory");
     assert!(rt; is_text(name.into_string(), "x:y"), "a symbol's");
     let words = Text::from(text(rt.alloc(), 1).expect(&rt, "memory"));

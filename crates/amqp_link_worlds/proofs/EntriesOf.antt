@@ -7,7 +7,7 @@ use Rattle.std.proofs.lemmas.Map.{keys-set_value}
 use Rattle.std.proofs.lemmas.Slice.Eq.{bytes_eq-Decides}
 use Rattle.amqp_link_ledger.proofs.ListSteps.{some_is_none, entry_at-first}
 use Rattle.amqp_link_types.specs.Entries.{Tag, Entries, entry_at, with_entry, without_entry, IsMap}
-use Rattle.amqp_link_types.proofs.MapLemmas.{same_tag, other_tag, false_is_not_true, put-absent, missing_from_lookup, entry_at-removed}
+use Rattle.amqp_link_types.proofs.MapLemmas.{same_tag, other_tag, false_is_not_true, put-absent, entry_at-removed}
 use Rattle.amqp_link_types.proofs.EntriesLemmas.{IsMap-push, with_entry-present}
 
 -- by whether it is that tag
@@ -24,7 +24,7 @@ module _ {V : Type 0} where
   IsMap-put m tag v is = by (entry_at m tag) refl
     where
       by : (o : Option V) → entry_at m tag ≡ o → IsMap (with_entry m tag v)
-      by None h = subst IsMap (sym (put-absent m tag v h)) (IsMap-push m tag v is (missing_from_lookup m tag h))
+      by None h = subst IsMap (sym (put-absent m tag v h)) (IsMap-push m tag v is h)
       by (Some old) h = subst (IsDistinct bytes_eq) (sym (ap keys_of (sym (with_entry-present m tag old v h)) ∙ keys-set_value (bytes_eq tag) m v)) is
 
   absent-from_keys : (m : Entries V) (tag : Tag) → AllByRecursion (λ k. bytes_eq tag k ≡ false) (keys_of m) → entry_at m tag ≡ None

@@ -1,5 +1,6 @@
 //! The words of a row, read one after the other.
 use crate::error::RowError;
+use amqp_link_values::boxed::Boxed;
 use line_text::hex::parse_bytes;
 use line_text::number::{parse_signed, parse_unsigned};
 use std::alloc::Global;
@@ -8,6 +9,13 @@ use std::alloc::Global;
 pub trait ReadFrom: Sized {
     /// The value of the next words, which are read.
     fn read(reader: &mut Reader) -> Result<Self, RowError>;
+}
+
+impl<T: ReadFrom + Drop> ReadFrom for Boxed<T> {
+    fn read(reader: &mut Reader) -> Result<Boxed<T>, RowError> {
+        let value = T::read(reader)?;
+        Ok(Boxed::new(reader.alloc(), value)?)
+    }
 }
 
 /// The words that are still to be read, separated by one blank each, and the allocator of their values.

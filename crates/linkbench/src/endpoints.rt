@@ -1,10 +1,6 @@
 //! The two endpoints of a link.
 use crate::refused::{Refused, completed, done};
-use amqp_link::state::LinkFlowStateInner;
-use amqp_link::types::{
-    Attach, Detach, Handle, OutputHandle, ReceiverSettleMode, SenderSettleMode, Source, Target,
-    Text,
-};
+use amqp_link::types::{Attach, Detach, Handle, OutputHandle, Source, Target, Text};
 use amqp_link::{LinkAttach, LinkDetach, LinkExt, LinkFrame, LinkParts, ReceiverLink, SenderLink};
 use std::alloc::Global;
 
@@ -29,20 +25,13 @@ pub fn attached(alloc: Global, limit: u32) -> Result<Endpoints, Refused> {
 
 // A link without a name, for which nothing is allocated.
 fn parts(alloc: Global, limit: u32) -> LinkParts<Target> {
-    LinkParts {
-        name: Text::from(String::new(alloc)),
-        snd_settle_mode: SenderSettleMode::Mixed,
-        rcv_settle_mode: ReceiverSettleMode::First,
-        source: Some(Source::default()),
-        target: Some(Target::default()),
-        max_message_size: 0,
-        offered_capabilities: None,
-        desired_capabilities: None,
-        flow_state: LinkFlowStateInner::default(),
-        max_frame_size: limit,
-        verify_incoming_source: false,
-        verify_incoming_target: false,
-    }
+    let name = Text::from(String::new(alloc));
+    LinkParts::new(
+        name,
+        Some(Source::default()),
+        Some(Target::default()),
+        limit,
+    )
 }
 
 fn open(ends: &mut Endpoints) -> Result<(), Refused> {
@@ -74,7 +63,7 @@ pub fn attach_of_receiver(receiver: &mut ReceiverLink<Target>) -> Result<Attach,
 
 fn attach_in(frame: LinkFrame) -> Result<Attach, Refused> {
     match frame {
-        LinkFrame::Attach(attach) => Ok(attach),
+        LinkFrame::Attach(attach) => Ok(attach.into_inner()),
         other => {
             drop(other);
             Err(Refused)

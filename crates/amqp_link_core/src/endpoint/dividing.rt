@@ -2,11 +2,14 @@
 //! 2.7.3).
 //!
 //! Their number is halved until the attach fits, and the map is marked as incomplete if it is halved at all.
-ghost use Rattle.std.specs.Prelude.{◌≡◌, ◌↔◌, true, IsTrue, IfSome, IfNone, take, option_map};
+ghost use Rattle.std.specs.Prelude.{◌≡◌, ◌↔◌, true, IsTrue, IfOk, IfSome, IfNone, take, option_map};
+ghost use Rattle.amqp_link_types.specs.declared.frame.LinkFrame.TheVariants as frame;
 ghost use Rattle.amqp_link_core.specs.Attaching.{with_entries, FitsFrame, NeverFitsFrame, IsDivided};
 
-use amqp_link_types::types::{Attach, DeliveryState, UnsettledMap};
+use amqp_link_types::frame::LinkFrame;
+use amqp_link_types::types::{Attach, Boxed, DeliveryState, UnsettledMap};
 use amqp_link_values::length::EncodedLen;
+use std::alloc::{AllocError, Global};
 
 /// Whether the attach fits a frame of at most `max_frame_size` bytes, of which four are the frame's header.
 /// Does not allocate.
@@ -60,6 +63,13 @@ pub fn divided(
         keep_entries(&mut sent, count);
     }
     Some(sent)
+}
+
+/// The frame of an attach.
+pub fn attach_frame(alloc: Global, attach: Attach) -> Result<LinkFrame, AllocError>
+    ensures { IfOk result (λ sent. sent ≡ frame.Attach attach) }
+{
+    Ok(LinkFrame::Attach(Boxed::new(alloc, attach)?))
 }
 
 // With all entries and unmarked; without a map if there are none.

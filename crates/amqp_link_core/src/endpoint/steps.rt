@@ -1,5 +1,7 @@
 //! Two small steps that the attaches of both endpoints share.
-ghost use Rattle.std.specs.Prelude.{◌≡◌, if◌then◌else◌, unwrap_or};
+ghost use Rattle.std.specs.Prelude.{◌≡◌, true, false, Some, unwrap_or};
+ghost use Rattle.amqp_link_state.specs.declared.state.LinkState.{LinkState};
+ghost use Rattle.amqp_link_core.specs.LinkStates.{Call, next_state};
 
 use amqp_link_state::state::LinkState;
 use amqp_link_types::types::OutputHandle;
@@ -11,10 +13,12 @@ pub fn handle_or_zero(handle: Option<OutputHandle>) -> OutputHandle
     handle.unwrap_or(OutputHandle(0))
 }
 
-/// The first of two states after a complete attach, the second after an incomplete one (2.7.3). Does not
-/// allocate.
+/// The state after an attach that is sent, of those after a complete one and after an incomplete one (2.7.3).
+/// Does not allocate.
 pub fn step_of(incomplete: bool, steps: (LinkState, LinkState)) -> LinkState
-    ensures { result ≡ (if incomplete then steps.1 else steps.0) }
+    ensures { (state : LinkState) → next_state Call.SendAttach false state ≡ Some steps.0
+        → next_state Call.SendAttach true state ≡ Some steps.1
+        → next_state Call.SendAttach incomplete state ≡ Some result }
 {
     if incomplete { steps.1 } else { steps.0 }
 }

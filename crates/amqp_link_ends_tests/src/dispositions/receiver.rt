@@ -94,7 +94,7 @@ fn all_accepted<const N: usize>(
 
 // The last byte of the tag at this place.
 pub(super) fn tag_at(link: &ReceiverLink<Target>, index: usize) -> Option<u8> {
-    let (tag, _) = link.unsettled().pair_at(index)?;
+    let (tag, _) = link.unsettled().get_index(index)?;
     tag.as_bytes().last().copied()
 }
 

@@ -52,7 +52,7 @@ impl<T: LinkTarget> OutcomeLedger<T> {
     {
         let copies = match plan
             .exchange
-            .copies_of_outcomes(self.alloc, self.link.unsettled())
+            .copies_of_outcomes(self.alloc, self.link.unsettled_map())
         {
             Ok(copies) => copies,
             Err(refused) => {

@@ -9,6 +9,7 @@ use amqp_link_core::endpoint::LinkExt;
 use amqp_link_core::endpoint::target::LinkTarget;
 use amqp_link_types::delivery::{DeliveryOutcome, Outcomes, UnsettledMessage};
 use amqp_link_types::types::{DeliveryTag, Detach, Error, LinkRelayError, LinkStateError};
+use indexmap::map::Slice;
 use std::alloc::{AllocError, Global};
 
 // Whether the peer closes the link.
@@ -33,10 +34,10 @@ fn closed_outcome(error: &Option<Error>) -> Result<DeliveryOutcome, AllocError>
 fn closed_outcomes(
     alloc: Global,
     error: &Option<Error>,
-    pairs: &[(DeliveryTag, UnsettledMessage)],
+    pairs: Slice<'_, DeliveryTag, UnsettledMessage>,
 ) -> Result<Vec<DeliveryOutcome>, AllocError>
     ensures { IfOk result (λ copies.
-        copies.items ≡ map (λ ended. ended.1) (all_closed error.now pairs.now)) }
+        copies.items ≡ map (λ ended. ended.1) (all_closed error.now pairs.entry)) }
 {
     let mut copies = Vec::with_capacity(alloc, pairs.len())?;
     for _ in pairs {
@@ -60,7 +61,7 @@ impl<T: LinkTarget> OutcomeLedger<T> {
         ensures left { OnErr result (self.new ≡ self.old) }
     {
         let pending = self.link.unsettled();
-        let copies = closed_outcomes(self.alloc, &detach.error, pending.pairs())?;
+        let copies = closed_outcomes(self.alloc, &detach.error, pending.as_slice())?;
         match self.link.fail_pending_unsettled(detach) {
             Ok(outcomes) => {
                 self.registrations.resolve_all(outcomes.as_slice(), copies);
@@ -109,7 +110,7 @@ impl<T: LinkTarget> OutcomeLedger<T> {
             return Err(LinkRelayError::UnattachedHandle);
         }
         let pending = self.link.unsettled();
-        let copies = closed_outcomes(self.alloc, &detach.error, pending.pairs())?;
+        let copies = closed_outcomes(self.alloc, &detach.error, pending.as_slice())?;
         match self.link.on_incoming_detach(detach, remote_initiated) {
             Ok((reply, outcomes)) => {
                 self.registrations.resolve_all(outcomes.as_slice(), copies);

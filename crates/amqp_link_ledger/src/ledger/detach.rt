@@ -4,8 +4,8 @@ use amqp_link_core::endpoint::LinkDetach;
 use amqp_link_core::endpoint::target::LinkTarget;
 use amqp_link_types::delivery::UnsettledMessage;
 use amqp_link_types::frame::LinkFrame;
-use amqp_link_types::types::unsettled_map::UnsettledMap;
-use amqp_link_types::types::{ApplyRemoteDetachError, Detach, DetachError, Error};
+use amqp_link_types::types::{ApplyRemoteDetachError, DeliveryTag, Detach, DetachError, Error};
+use indexmap::IndexMap;
 
 impl<T: LinkTarget> LinkDetach for OutcomeLedger<T> {
     ghost use Rattle.std.specs.Prelude.{refl};
@@ -15,7 +15,11 @@ impl<T: LinkTarget> LinkDetach for OutcomeLedger<T> {
 
     type DetachError = DetachError;
 
-    type Unsettled = UnsettledMap<UnsettledMessage>;
+    type Unsettled = IndexMap<DeliveryTag, UnsettledMessage>;
+
+    type Entry = UnsettledMessage;
+
+    ghost unsettled_pairs = { λ map. map.entries };
 
     ghost shown = { λ ledger. sender_shown T.sent_as ledger.link };
 

@@ -135,7 +135,7 @@ impl<T: LinkTarget> OutcomeLedger<T> {
         if self.sends_settled() || !settled {
             return Ok(Vec::new(self.alloc));
         }
-        let copies = settled_copies(self.alloc, self.link.unsettled(), listed)?;
+        let copies = settled_copies(self.alloc, self.link.unsettled_map(), listed)?;
         Ok(copies)
     }
 
@@ -152,7 +152,7 @@ impl<T: LinkTarget> OutcomeLedger<T> {
         if self.sends_settled() || !settled {
             return Ok(None);
         }
-        copy_of_settled_in(self.link.unsettled(), tag)
+        copy_of_settled_in(self.link.unsettled_map(), tag)
     }
 
     // Whether the endpoint sends all deliveries settled.

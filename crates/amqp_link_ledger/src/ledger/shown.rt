@@ -5,8 +5,8 @@ use amqp_link_core::endpoint::{Link, LinkExt};
 use amqp_link_state::role::SenderMarker;
 use amqp_link_state::state::{LinkFlowState, LinkState};
 use amqp_link_types::delivery::UnsettledMessage;
-use amqp_link_types::types::unsettled_map::UnsettledMap;
-use amqp_link_types::types::{self, Fields};
+use amqp_link_types::types::{self, DeliveryTag, Fields};
+use indexmap::IndexMap;
 
 impl<T: LinkTarget> Link for OutcomeLedger<T> {}
 
@@ -39,7 +39,7 @@ impl<T: LinkTarget> LinkExt for OutcomeLedger<T> {
         self.link.flow_state()
     }
 
-    fn unsettled(&self) -> &UnsettledMap<UnsettledMessage> {
+    fn unsettled(&self) -> &IndexMap<DeliveryTag, UnsettledMessage> {
         self.link.unsettled()
     }
 

@@ -52,7 +52,7 @@ fn send_whole<L: LinkAttach>(end: &mut L) -> Result<Attach, AllocError>
     let LinkFrame::Attach(attach) = frame else {
         unreachable!()
     };
-    Ok(attach)
+    Ok(attach.into_inner())
 }
 
 // An attach arrives at an endpoint that does not refuse it. Returns what follows from the exchange.

@@ -72,9 +72,11 @@ impl Seek {
         ensures length { self.new.length ≡ self.old.length + length bytes.now }
         ensures sought { (F : List ℕ) → HasSought self.old F → HasSought self.new (F ++ bytes.now) }
     {
+        let mut seek = *self;
         for byte in bytes {
-            self.feed(*byte);
+            seek.feed(*byte);
         }
+        *self = seek;
     }
 
     // A block in which no header ends is not read byte by byte.

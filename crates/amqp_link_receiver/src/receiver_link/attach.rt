@@ -2,7 +2,6 @@
 ghost use Rattle.std.specs.Prelude.{◌≡◌, ◌↔◌, ◌⊎◌, true, false, ℕ, List, [], if◌then◌else◌};
 ghost use Rattle.std.specs.Prelude.{None, Some, Ok, Err, IfOk, IfErr, IsErrOf, IsTrue, MatchResult, is_none, unwrap_or};
 ghost use Rattle.std.specs.Option.{option_or};
-ghost use Rattle.amqp_link_types.specs.declared.frame.LinkFrame.TheVariants as frame;
 ghost use Rattle.amqp_link_core.specs.AttachFields.{remote_entries};
 ghost use Rattle.amqp_link_core.specs.AttachSent.{SendsAttach, IsTooLarge};
 ghost use Rattle.amqp_link_core.specs.Shown.{counted_attach};
@@ -18,7 +17,7 @@ use amqp_link_core::endpoint::LinkAttach;
 use amqp_link_core::endpoint::attached::{
     get_max_message_size, merged_with, name_and_properties_of, sent_limit, termini_of,
 };
-use amqp_link_core::endpoint::dividing::{divided, fits_whole};
+use amqp_link_core::endpoint::dividing::{attach_frame, divided, fits_whole};
 use amqp_link_core::endpoint::steps::{handle_or_zero, step_of};
 use amqp_link_core::endpoint::table::{after_incoming_attach, after_sent_attach};
 use amqp_link_core::endpoint::target::LinkTarget;
@@ -129,11 +128,14 @@ impl<T: LinkTarget> ReceiverLink<T> {
         Ok(fits_whole(attach, entries, max_frame_size))
     }
 
-    // The attach to send, and the state after it: all tests and all allocations.
-    fn plan_attach(&self, is_reattaching: bool) -> Result<(Attach, LinkState), ReceiverAttachError>
+    // The frame of the attach to send, and the state after it: all tests and all allocations.
+    fn plan_attach(
+        &self,
+        is_reattaching: bool,
+    ) -> Result<(LinkFrame, LinkState), ReceiverAttachError>
         requires { (t c : T) → T.is_clone t c → c ≡ t }
         ensures sent { IfOk result (λ plan. SendsAttach (receiver_shown T.sent_as self.now)
-            (if is_reattaching then [] else self.now.unsettled) (frame.Attach plan.0) plan.1) }
+            (if is_reattaching then [] else self.now.unsettled) plan.0 plan.1) }
         ensures refused { IfErr result (λ error. (error ≡ ReceiverAttachError.OutOfMemory)
             ⊎ ((error ≡ ReceiverAttachError.IllegalState) × ((self.now.output_handle ≡ None)
             ⊎ (next_state Call.SendAttach false self.now.local_state ≡ None)))
@@ -154,7 +156,7 @@ impl<T: LinkTarget> ReceiverLink<T> {
             return Err(ReceiverAttachError::AttachTooLarge);
         };
         let next = step_of(attach.incomplete_unsettled, steps);
-        Ok((attach, next))
+        Ok((attach_frame(self.alloc, attach)?, next))
     }
 }
 
@@ -396,13 +398,13 @@ impl<T: LinkTarget> LinkAttach for ReceiverLink<T> {
         &mut self,
         is_reattaching: bool,
     ) -> Result<(LinkFrame, Outcomes), ReceiverAttachError> {
-        let (attach, next) = self.plan_attach(is_reattaching)?;
+        let (frame, next) = self.plan_attach(is_reattaching)?;
         // All tests and all allocations are done: from here on nothing can fail.
         self.local_state = next;
         if is_reattaching {
             drop(self.unsettled.take_all());
         }
-        Ok((LinkFrame::Attach(attach), Vec::new(self.alloc)))
+        Ok((frame, Vec::new(self.alloc)))
     }
 
     /// Takes the sender's attach. The link's unsettled map stays as it is.

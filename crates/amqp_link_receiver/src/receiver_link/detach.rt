@@ -8,8 +8,10 @@ use amqp_link_core::endpoint::table::{after_detach_reply, after_remote_detach, a
 use amqp_link_core::endpoint::target::LinkTarget;
 use amqp_link_state::state::LinkState;
 use amqp_link_types::frame::LinkFrame;
-use amqp_link_types::types::unsettled_map::UnsettledMap;
-use amqp_link_types::types::{ApplyRemoteDetachError, DeliveryState, Detach, DetachError, Error};
+use amqp_link_types::types::{
+    ApplyRemoteDetachError, DeliveryState, DeliveryTag, Detach, DetachError, Error,
+};
+use indexmap::IndexMap;
 
 impl<T: LinkTarget> ReceiverLink<T> {
     // Moves the link to another state, and releases its output handle.
@@ -29,7 +31,11 @@ impl<T: LinkTarget> LinkDetach for ReceiverLink<T> {
 
     type DetachError = DetachError;
 
-    type Unsettled = UnsettledMap<Option<DeliveryState>>;
+    type Unsettled = IndexMap<DeliveryTag, Option<DeliveryState>>;
+
+    type Entry = Option<DeliveryState>;
+
+    ghost unsettled_pairs = { λ map. map.entries };
 
     ghost shown = { receiver_shown T.sent_as };
 

@@ -7,8 +7,8 @@ use amqp_link_core::endpoint::target::LinkTarget;
 use amqp_link_core::endpoint::{Link, LinkExt};
 use amqp_link_state::role::ReceiverMarker;
 use amqp_link_state::state::{LinkFlowState, LinkState};
-use amqp_link_types::types::unsettled_map::UnsettledMap;
-use amqp_link_types::types::{self, DeliveryState, Fields};
+use amqp_link_types::types::{self, DeliveryState, DeliveryTag, Fields};
+use indexmap::IndexMap;
 
 impl<T: LinkTarget> ReceiverLink<T> {
     /// The handle under which this endpoint sends, if its session has given it one (2.6.2).
@@ -62,8 +62,8 @@ impl<T: LinkTarget> LinkExt for ReceiverLink<T> {
         &self.flow_state
     }
 
-    fn unsettled(&self) -> &UnsettledMap<Option<DeliveryState>> {
-        &self.unsettled
+    fn unsettled(&self) -> &IndexMap<DeliveryTag, Option<DeliveryState>> {
+        self.unsettled.as_map()
     }
 
     fn rcv_settle_mode(&self) -> &types::ReceiverSettleMode {

@@ -1,7 +1,6 @@
 //! How a sender's link endpoint is attached (2.6.3, 2.6.4).
 ghost use Rattle.std.specs.Prelude.{◌≡◌, ◌≤◌, ◌++◌, ◌↔◌, ◌⊎◌, ◌+◌, true, false, List, [], if◌then◌else◌};
 ghost use Rattle.std.specs.Prelude.{None, Some, Ok, IfOk, IfErr, IsErrOf, IsTrue, is_none, length, vec_len, vec_capacity, unwrap_or};
-ghost use Rattle.amqp_link_types.specs.declared.frame.LinkFrame.TheVariants as frame;
 ghost use Rattle.amqp_link_types.specs.Unsettled.{states_of};
 ghost use Rattle.amqp_link_core.specs.AttachSent.{SendsAttach, IsTooLarge};
 ghost use Rattle.amqp_link_core.specs.Attaching.{FitsFrame, with_entries};
@@ -15,7 +14,7 @@ ghost use Rattle.amqp_link_sender.specs.SenderAttaches.{sender_shown, sent_count
 use crate::sender_link::{SenderAttachExchange, SenderLink};
 use amqp_link_core::endpoint::LinkAttach;
 use amqp_link_core::endpoint::attached::{name_and_properties_of, sent_limit, termini_of};
-use amqp_link_core::endpoint::dividing::{divided, fits_whole};
+use amqp_link_core::endpoint::dividing::{attach_frame, divided, fits_whole};
 use amqp_link_core::endpoint::steps::{handle_or_zero, step_of};
 use amqp_link_core::endpoint::table::after_sent_attach;
 use amqp_link_core::endpoint::target::LinkTarget;
@@ -78,7 +77,7 @@ fn end_all(unsettled: UnsettledMap<UnsettledMessage>, outcomes: &mut Outcomes)
     requires { vec_len outcomes.old + length unsettled ≤ vec_capacity outcomes.old }
     ensures { outcomes.new.items ≡ outcomes.old.items ++ all_illegal unsettled }
 {
-    for (tag, message) in unsettled.into_pairs() {
+    for (tag, message) in unsettled.into_map() {
         drop(message);
         drop(outcomes.push((tag, Err(LinkStateError::IllegalState))));
     }
@@ -153,10 +152,10 @@ impl<T: LinkTarget> SenderLink<T> {
     fn plan_attach(
         &self,
         is_reattaching: bool,
-    ) -> Result<(Attach, Outcomes, LinkState), SenderAttachError>
+    ) -> Result<(LinkFrame, Outcomes, LinkState), SenderAttachError>
         requires { (t c : T) → T.is_clone t c → c ≡ t }
         ensures sent { IfOk result (λ plan. SendsAttach (sender_shown T.sent_as self.now)
-            (if is_reattaching then [] else states_of self.now.unsettled) (frame.Attach plan.0) plan.2) }
+            (if is_reattaching then [] else states_of self.now.unsettled) plan.0 plan.2) }
         ensures none_yet { IfOk result (λ plan. plan.1.items ≡ []) }
         ensures room { IfOk result (λ plan. is_reattaching ≡ true
             → length self.now.unsettled ≤ vec_capacity plan.1) }
@@ -181,7 +180,7 @@ impl<T: LinkTarget> SenderLink<T> {
             return Err(SenderAttachError::AttachTooLarge);
         };
         let next = step_of(attach.incomplete_unsettled, steps);
-        Ok((attach, outcomes, next))
+        Ok((attach_frame(self.alloc, attach)?, outcomes, next))
     }
 
     // Moves the link to the state after its attach; the delivery-count that it has stated is the initial one.
@@ -250,13 +249,13 @@ impl<T: LinkTarget> LinkAttach for SenderLink<T> {
         &mut self,
         is_reattaching: bool,
     ) -> Result<(LinkFrame, Outcomes), SenderAttachError> {
-        let (attach, mut outcomes, next) = self.plan_attach(is_reattaching)?;
+        let (frame, mut outcomes, next) = self.plan_attach(is_reattaching)?;
         // All tests and all allocations are done: from here on nothing can fail.
         self.attach_as(next);
         if is_reattaching {
             end_all(self.unsettled.take_all(), &mut outcomes);
         }
-        Ok((LinkFrame::Attach(attach), outcomes))
+        Ok((frame, outcomes))
     }
 
     /// Takes the receiver's attach, and resolves each delivery of both unsettled maps (2.6.13). The exchange

@@ -9,8 +9,8 @@ use amqp_link_core::endpoint::target::LinkTarget;
 use amqp_link_state::state::LinkState;
 use amqp_link_types::delivery::UnsettledMessage;
 use amqp_link_types::frame::LinkFrame;
-use amqp_link_types::types::unsettled_map::UnsettledMap;
-use amqp_link_types::types::{ApplyRemoteDetachError, Detach, DetachError, Error};
+use amqp_link_types::types::{ApplyRemoteDetachError, DeliveryTag, Detach, DetachError, Error};
+use indexmap::IndexMap;
 
 impl<T: LinkTarget> SenderLink<T> {
     // Moves the link to another state, and releases its output handle.
@@ -30,7 +30,11 @@ impl<T: LinkTarget> LinkDetach for SenderLink<T> {
 
     type DetachError = DetachError;
 
-    type Unsettled = UnsettledMap<UnsettledMessage>;
+    type Unsettled = IndexMap<DeliveryTag, UnsettledMessage>;
+
+    type Entry = UnsettledMessage;
+
+    ghost unsettled_pairs = { λ map. map.entries };
 
     ghost shown = { sender_shown T.sent_as };
 

@@ -9,7 +9,8 @@ use amqp_link_state::role::SenderMarker;
 use amqp_link_state::state::{LinkFlowState, LinkState};
 use amqp_link_types::delivery::UnsettledMessage;
 use amqp_link_types::types::unsettled_map::UnsettledMap;
-use amqp_link_types::types::{self, Fields};
+use amqp_link_types::types::{self, DeliveryTag, Fields};
+use indexmap::IndexMap;
 
 impl<T: LinkTarget> SenderLink<T> {
     /// The handle under which this endpoint sends, if its session has given it one (2.6.2).
@@ -24,6 +25,13 @@ impl<T: LinkTarget> SenderLink<T> {
         ensures { result ≡ self.now.input_handle }
     {
         self.input_handle
+    }
+
+    /// The unsettled deliveries, with the calls of this library.
+    pub fn unsettled_map(&self) -> &UnsettledMap<UnsettledMessage>
+        ensures { result.now ≡ self.now.unsettled }
+    {
+        &self.unsettled
     }
 
     /// Whether this endpoint sends its deliveries settled.
@@ -63,8 +71,8 @@ impl<T: LinkTarget> LinkExt for SenderLink<T> {
         &self.flow_state
     }
 
-    fn unsettled(&self) -> &UnsettledMap<UnsettledMessage> {
-        &self.unsettled
+    fn unsettled(&self) -> &IndexMap<DeliveryTag, UnsettledMessage> {
+        self.unsettled.as_map()
     }
 
     fn rcv_settle_mode(&self) -> &types::ReceiverSettleMode {

@@ -4,6 +4,7 @@ ghost use Rattle.std.specs.Option.{option_map_or};
 ghost use Rattle.amqp_link_types.specs.DeliveryStates.{is_terminal, carries_more, state_of};
 
 use crate::types::definitions::Error;
+use amqp_link_values::boxed::Boxed;
 use amqp_link_values::copy::copy_of;
 use amqp_link_values::fields::Fields;
 use std::alloc::AllocError;
@@ -18,7 +19,7 @@ pub enum DeliveryState {
     /// The receiver found it invalid (3.4.3).
     Rejected {
         /// Why.
-        error: Option<Error>,
+        error: Option<Boxed<Error>>,
     },
     /// The receiver returned it unchanged (3.4.4).
     Released,
@@ -29,7 +30,7 @@ pub enum DeliveryState {
         /// Whether it is not to be sent on this link again.
         undeliverable_here: Option<bool>,
         /// What is to be added to the message's annotations.
-        message_annotations: Option<Fields>,
+        message_annotations: Option<Boxed<Fields>>,
     },
     /// A front of it arrived (3.4.1): the bytes up to this position.
     Received {
@@ -48,7 +49,7 @@ pub enum Outcome {
     /// The receiver found it invalid (3.4.3).
     Rejected {
         /// Why.
-        error: Option<Error>,
+        error: Option<Boxed<Error>>,
     },
     /// The receiver returned it unchanged (3.4.4).
     Released,
@@ -59,7 +60,7 @@ pub enum Outcome {
         /// Whether it is not to be sent on this link again.
         undeliverable_here: Option<bool>,
         /// What is to be added to the message's annotations.
-        message_annotations: Option<Fields>,
+        message_annotations: Option<Boxed<Fields>>,
     },
 }
 

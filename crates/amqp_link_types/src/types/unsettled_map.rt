@@ -1,21 +1,21 @@
 //! The map of the unsettled deliveries (2.6.13).
 //!
-//! It is stored as the list of its pairs, and contracts see that list: a put replaces in place or adds last,
-//! a removal moves the last pair into the gap.
-#![tactic(auto, using(crate::proofs::EntriesLemmas::map_steps))]
+//! Contracts see the list of its pairs: a put replaces in place or adds last, a removal moves the last pair
+//! into the gap. A delivery is found by a hash of its tag.
 
-ghost use Rattle.std.specs.Prelude.{◌≡◌, ◌+◌, ◌==◌, ◌&&◌, ◌∷◌, [], length, position, slice_get, take, is_some, None, Option, Some};
+ghost use Rattle.std.specs.Prelude.{◌≡◌, ◌+◌, ◌==◌, ◌∷◌, [], length, slice_get, take, is_some, None, Option, Some};
 ghost use Rattle.std.specs.Prelude.{IfOk, IfErr, IfSome, IfNone, OnOk, OnErr};
 ghost use Rattle.std.specs.Map.Iter.{deref_pair};
 ghost use Rattle.std.specs.Option.{option_map, option_copied, option_to_list};
 ghost use Rattle.std.specs.Str.{bytes_eq};
-ghost use Rattle.amqp_link_types.specs.Found.{FoundAt, IsMissing};
 ghost use Rattle.amqp_link_types.specs.Entries.{entry_at, with_entry, without_entry, changed_at, IsMap};
 ghost use Rattle.amqp_link_types.specs.Unsettled.{states_of};
 
 use crate::delivery::UnsettledMessage;
 use crate::types::delivery_state::DeliveryState;
 use amqp_link_values::delivery_tag::DeliveryTag;
+use indexmap::IndexMap;
+use indexmap::map::Slice;
 use std::alloc::{AllocError, AllocFailed, Global};
 use std::marker::Model;
 use std::mem;
@@ -25,17 +25,15 @@ use std::mem;
 /// A contract sees the list of the pairs, whose tags are distinct.
 #[derive(Debug, Drop)]
 pub struct UnsettledMap<V> {
-    pairs: Vec<(DeliveryTag, V)>,
+    map: IndexMap<DeliveryTag, V>,
 }
 
 impl<V> Model for UnsettledMap<V> {
-    ghost use Rattle.amqp_link_types.specs.Entries.{Entries, IsMap};
+    ghost use Rattle.amqp_link_types.specs.Entries.{Entries};
 
     ghost Value = { Entries V };
 
-    ghost view = { λ map. map.pairs.items };
-
-    ghost invariant = { λ map. IsMap map.pairs.items };
+    ghost view = { λ map. map.map.entries };
 }
 
 impl<V> UnsettledMap<V> {
@@ -44,7 +42,7 @@ impl<V> UnsettledMap<V> {
         ensures { result ≡ [] }
     {
         UnsettledMap {
-            pairs: Vec::new(alloc),
+            map: IndexMap::new(alloc),
         }
     }
 
@@ -53,7 +51,7 @@ impl<V> UnsettledMap<V> {
         ensures len { result ≡ length self.now }
         ensures distinct { IsMap self.now }
     {
-        self.pairs.len()
+        self.map.len()
     }
 
     /// Whether there are none.
@@ -63,67 +61,63 @@ impl<V> UnsettledMap<V> {
         self.len() == 0
     }
 
+    /// The map by tag, as the library `indexmap` has it.
+    pub fn as_map(&self) -> &IndexMap<DeliveryTag, V>
+        ensures { result.now.entries ≡ self.now }
+    {
+        &self.map
+    }
+
     /// The entry of a delivery.
     pub fn get(&self, tag: &DeliveryTag) -> Option<&V>
         ensures { option_copied result ≡ entry_at self.now tag.now }
     {
-        self.get_by_bytes(tag.as_bytes())
-    }
-
-    // The entry of the delivery whose tag has these bytes.
-    fn get_by_bytes(&self, tag: &[u8]) -> Option<&V>
-        ensures { option_copied result ≡ entry_at self.now tag.now }
-    {
-        let i = find(&self.pairs, tag)?;
-        Some(&self.pairs[i].1)
+        self.map.get(tag)
     }
 
     /// Whether the delivery is there.
     pub fn contains(&self, tag: &DeliveryTag) -> bool
         ensures { result ≡ is_some (entry_at self.now tag.now) }
     {
-        self.get(tag).is_some()
+        self.map.contains_key(tag)
     }
 
-    /// Whether the delivery whose tag has these bytes is there. Does not allocate. Its cost grows with the
-    /// number of deliveries.
+    /// Whether the delivery whose tag has these bytes is there. Does not allocate.
     pub fn contains_bytes(&self, tag: &[u8]) -> bool
         ensures { result ≡ is_some (entry_at self.now tag.now) }
     {
-        self.get_by_bytes(tag).is_some()
+        self.map.contains_key(tag)
     }
 
-    /// The place of a delivery in the order of the map, and its entry. Does not allocate. Its cost grows with
-    /// the number of deliveries.
+    /// The place of a delivery in the order of the map, and its entry. Does not allocate.
     pub fn get_full(&self, tag: &DeliveryTag) -> Option<(usize, &V)>
         ensures found { IfSome result (λ found. slice_get self.now found.0 ≡ Some (tag.now, found.1.now)) }
         ensures missing { IfNone result (entry_at self.now tag.now ≡ None) }
     {
-        let i = find(&self.pairs, tag.as_bytes())?;
-        Some((i, &self.pairs[i].1))
+        let (index, _, value) = self.map.get_full(tag)?;
+        Some((index, value))
     }
 
     /// The pair at a place in the order of the map.
     pub fn pair_at(&self, index: usize) -> Option<(&DeliveryTag, &V)>
         ensures { option_map deref_pair result ≡ slice_get self.now index }
     {
-        let pair = self.pairs.get(index)?;
-        Some((&pair.0, &pair.1))
+        self.map.get_index(index)
     }
 
     /// The pairs in order.
-    pub fn pairs(&self) -> &[(DeliveryTag, V)]
-        ensures { result.now ≡ self.now }
+    pub fn pairs(&self) -> Slice<'_, DeliveryTag, V>
+        ensures { result ≡ self.now }
     {
-        self.pairs.as_slice()
+        self.map.as_slice()
     }
 
-    /// The pairs in order, without the map. Does not allocate.
-    pub fn into_pairs(self) -> Vec<(DeliveryTag, V)>
-        ensures { result.items ≡ self }
+    /// The map by tag, as the library `indexmap` has it, without this one. Does not allocate.
+    pub fn into_map(self) -> IndexMap<DeliveryTag, V>
+        ensures { result.entries ≡ self }
     {
-        let UnsettledMap { pairs } = self;
-        pairs
+        let UnsettledMap { map } = self;
+        map
     }
 
     /// Removes all deliveries and returns them. Does not allocate.
@@ -131,9 +125,9 @@ impl<V> UnsettledMap<V> {
         ensures taken { result ≡ self.old }
         ensures empty { self.new ≡ [] }
     {
-        let none = Vec::new(*self.pairs.allocator());
+        let none = IndexMap::new(*self.map.allocator());
         UnsettledMap {
-            pairs: mem::replace(&mut self.pairs, none),
+            map: mem::replace(&mut self.map, none),
         }
     }
 
@@ -152,12 +146,7 @@ impl<V> UnsettledMap<V> {
         ensures kept { OnErr result (self.new ≡ self.old) }
         ensures absent { OnErr result (entry_at self.old tag ≡ None) }
     {
-        let Some(i) = find(&self.pairs, tag.as_bytes()) else {
-            self.pairs.push((tag, value))?;
-            return Ok(None);
-        };
-        let pair = &mut self.pairs[i];
-        Ok(Some(mem::replace(&mut pair.1, value)))
+        self.map.insert(tag, value)
     }
 
     /// Removes a delivery and returns its entry. The last pair moves into the gap. Does not allocate.
@@ -165,8 +154,7 @@ impl<V> UnsettledMap<V> {
         ensures value { result ≡ entry_at self.old tag.now }
         ensures removed { self.new ≡ without_entry self.old tag.now }
     {
-        let (_, value) = self.remove_entry(tag)?;
-        Some(value)
+        self.map.swap_remove(tag)
     }
 
     /// Removes a delivery and returns it with its tag. The last pair moves into the gap. Does not allocate.
@@ -175,8 +163,7 @@ impl<V> UnsettledMap<V> {
         ensures removed { self.new ≡ without_entry self.old tag.now }
         ensures len { length self.new + length (option_to_list result) ≡ length self.old }
     {
-        let i = find(&self.pairs, tag.as_bytes())?;
-        Some(self.pairs.swap_remove(i))
+        self.map.swap_remove_entry(tag)
     }
 
     /// Replaces the entry of a delivery that is there, and returns the one before; if the delivery is not
@@ -188,11 +175,10 @@ impl<V> UnsettledMap<V> {
         ensures absent { OnErr result (entry_at self.old tag.now ≡ None) }
         ensures kept { OnErr result (self.new ≡ self.old) }
     {
-        let Some(i) = find(&self.pairs, tag.as_bytes()) else {
+        let Some(place) = self.map.get_mut(tag) else {
             return Err(value);
         };
-        let pair = &mut self.pairs[i];
-        Ok(mem::replace(&mut pair.1, value))
+        Ok(mem::replace(place, value))
     }
 
     /// Keeps the first `count` deliveries in their order and drops the others; if there are not more than
@@ -204,7 +190,7 @@ impl<V> UnsettledMap<V> {
         V: Drop,
         ensures { self.new ≡ take count self.old }
     {
-        self.pairs.truncate(count);
+        self.map.truncate(count);
     }
 }
 
@@ -242,12 +228,11 @@ impl<V: KeepsState> UnsettledMap<V> {
     pub fn set_state(&mut self, tag: &DeliveryTag, state: Option<DeliveryState>)
         ensures { self.new ≡ changed_at (λ value. V.with_state value state) (tag.now ∷ []) self.old }
     {
-        let Some(i) = find(&self.pairs, tag.as_bytes()) else {
+        let Some(place) = self.map.get_mut(tag) else {
             drop(state);
             return;
         };
-        let pair = &mut self.pairs[i];
-        pair.1.set_state(state);
+        place.set_state(state);
     }
 }
 
@@ -258,25 +243,26 @@ impl UnsettledMap<UnsettledMessage> {
     pub fn states(&self) -> Result<UnsettledMap<Option<DeliveryState>>, AllocError>
         ensures { IfOk result (λ states. states ≡ states_of self.now) }
     {
-        Ok(UnsettledMap {
-            pairs: states_in(*self.pairs.allocator(), self.pairs.as_slice())?,
-        })
+        let mut states = IndexMap::with_capacity(*self.map.allocator(), self.map.len())?;
+        for (tag, message) in &self.map {
+            put_state(&mut states, tag, message)?;
+        }
+        Ok(UnsettledMap { map: states })
     }
 }
 
-// The tags and the states of pairs, in order.
-fn states_in(
-    alloc: Global,
-    pairs: &[(DeliveryTag, UnsettledMessage)],
-) -> Result<Vec<(DeliveryTag, Option<DeliveryState>)>, AllocError>
-    ensures { IfOk result (λ states. states.items ≡ states_of pairs.now) }
+// Puts copies of a delivery's tag and of its state.
+fn put_state(
+    states: &mut IndexMap<DeliveryTag, Option<DeliveryState>>,
+    tag: &DeliveryTag,
+    message: &UnsettledMessage,
+) -> Result<(), AllocError>
+    ensures { OnOk result (states.new.entries ≡ with_entry states.old.entries tag.now message.now.state) }
 {
-    let mut states = Vec::with_capacity(alloc, pairs.len())?;
-    for (tag, message) in pairs {
-        let tag = tag.clone()?;
-        states.push((tag, message.state.clone()?))?;
-    }
-    Ok(states)
+    let tag = tag.clone()?;
+    let state = message.state.clone()?;
+    drop(states.insert(tag, state)?);
+    Ok(())
 }
 
 // The entries of an attach are copied (2.7.3).
@@ -285,7 +271,7 @@ impl Clone for UnsettledMap<Option<DeliveryState>> {
 
     fn clone(&self) -> Result<UnsettledMap<Option<DeliveryState>>, AllocError> {
         Ok(UnsettledMap {
-            pairs: self.pairs.clone()?,
+            map: self.map.clone()?,
         })
     }
 }
@@ -293,6 +279,7 @@ impl Clone for UnsettledMap<Option<DeliveryState>> {
 impl<V: PartialEq> PartialEq for UnsettledMap<V> {
     ghost use Rattle.std.specs.Cmp.Lexicographic.{pointwise, lists_per, nat_list_eq_equiv};
     ghost use Rattle.std.specs.Cmp.{and_per, on_per, partial_equiv_from_equiv};
+    ghost use Rattle.std.specs.Prelude.{◌&&◌};
 
     ghost eq = { pointwise (λ e f. bytes_eq e.0 f.0 && V.eq e.1 f.1) };
 
@@ -313,18 +300,4 @@ impl<V: Eq> Eq for UnsettledMap<V> {
     ghost laws = { lists_equiv (and_equiv
         (on_equiv (λ e. e.0) nat_list_eq_equiv)
         (on_equiv (λ e. e.1) V.Eq.laws)) };
-}
-
-// The place of the pair whose tag has these bytes.
-fn find<V>(pairs: &[(DeliveryTag, V)], tag: &[u8]) -> Option<usize>
-    ensures found { IfSome result (FoundAt pairs.now tag.now) }
-    ensures missing { IfNone result (IsMissing pairs.now tag.now) }
-{
-    first_with(pairs, tag)
-}
-
-fn first_with<V>(pairs: &[(DeliveryTag, V)], tag: &[u8]) -> Option<usize>
-    ensures { result ≡ position (λ pair. bytes_eq tag.now pair.0) pairs.now }
-{
-    pairs.iter().position(|pair| tag == pair.0.as_bytes())
 }

@@ -1,5 +1,5 @@
 //! Copies, while there is memory.
-use super::samples::{attach, error, fields, source, tag, target, unsettled};
+use super::samples::{attach, boxed, error, fields, source, tag, target, unsettled};
 use amqp_link_types::delivery::{DeliveryOutcome, copy_of_outcome};
 use amqp_link_types::types::{
     ConnectionStopReason, DeliveryState, Detach, Disposition, Handle, LinkFlow, LinkStateError,
@@ -15,7 +15,7 @@ fn copied<T: Clone + PartialEq + Drop>(rt: &impl Abort, original: T, other: T, w
 }
 
 fn transfer(rt: &(impl Abort + AllocGlobal)) -> Transfer {
-    let error = Some(error(rt));
+    let error = Some(boxed(rt, error(rt)));
     Transfer {
         delivery_tag: Some(tag(rt, 1)),
         state: Some(DeliveryState::Rejected { error }),
@@ -35,10 +35,10 @@ fn a_copied_transfer_is_equal(rt: HostRuntime) {
 
 #[test]
 fn a_copied_state_is_equal(rt: HostRuntime) {
-    let why = Some(error(&rt));
+    let why = Some(boxed(&rt, error(&rt)));
     let original = DeliveryState::Rejected { error: why };
     copied(&rt, original, DeliveryState::Released, "a state");
-    let why = Some(error(&rt));
+    let why = Some(boxed(&rt, error(&rt)));
     copied(
         &rt,
         Outcome::Rejected { error: why },
@@ -141,7 +141,7 @@ fn a_copied_flow_is_equal(rt: HostRuntime) {
 
 #[test]
 fn a_copied_disposition_is_equal(rt: HostRuntime) {
-    let error = Some(error(&rt));
+    let error = Some(boxed(&rt, error(&rt)));
     let original = disposition(DeliveryState::Rejected { error });
     let other = disposition(DeliveryState::Accepted);
     copied(&rt, original, other, "the state");
@@ -224,7 +224,7 @@ fn outcome_copied(rt: &impl Abort, original: DeliveryOutcome) -> bool {
 
 #[test]
 fn a_copied_outcome_is_equal(rt: HostRuntime) {
-    let why = Some(error(&rt));
+    let why = Some(boxed(&rt, error(&rt)));
     let rejected = DeliveryState::Rejected { error: why };
     assert!(rt; outcome_copied(&rt, Ok(None)), "no state");
     assert!(rt; outcome_copied(&rt, Ok(Some(rejected))), "a state");

@@ -1,5 +1,5 @@
 //! What a frame shows of its transfer.
-use super::samples::{attach, error};
+use super::samples::{attach, boxed, error};
 use amqp_link_types::frame::{LinkFrame, LinkTransfer};
 use amqp_link_types::types::{
     Detach, Disposition, Handle, InputHandle, LinkFlow, Payload, Role, Transfer,
@@ -44,7 +44,7 @@ fn transfers_show_whether_more_follow(rt: HostRuntime) {
 
 #[test]
 fn other_frames_have_no_transfer(rt: HostRuntime) {
-    let attach = LinkFrame::Attach(attach(&rt));
+    let attach = LinkFrame::Attach(boxed(&rt, attach(&rt)));
     shows(&rt, attach, None, false, "an attach");
     let flow = LinkFrame::Flow(LinkFlow::default());
     shows(&rt, flow, None, false, "a flow");

@@ -1,6 +1,6 @@
 //! Parts in which nothing is absent and nothing has its default.
 use amqp_link_types::types::{
-    Attach, DeliveryState, DeliveryTag, DistributionMode, Error, Fields, Handle, Outcome,
+    Attach, Boxed, DeliveryState, DeliveryTag, DistributionMode, Error, Fields, Handle, Outcome,
     ReceiverSettleMode, Role, SenderSettleMode, Source, Symbol, Symbols, Target, TargetArchetype,
     TerminusDurability, TerminusExpiryPolicy, Text, UnsettledMap, Value,
 };
@@ -36,6 +36,11 @@ pub(super) fn fields(rt: &(impl Abort + AllocGlobal), number: u32) -> Fields {
     fields
 }
 
+/// A value in memory of its own.
+pub(super) fn boxed<T: Drop>(rt: &(impl Abort + AllocGlobal), value: T) -> Boxed<T> {
+    Boxed::new(rt.alloc(), value).ok().expect(rt, "memory")
+}
+
 pub(super) fn error(rt: &(impl Abort + AllocGlobal)) -> Error {
     Error {
         condition: symbol(rt, "x:y"),
@@ -45,7 +50,7 @@ pub(super) fn error(rt: &(impl Abort + AllocGlobal)) -> Error {
 }
 
 pub(super) fn source(rt: &(impl Abort + AllocGlobal)) -> Source {
-    let error = Some(error(rt));
+    let error = Some(boxed(rt, error(rt)));
     Source {
         address: Some(text(rt, "q1")),
         durable: TerminusDurability::Configuration,

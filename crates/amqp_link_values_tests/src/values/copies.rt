@@ -125,3 +125,29 @@ fn what_is_absent_stays_absent(rt: HostRuntime) {
     drop(absent);
     assert!(rt; is_copied, "a tag, and no symbol");
 }
+
+// A tag of so many bytes is what it was made of, and so is its copy.
+fn keeps_bytes(rt: &(impl Abort + AllocGlobal), len: usize) {
+    let bytes = vec![in rt.alloc(); 7u8; len].expect(rt, "memory");
+    let tag = DeliveryTag::copied(rt.alloc(), bytes.as_slice()).expect(rt, "memory");
+    let copy = tag.clone().expect(rt, "memory");
+    assert_eq!(rt; tag.as_bytes(), bytes.as_slice(), "{len} bytes");
+    assert_eq!(rt; copy.as_bytes(), bytes.as_slice(), "{len} bytes copied");
+    assert_eq!(rt; DeliveryTag::from(bytes), tag, "{len} bytes of a buffer");
+    drop((tag, copy));
+}
+
+#[test]
+fn tags_of_few_and_of_many_bytes(rt: HostRuntime) {
+    for len in [0, 4, 16, 17, 32] {
+        keeps_bytes(&rt, len);
+    }
+}
+
+#[test]
+fn a_tag_prints_its_bytes(rt: HostRuntime) {
+    let tag = tag(&rt, 1);
+    let text = format!(in rt.alloc(); "{tag:?}").expect(&rt, "memory");
+    assert_eq!(rt; text.as_str(), "DeliveryTag { bytes: [1] }");
+    drop((tag, text));
+}

@@ -1,5 +1,4 @@
 use Rattle.std.proofs.Common.{◌≡◌, length}
-use Rattle.std.specs.Vec.Iter.{into_iter_items}
 use Rattle.amqp_link_exchange.specs.Plans.{IsProgress}
 use Rattle.amqp_link_exchange.proofs.planning.plan_each.Given as goal
 
@@ -7,5 +6,5 @@ use Rattle.amqp_link_exchange.proofs.planning.plan_each.Given as goal
 abbrev pub invariant-loop-tag : goal.invariant-loop-tag
 invariant-loop-tag l = record {
   each : length l.steps.items ≡ length l.own;
-  read : IsProgress l.own (record { steps = l.steps.items; aborts = l.aborts.items }) (into_iter_items l.tag-iterator) l.fn.remote;
+  read : IsProgress l.own (record { steps = l.steps.items; aborts = l.aborts.items }) l.tag-iterator l.fn.remote;
 }

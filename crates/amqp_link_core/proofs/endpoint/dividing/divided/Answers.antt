@@ -1,7 +1,16 @@
-use Rattle.std.proofs.Common.{rules}
+use Rattle.std.proofs.Common.{rules, ◌∙◌, sym, length, arith}
+use Rattle.std.proofs.Math.Nat.{div-one}
 use Rattle.amqp_link_core.specs.Attaching.{FitsFrame}
 use Rattle.amqp_link_core.proofs.Halving.{Halved-never, Halved-next}
 use Rattle.amqp_link_core.proofs.endpoint.dividing.divided.Goals as goal
+
+pub loop-sent-init : goal.loop-sent-init
+loop-sent-init c = record {
+  halvings = 0;
+  left = c.len-count.ensures.len ∙ sym (div-one (length c.args.entries));
+  sent = c.with_all-sent.ensures;
+  least = λ i less. absurd (omega arith);
+}
 
 pub returns-then-count-eq0-clause-none : goal.returns-then-count-eq0-clause-none
 returns-then-count-eq0-clause-none c =

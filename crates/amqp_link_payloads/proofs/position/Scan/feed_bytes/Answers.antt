@@ -14,5 +14,5 @@ loop-byte-preserved c = λ F has.
 
 pub returns : goal.returns
 returns c = λ F has.
-    subst (λ t. HasSeen c.loop-byte.self (F ++ t))
+    subst (λ t. HasSeen c.loop-byte.scan (F ++ t))
     (take_all c.loop-byte.byte-index c.args.bytes.now c.loop-byte-test.false) (c.loop-byte.invariant F has)

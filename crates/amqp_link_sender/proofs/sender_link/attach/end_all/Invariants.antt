@@ -1,11 +1,10 @@
 use Rattle.std.proofs.Common.{◌≡◌, ◌+◌, ◌≤◌, ◌++◌, length, vec_len, vec_capacity}
-use Rattle.std.specs.Vec.Iter.{into_iter_items}
 use Rattle.amqp_link_sender.specs.SenderAttaches.{all_illegal}
 use Rattle.amqp_link_sender.proofs.sender_link.attach.end_all.Given as goal
 
 -- what is ended and what is left make the whole, and there is room for what is left
 abbrev pub invariant-loop-tag : goal.invariant-loop-tag
 invariant-loop-tag l = record {
-  items : l.outcomes.items ++ all_illegal (into_iter_items l.tag-iterator) ≡ l.initial.outcomes.items ++ all_illegal (into_iter_items l.initial.tag-iterator);
-  room : vec_len l.outcomes + length (into_iter_items l.tag-iterator) ≤ vec_capacity l.outcomes;
+  items : l.outcomes.items ++ all_illegal l.tag-iterator ≡ l.initial.outcomes.items ++ all_illegal l.initial.tag-iterator;
+  room : vec_len l.outcomes + length l.tag-iterator ≤ vec_capacity l.outcomes;
 }
