@@ -612,36 +612,18 @@ fn deliveries_of_one_endpoint_keep_their_order(rt: HostRuntime) {
     assert_eq!(rt; sent.as_slice(), wanted.as_slice());
 }
 
-// How the delivery at this place of the list is sent, with the last byte of its tag.
-fn sent_at(exchanged: &Exchanged, index: usize) -> Option<(u8, Sent)> {
-    let (tag, delivery) = exchanged.deliveries.get(index)?;
-    let last = *tag.as_bytes().last()?;
-    Some((last, sent_as(delivery)))
-}
-
 // The last delivery moves to the place of one that is withdrawn, and they are sent again in that order.
 #[test]
 fn exchange_keeps_the_order_of_the_map(rt: HostRuntime) {
-    let four = [
-        (0, Known::Null),
-        (1, Known::Null),
-        (2, Known::Null),
-        (3, Known::Null),
-    ];
-    let mut link = attaching_with(&rt, &four);
-    let second = count_tag(&rt, 1);
+    let mut link = attaching_with_numbers(&rt, &[0, 1, 2, 3]);
+    let second = wide_tag(&rt, 1);
     drop(link.withdraw(&second));
-    let exchanged = exchange_on(&rt, &mut link, attach_with(&rt, &[]));
-    let sent = [
-        sent_at(&exchanged, 0),
-        sent_at(&exchanged, 1),
-        sent_at(&exchanged, 2),
-        sent_at(&exchanged, 3),
-    ];
+    let exchanged = exchange_on(&rt, &mut link, attach_with_numbers(&rt, &[]));
+    let sent = numbers_sent(&rt, &exchanged);
     drop((second, exchanged));
     drop(link);
-    let resent = |last: u8| Some((last, Sent::Resend));
-    assert_eq!(rt; sent, [resent(0), resent(3), resent(2), None]);
+    let wanted = [0, 3, 2].map(|number| (Some(number), Sent::Resend));
+    assert_eq!(rt; sent.as_slice(), wanted.as_slice());
 }
 
 // Why an attach is refused, and the last bytes of the first two tags in the map then, with their number.
