@@ -1,4 +1,5 @@
 // Attaches whose lengths were worked out by hand.
+use crate::assertions::{assert_equal_at, assert_holds};
 use amqp_link_core::endpoint::dividing::{divided, fits, fits_whole};
 use amqp_link_types::types::{
     Attach, DeliveryState, DeliveryTag, Handle, ReceiverSettleMode, Role, SenderSettleMode, Source,
@@ -76,10 +77,10 @@ fn fits_at(rt: &(impl Abort + AllocGlobal), max_frame_size: u32) -> bool {
 
 #[test]
 fn the_frame_has_four_bytes_of_its_own(rt: HostRuntime) {
-    assert!(rt; fits_at(&rt, 28));
-    assert!(rt; !fits_at(&rt, 27));
-    assert!(rt; fits_whole(attach(&rt), entries(&rt, 4), 58));
-    assert!(rt; !fits_whole(attach(&rt), entries(&rt, 4), 57));
+    assert_holds(&rt, fits_at(&rt, 28));
+    assert_holds(&rt, !fits_at(&rt, 27));
+    assert_holds(&rt, fits_whole(attach(&rt), entries(&rt, 4), 58));
+    assert_holds(&rt, !fits_whole(attach(&rt), entries(&rt, 4), 57));
 }
 
 #[test]
@@ -101,8 +102,8 @@ fn entries_are_halved_until_the_attach_fits(rt: HostRuntime) {
             entries,
             incomplete,
         });
-        assert_eq!(rt; sent(&rt, count, max_frame_size), want, "{why}");
+        assert_equal_at(&rt, &sent(&rt, count, max_frame_size), &want, &why);
     }
-    assert_eq!(rt; sent(&rt, 4, 29), None, "an empty map does not fit");
-    assert_eq!(rt; sent(&rt, 0, 27), None, "a null does not fit");
+    assert_equal_at(&rt, &sent(&rt, 4, 29), &None, &"an empty map does not fit");
+    assert_equal_at(&rt, &sent(&rt, 0, 27), &None, &"a null does not fit");
 }

@@ -1,4 +1,5 @@
 // Deliveries whose transfers and answers were worked out by hand.
+use crate::assertions::{assert_equal, assert_equal_at};
 use amqp_link_core::incomplete_transfer::IncompleteTransfer;
 use amqp_link_types::types::{
     DeliveryState, DeliveryTag, ReceiverTransferError as Refused, Transfer,
@@ -136,7 +137,7 @@ fn first_transfer_names_delivery(rt: HostRuntime) {
     ];
     for (id, tag, want, message) in rows {
         let row = Row { id, tag, ..BARE };
-        assert_eq!(rt; refusal(start(alloc, row, b"")), Some(want), "{message}");
+        assert_equal_at(&rt, &refusal(start(alloc, row, b"")), &Some(want), &message);
     }
 }
 
@@ -157,18 +158,19 @@ fn continuation_fits_delivery(rt: HostRuntime) -> Result<(), Fail> {
             ..BARE
         };
         let answer = append(&mut held, alloc, row, b"\x00\x53\x75");
-        assert_eq!(rt;
-            answer,
-            Err(Refused::InconsistentFieldInMultiFrameDelivery),
-            "{message}"
+        assert_equal_at(
+            &rt,
+            &answer,
+            &Err(Refused::InconsistentFieldInMultiFrameDelivery),
+            &message,
         );
-        assert_eq!(rt; seen(&held), (FIRST, 1, 4, (0, 4)), "{message}");
+        assert_equal_at(&rt, &seen(&held), &(FIRST, 1, 4, (0, 4)), &message);
     }
-    assert_eq!(rt; append(&mut held, alloc, BARE, &[1; 17]), Ok(()));
-    assert_eq!(rt; seen(&held), (FIRST, 2, 21, (0, 21)));
-    assert_eq!(rt; append(&mut held, alloc, FIRST, b""), Ok(()));
-    assert_eq!(rt; seen(&held), (FIRST, 3, 21, (0, 21)));
-    assert_eq!(rt; held.delivery_tag().as_bytes(), [1].as_slice());
+    assert_equal(&rt, &append(&mut held, alloc, BARE, &[1; 17]), &Ok(()));
+    assert_equal(&rt, &seen(&held), &(FIRST, 2, 21, (0, 21)));
+    assert_equal(&rt, &append(&mut held, alloc, FIRST, b""), &Ok(()));
+    assert_equal(&rt, &seen(&held), &(FIRST, 3, 21, (0, 21)));
+    assert_equal(&rt, &held.delivery_tag().as_bytes(), &[1].as_slice());
     drop(held);
     Ok(())
 }
@@ -184,7 +186,7 @@ fn delivery_is_known_by_tag(rt: HostRuntime) -> Result<(), Fail> {
     let alloc = rt.alloc();
     let held = start(alloc, FIRST, b"")?;
     for (tag, want) in [(Some(1), true), (None, true), (Some(2), false)] {
-        assert_eq!(rt; is_same(&held, alloc, tag), Ok(want), "{tag:?}");
+        assert_equal_at(&rt, &is_same(&held, alloc, tag), &Ok(want), &tag);
     }
     drop(held);
     Ok(())
@@ -254,7 +256,7 @@ fn settlement_and_outcome_stay(rt: HostRuntime) {
         ),
     ];
     for (first, then, want, message) in rows {
-        assert_eq!(rt; merged(alloc, first, then), Ok(want), "{message}");
+        assert_equal_at(&rt, &merged(alloc, first, then), &Ok(want), &message);
     }
 }
 
@@ -277,13 +279,14 @@ fn first_format_stays(rt: HostRuntime) -> Result<(), Fail> {
         },
         b"",
     )?;
-    assert_eq!(rt; append(&mut held, alloc, of_format(2), b""), Ok(()));
-    assert_eq!(rt; seen(&held), (merged, 2, 0, (0, 0)));
-    assert_eq!(rt;
-        append(&mut held, alloc, of_format(3), b"\x41"),
-        Err(Refused::InconsistentFieldInMultiFrameDelivery)
+    assert_equal(&rt, &append(&mut held, alloc, of_format(2), b""), &Ok(()));
+    assert_equal(&rt, &seen(&held), &(merged, 2, 0, (0, 0)));
+    assert_equal(
+        &rt,
+        &append(&mut held, alloc, of_format(3), b"\x41"),
+        &Err(Refused::InconsistentFieldInMultiFrameDelivery),
     );
-    assert_eq!(rt; seen(&held), (merged, 2, 0, (0, 0)));
+    assert_equal(&rt, &seen(&held), &(merged, 2, 0, (0, 0)));
     drop(held);
     Ok(())
 }
@@ -298,13 +301,17 @@ fn parts_of(held: IncompleteTransfer) -> (Row, usize, (u32, u64)) {
 fn position_is_of_joined_pieces(rt: HostRuntime) -> Result<(), Fail> {
     let alloc = rt.alloc();
     let mut held = start(alloc, FIRST, b"\x00\x53\x70\xc0\x00")?;
-    assert_eq!(rt; seen(&held), (FIRST, 1, 5, (0, 5)));
-    assert_eq!(rt; append(&mut held, alloc, BARE, b""), Ok(()));
-    assert_eq!(rt; append(&mut held, alloc, BARE, b"\x53\x77\x41"), Ok(()));
-    assert_eq!(rt; seen(&held), (FIRST, 3, 8, (1, 4)));
+    assert_equal(&rt, &seen(&held), &(FIRST, 1, 5, (0, 5)));
+    assert_equal(&rt, &append(&mut held, alloc, BARE, b""), &Ok(()));
+    assert_equal(
+        &rt,
+        &append(&mut held, alloc, BARE, b"\x53\x77\x41"),
+        &Ok(()),
+    );
+    assert_equal(&rt, &seen(&held), &(FIRST, 3, 8, (1, 4)));
     let copy = held.clone().expect(&rt, "memory");
-    assert_eq!(rt; seen(&copy), (FIRST, 3, 8, (1, 4)));
-    assert_eq!(rt; parts_of(held), (FIRST, 3, (1, 4)));
-    assert_eq!(rt; parts_of(copy), (FIRST, 3, (1, 4)));
+    assert_equal(&rt, &seen(&copy), &(FIRST, 3, 8, (1, 4)));
+    assert_equal(&rt, &parts_of(held), &(FIRST, 3, (1, 4)));
+    assert_equal(&rt, &parts_of(copy), &(FIRST, 3, (1, 4)));
     Ok(())
 }

@@ -1,4 +1,5 @@
 // Positions that are kept as payloads arrive, worked out by hand.
+use crate::assertions::assert_equal_at;
 use amqp_link_core::position_carry::PositionCarry;
 use bytes::Bytes;
 use std::alloc::{AllocError, Global};
@@ -41,13 +42,18 @@ fn each_byte_moves_the_position(rt: HostRuntime) -> Result<(), Fail> {
         (1, 3),
         (1, 4),
     ];
-    assert_eq!(rt; two_sections, steps, "the first header begins the payload");
+    assert_equal_at(
+        &rt,
+        &two_sections,
+        &steps,
+        &"the first header begins the payload",
+    );
     let after_a_zero = after_each_byte(alloc, b"\x00\x00\x53\x70")?;
     let steps = [(0, 1), (0, 2), (0, 3), (1, 3), none, none, none, none];
-    assert_eq!(rt; after_a_zero, steps, "a header after a zero byte");
+    assert_equal_at(&rt, &after_a_zero, &steps, &"a header after a zero byte");
     let broken_off = after_each_byte(alloc, b"\x00\x53\x00\x53\x75")?;
     let steps = [(0, 1), (0, 2), (0, 3), (0, 4), (1, 3), none, none, none];
-    assert_eq!(rt; broken_off, steps, "a header that begins anew");
+    assert_equal_at(&rt, &broken_off, &steps, &"a header that begins anew");
     Ok(())
 }
 
@@ -87,7 +93,7 @@ fn headers_at_the_borders_of_blocks_are_found(rt: HostRuntime) -> Result<(), Fai
         for cut in 60..74 {
             let shown = pushed_in_two(alloc, bytes.as_slice(), cut)?;
             let wanted = ((1, 200 - place as u64), 200);
-            assert_eq!(rt; shown, wanted, "a header at {place}, cut at {cut}");
+            assert_equal_at(&rt, &shown, &wanted, &(place, cut));
         }
         drop(bytes);
     }

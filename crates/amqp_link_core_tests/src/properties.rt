@@ -1,4 +1,5 @@
 //! What an endpoint states in its attach, and the properties of a link once one has arrived (2.7.3).
+use crate::assertions::{assert_equal, assert_holds_at};
 use amqp_link_core::endpoint::attached::{
     archetype_of, merged_with, name_and_properties_of, termini_of,
 };
@@ -47,7 +48,11 @@ fn properties_that_arrive_are_put_one_by_one(rt: HostRuntime) {
         named(&rt, &[]),
         named(&rt, &[("a", 1)]),
     );
-    assert_eq!(rt; (joined, taken, kept, unchanged), (true, true, true, true));
+    assert_equal(
+        &rt,
+        &(joined, taken, kept, unchanged),
+        &(true, true, true, true),
+    );
 }
 
 fn string(rt: &(impl Abort + AllocGlobal), words: &str) -> String {
@@ -75,7 +80,7 @@ fn a_target_is_sent_unchanged(rt: HostRuntime) {
     let is_wanted = fields == wanted && absent.is_none();
     drop((own, fields, wanted));
     drop(absent);
-    assert!(rt; is_wanted, "a target, and none");
+    assert_holds_at(&rt, is_wanted, &"a target, and none");
 }
 
 #[test]
@@ -90,7 +95,7 @@ fn termini_are_sent_unchanged(rt: HostRuntime) {
     let is_wanted = fields.0 == source && fields.1 == wanted;
     drop((source, own, wanted));
     drop(fields);
-    assert!(rt; is_wanted, "a source and a target");
+    assert_holds_at(&rt, is_wanted, &"a source and a target");
 }
 
 fn symbols(rt: &(impl Abort + AllocGlobal), name: &str) -> Option<Symbols> {
@@ -105,7 +110,7 @@ fn capabilities_are_sent_unchanged(rt: HostRuntime) {
     let is_wanted = fields.0 == offered && fields.1 == desired;
     drop((offered, desired));
     drop(fields);
-    assert!(rt; is_wanted, "what is offered, and what is desired");
+    assert_holds_at(&rt, is_wanted, &"what is offered, and what is desired");
 }
 
 #[test]
@@ -116,5 +121,5 @@ fn name_and_properties_are_sent_unchanged(rt: HostRuntime) {
     let is_wanted = fields.0 == name && fields.1 == own;
     drop((name, own));
     drop(fields);
-    assert!(rt; is_wanted, "the name and a property");
+    assert_holds_at(&rt, is_wanted, &"the name and a property");
 }

@@ -1,4 +1,5 @@
 //! Rows of the table that were worked out by hand.
+use crate::assertions::{assert_equal_at, assert_holds_at};
 use amqp_link_core::resumption::{Resolution, ResumingDelivery, resume_delivery};
 use amqp_link_types::delivery::UnsettledMessage;
 use amqp_link_types::types::{DeliveryState, DeliveryTag};
@@ -153,7 +154,7 @@ fn rows_without_an_own_state(rt: HostRuntime) {
         (Shown::Rejected, Answer::Ended(Shown::Rejected)),
     ];
     for (remote, want) in rows {
-        assert_eq!(rt; resolved(&rt, own, remote), want, "{remote:?}");
+        assert_equal_at(&rt, &resolved(&rt, own, remote), &want, &remote);
     }
 }
 
@@ -171,16 +172,22 @@ fn rows_of_an_own_front(rt: HostRuntime) {
         (Shown::Accepted, Answer::Ended(Shown::Accepted)),
     ];
     for (remote, want) in rows {
-        assert_eq!(rt; resolved(&rt, own, remote), want, "{remote:?}");
+        assert_equal_at(&rt, &resolved(&rt, own, remote), &want, &remote);
     }
     let first = Shown::Front(0, 0);
     let answer = resolved(&rt, first, Shown::Null);
-    assert_eq!(rt; answer, Answer::Resumed(first, 8, 8), "a front of no bytes");
+    assert_equal_at(
+        &rt,
+        &answer,
+        &Answer::Resumed(first, 8, 8),
+        &"a front of no bytes",
+    );
     let beyond = resolved_in(&rt, 0, Shown::Front(1, 5), Shown::Front(1, 2));
-    assert_eq!(rt;
-        beyond,
-        Answer::Aborted(0, Some(1)),
-        "a front beyond the other"
+    assert_equal_at(
+        &rt,
+        &beyond,
+        &Answer::Aborted(0, Some(1)),
+        &"a front beyond the other",
     );
 }
 
@@ -207,7 +214,7 @@ fn rows_of_an_own_end(rt: HostRuntime) {
         (failed, Shown::Rejected, Answer::Restated(failed, 1, 8)),
     ];
     for (own, remote, want) in rows {
-        assert_eq!(rt; resolved(&rt, own, remote), want, "{own:?} {remote:?}");
+        assert_equal_at(&rt, &resolved(&rt, own, remote), &want, &(own, remote));
     }
 }
 
@@ -221,7 +228,7 @@ fn ended_deliveries_of_format_0_are_aborted(rt: HostRuntime) {
     ];
     for own in ends {
         let answer = resolved_in(&rt, 0, own, Shown::Front(0, 0));
-        assert_eq!(rt; answer, Answer::Aborted(0, Some(1)), "{own:?}");
+        assert_equal_at(&rt, &answer, &Answer::Aborted(0, Some(1)), &own);
     }
 }
 
@@ -257,7 +264,7 @@ fn rest_has_the_bytes_from_there(rt: HostRuntime) {
         ((2, 0), EIGHT),
     ];
     for (at, want) in rows {
-        assert!(rt; is_rest(&rt, at, want), "{at:?}");
+        assert_holds_at(&rt, is_rest(&rt, at, want), &at);
     }
 }
 
@@ -273,7 +280,12 @@ fn rest_is_from_the_named_place(rt: HostRuntime) {
     ];
     for ((number, offset), rest, message) in rows {
         let answer = resolved(&rt, Shown::Null, Shown::Front(number, offset));
-        assert_eq!(rt; answer, Answer::Resumed(Shown::Null, 8, rest), "{message}");
+        assert_equal_at(
+            &rt,
+            &answer,
+            &Answer::Resumed(Shown::Null, 8, rest),
+            &message,
+        );
     }
 }
 
@@ -288,6 +300,11 @@ fn resolved_empty(alloc: Global, local: Shown, remote: Shown) -> Answer {
 fn empty_payload_is_resumed(rt: HostRuntime) -> Result<(), Fail> {
     let local = Shown::Front(1, 2);
     let answer = resolved_empty(rt.alloc(), local, local);
-    assert_eq!(rt; answer, Answer::Resumed(local, 0, 0), "an empty rest");
+    assert_equal_at(
+        &rt,
+        &answer,
+        &Answer::Resumed(local, 0, 0),
+        &"an empty rest",
+    );
     Ok(())
 }

@@ -7,6 +7,7 @@ ghost use Rattle.amqp_link_core.specs.Detaching.{detach_frame};
 ghost use Rattle.amqp_link_core.specs.LinkStates.{Call, next_state};
 ghost use Rattle.amqp_link_ends_tests.specs.Stated.{IsStatedBy, Keeps, GivesUp, Takes};
 
+use crate::assertions::assert_equal;
 use crate::samples::{coming, parts};
 use amqp_link_core::endpoint::{LinkAttach, LinkDetach, LinkExt};
 use amqp_link_receiver::receiver_link::ReceiverLink;
@@ -151,11 +152,11 @@ fn either_end_is_cut(rt: HostRuntime) {
     let sender = SenderLink::new(rt.alloc(), parts(&rt, mode, 512));
     let mut sender = sender.with_output_handle(OutputHandle(0));
     let actual = attached_and_cut(&rt, &mut sender, Role::Receiver);
-    assert_eq!(rt; actual, (true, LinkState::Detached));
+    assert_equal(&rt, &actual, &(true, LinkState::Detached));
     let receiver = ReceiverLink::new(rt.alloc(), parts(&rt, mode, 512));
     let mut receiver = receiver.with_output_handle(OutputHandle(0));
     let actual = attached_and_cut(&rt, &mut receiver, Role::Sender);
-    assert_eq!(rt; actual, (true, LinkState::Detached));
+    assert_equal(&rt, &actual, &(true, LinkState::Detached));
 }
 
 #[test]
@@ -164,9 +165,9 @@ fn either_end_is_attached_anew(rt: HostRuntime) {
     let sender = SenderLink::new(rt.alloc(), parts(&rt, mode, 512));
     let mut sender = sender.with_output_handle(OutputHandle(0));
     let actual = attached_anew(&rt, &mut sender, Role::Receiver);
-    assert_eq!(rt; actual, (true, LinkState::AttachSent));
+    assert_equal(&rt, &actual, &(true, LinkState::AttachSent));
     let receiver = ReceiverLink::new(rt.alloc(), parts(&rt, mode, 512));
     let mut receiver = receiver.with_output_handle(OutputHandle(0));
     let actual = attached_anew(&rt, &mut receiver, Role::Sender);
-    assert_eq!(rt; actual, (true, LinkState::AttachSent));
+    assert_equal(&rt, &actual, &(true, LinkState::AttachSent));
 }

@@ -1,4 +1,5 @@
 //! Worked values of ids in order, and of the runs in which dispositions name them.
+use crate::assertions::{assert_equal_at, assert_holds_at};
 use amqp_link_runs::{Run, runs_of, sort_by_id};
 use std::process::Abort;
 
@@ -28,7 +29,7 @@ fn runs_go_on_from_id_to_id(rt: HostRuntime) {
         (&[3, 2, 1], &[(3, 3), (2, 2), (1, 1)]),
     ];
     for (ids, wanted) in rows {
-        assert!(rt; are_runs(&rt, ids, wanted), "{ids:?}");
+        assert_holds_at(&rt, are_runs(&rt, ids, wanted), &ids);
     }
 }
 
@@ -62,7 +63,7 @@ fn pairs_of_one_id_stay_as_listed(rt: HostRuntime) {
         ),
     ];
     for (listed, wanted) in rows {
-        assert!(rt; are_sorted(&rt, listed, wanted), "{listed:?}");
+        assert_holds_at(&rt, are_sorted(&rt, listed, wanted), &listed);
     }
 }
 
@@ -93,6 +94,6 @@ fn more_than_twenty_pairs_are_sorted(rt: HostRuntime) {
     sort_by_id(&mut pairs).expect(&rt, "memory");
     let wanted = by_id(&rt);
     let is_wanted = pairs.as_slice() == wanted.as_slice();
-    assert_eq!(rt; wanted.len(), 30, "all pairs");
-    assert!(rt; is_wanted, "by id, then as listed");
+    assert_equal_at(&rt, &wanted.len(), &30, &"all pairs");
+    assert_holds_at(&rt, is_wanted, &"by id, then as listed");
 }

@@ -1,7 +1,8 @@
 //! What becomes of the registrations as a sender disposes of its deliveries (2.6.12, 2.7.6).
+use crate::assertions::{assert_equal, assert_equal_at};
+use crate::calls::pending_in;
 use crate::ledgers::{accepted, assert_fates, three_sent};
 use crate::samples::count_tag;
-use amqp_link_core::endpoint::LinkExt;
 use amqp_link_ledger::fate::Fate;
 use amqp_link_ledger::ledger::OutcomeLedger;
 use amqp_link_types::delivery::{DeliveryOutcome, Outcomes};
@@ -71,14 +72,14 @@ fn batch_resolves_by_tag(rt: HostRuntime) {
     drop(pairs);
     let (frames, outcomes) = answer.expect(&rt, "memory");
     let wanted = dispositions(&rt, [10, 12, 12, 99], true);
-    assert_eq!(rt; frames, wanted);
+    assert_equal(&rt, &frames, &wanted);
     drop((frames, wanted));
     let wanted = two_outcomes(&rt);
-    assert_eq!(rt; outcomes, wanted, "in the order of the numbers");
+    assert_equal_at(&rt, &outcomes, &wanted, &"in the order of the numbers");
     drop((outcomes, wanted));
     let resolved = Fate::Resolved(Ok(None));
     assert_fates(&rt, &ledger, &[accepted(), Fate::Pending, resolved]);
-    assert_eq!(rt; ledger.unsettled().len(), 1);
+    assert_equal(&rt, &pending_in(&ledger), &1);
     drop(ledger);
 }
 
@@ -90,12 +91,12 @@ fn unsettled_batch_resolves_nothing(rt: HostRuntime) {
     drop(pairs);
     let (frames, outcomes) = answer.expect(&rt, "memory");
     let wanted = dispositions(&rt, [10, 12, 12, 99], false);
-    assert_eq!(rt; frames, wanted);
+    assert_equal(&rt, &frames, &wanted);
     drop((frames, wanted));
-    assert_eq!(rt; outcomes.len(), 0);
+    assert_equal(&rt, &outcomes.len(), &0);
     drop(outcomes);
     assert_fates(&rt, &ledger, &[Fate::Pending, Fate::Pending, Fate::Pending]);
-    assert_eq!(rt; ledger.unsettled().len(), 3);
+    assert_equal(&rt, &pending_in(&ledger), &3);
     drop(ledger);
 }
 
@@ -106,11 +107,11 @@ fn settled_disposition_resolves_one(rt: HostRuntime) {
     let answer = ledger.dispose(10, &tag, true, DeliveryState::Released, false);
     let (frames, outcomes) = answer.expect(&rt, "memory");
     let wanted = dispositions(&rt, [10], true);
-    assert_eq!(rt; frames, wanted);
+    assert_equal(&rt, &frames, &wanted);
     drop((frames, wanted));
     let wanted = vec![in rt.alloc(); (tag, Ok(Some(DeliveryState::Accepted)))];
     let wanted: Outcomes = wanted.expect(&rt, "memory");
-    assert_eq!(rt; outcomes, wanted);
+    assert_equal(&rt, &outcomes, &wanted);
     drop((outcomes, wanted));
     assert_fates(&rt, &ledger, &[accepted(), Fate::Pending, Fate::Pending]);
     drop(ledger);
@@ -127,7 +128,7 @@ fn other_dispositions_resolve_nothing(rt: HostRuntime) {
         let lengths = (frames.len(), outcomes.len());
         drop((frames, outcomes));
         drop(tag);
-        assert_eq!(rt; lengths, (1, 0), "{count} {settled}");
+        assert_equal_at(&rt, &lengths, &(1, 0), &(count, settled));
         assert_fates(&rt, &ledger, &[Fate::Pending, Fate::Pending, Fate::Pending]);
     }
     drop(ledger);

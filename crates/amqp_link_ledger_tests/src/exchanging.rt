@@ -1,7 +1,8 @@
 //! What becomes of the registrations as a ledger is attached again, by each kind of answer (2.6.13).
+use crate::assertions::{assert_equal, assert_holds, assert_holds_at};
+use crate::calls::{pending_in, put_back, send_attach, state_of, take_attach};
 use crate::ledgers::{accepted, assert_fates, new_ledger};
 use crate::samples::{attach_of, count_tag};
-use amqp_link_core::endpoint::{LinkAttach, LinkExt};
 use amqp_link_core::resumption::ResumingDelivery;
 use amqp_link_ledger::fate::Fate;
 use amqp_link_ledger::ledger::OutcomeLedger;
@@ -48,8 +49,8 @@ fn register(
     count: u8,
     state: Option<DeliveryState>,
 ) {
-    let put = went(ledger.put_back(count_tag(rt, count), entry_with(state)));
-    assert!(rt; put, "a free tag");
+    let put = put_back(ledger, count_tag(rt, count), entry_with(state));
+    assert_holds_at(rt, put, &"a free tag");
 }
 
 // A ledger that has sent its attach, with six deliveries: the last two have an outcome, one of their own and
@@ -62,8 +63,8 @@ fn attaching_with_six(rt: &(impl Abort + AllocGlobal)) -> OutcomeLedger<Target> 
     register(rt, &mut ledger, 3, Some(failed()));
     register(rt, &mut ledger, 4, Some(DeliveryState::Accepted));
     register(rt, &mut ledger, 5, None);
-    let sent = went(ledger.send_attach(false));
-    assert!(rt; sent, "the attach is sent");
+    let sent = went(send_attach(&mut ledger, false));
+    assert_holds_at(rt, sent, &"the attach is sent");
     ledger
 }
 
@@ -74,7 +75,7 @@ fn put(
     state: Option<DeliveryState>,
 ) {
     let put = went(map.put(count_tag(rt, count), state));
-    assert!(rt; put, "memory");
+    assert_holds_at(rt, put, &"memory");
 }
 
 // The attach of a receiver that knows nothing of the deliveries 0 and 4, and one that the sender does not.
@@ -153,18 +154,18 @@ fn assert_six_fates(rt: &impl Abort, ledger: &OutcomeLedger<Target>) {
 #[test]
 fn exchange_moves_each_fate(rt: HostRuntime) {
     let mut ledger = attaching_with_six(&rt);
-    let answer = ledger.on_incoming_attach(attach_with_five(&rt));
+    let answer = take_attach(&mut ledger, attach_with_five(&rt));
     let (exchange, outcomes) = answer.expect(&rt, "an attach that is accepted");
     let deliveries = list_of(exchange).expect(&rt, "complete maps");
     assert_six_fates(&rt, &ledger);
     let wanted = wanted_deliveries(&rt);
-    assert_eq!(rt; deliveries, wanted);
+    assert_equal(&rt, &deliveries, &wanted);
     drop((deliveries, wanted));
     let wanted = wanted_outcomes(&rt);
-    assert_eq!(rt; outcomes, wanted);
+    assert_equal(&rt, &outcomes, &wanted);
     drop((outcomes, wanted));
-    assert_eq!(rt; *ledger.local_state(), LinkState::Attached);
-    assert_eq!(rt; ledger.unsettled().len(), 0);
+    assert_equal(&rt, &state_of(&ledger), &LinkState::Attached);
+    assert_equal(&rt, &pending_in(&ledger), &0);
     drop(ledger);
 }
 
@@ -174,11 +175,11 @@ fn incomplete_exchange_moves_each_fate(rt: HostRuntime) {
     let mut ledger = attaching_with_six(&rt);
     let mut attach = attach_with_five(&rt);
     attach.incomplete_unsettled = true;
-    let answer = ledger.on_incoming_attach(attach);
+    let answer = take_attach(&mut ledger, attach);
     let (exchange, outcomes) = answer.expect(&rt, "an attach that is accepted");
     let is_incomplete = matches!(&exchange, SenderAttachExchange::IncompleteUnsettled(_));
     assert_six_fates(&rt, &ledger);
     drop((exchange, outcomes));
     drop(ledger);
-    assert!(rt; is_incomplete);
+    assert_holds(&rt, is_incomplete);
 }

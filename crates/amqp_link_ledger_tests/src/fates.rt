@@ -1,10 +1,11 @@
 //! A ledger worked by hand: what becomes of each registration.
+use crate::assertions::{assert_equal, assert_holds_at};
+use crate::calls::{pending_in, put_back, set_max_frame_size, take_attach, withdraw};
 use crate::ledgers::{
     Sent, accepted, assert_fates, attached, entry_of, ledger_round, new_ledger, new_link, put,
     reattach, send, three_sent,
 };
 use crate::samples::{attach_of, count_tag, payload_of};
-use amqp_link_core::endpoint::{LinkAttach, LinkExt};
 use amqp_link_core::resumption::ResumingDelivery;
 use amqp_link_ledger::fate::Fate;
 use amqp_link_ledger::ledger::OutcomeLedger;
@@ -21,26 +22,26 @@ use std::process::Abort;
 // The second of three deliveries is withdrawn, and the first is accepted and settled.
 fn end_two(rt: &(impl Abort + AllocGlobal), ledger: &mut OutcomeLedger<Target>) {
     let second = count_tag(rt, 1);
-    let entry = ledger.withdraw(&second);
+    let entry = withdraw(ledger, &second);
     let wanted = Some(entry_of(rt, None));
-    assert_eq!(rt; entry, wanted);
+    assert_equal(rt, &entry, &wanted);
     drop((entry, wanted));
     let first = count_tag(rt, 0);
     let state = Some(DeliveryState::Accepted);
     let answer = ledger.on_incoming_disposition(true, state, &first);
     let DispositionAnswer { echo, outcome } = answer.expect(rt, "memory");
     let wanted = Some((count_tag(rt, 0), Ok(Some(DeliveryState::Accepted))));
-    assert_eq!(rt; outcome, wanted);
+    assert_equal(rt, &outcome, &wanted);
     drop((outcome, wanted));
     drop((first, second));
-    assert!(rt; !echo, "a settled disposition is not answered");
+    assert_holds_at(rt, !echo, &"a settled disposition is not answered");
 }
 
 // A ledger with the tags 00000000, 00000001 and 00000002, that are put back.
 fn three_put(rt: &(impl Abort + AllocGlobal)) -> OutcomeLedger<Target> {
     let mut ledger = new_ledger(rt, SenderSettleMode::Unsettled);
     for count in [0u8, 1, 2] {
-        assert!(rt; put(rt, &mut ledger, count), "a free tag");
+        assert_holds_at(rt, put(rt, &mut ledger, count), &"a free tag");
     }
     ledger
 }
@@ -63,8 +64,8 @@ fn closed() -> Fate {
 fn delivery_put_back_has_a_new_number(rt: HostRuntime) {
     let mut ledger = three_put(&rt);
     end_two(&rt, &mut ledger);
-    assert!(rt; put(&rt, &mut ledger, 1), "a withdrawn tag");
-    assert!(rt; !put(&rt, &mut ledger, 2), "a pending tag");
+    assert_holds_at(&rt, put(&rt, &mut ledger, 1), &"a withdrawn tag");
+    assert_holds_at(&rt, !put(&rt, &mut ledger, 2), &"a pending tag");
     let closing = detach(true);
     drop(ledger.fail_pending_unsettled(&closing));
     drop(closing);
@@ -97,17 +98,17 @@ fn last_resent(exchange: SenderAttachExchange) -> Option<(DeliveryTag, Unsettled
 // back.
 fn exchange_and_put_back(rt: &(impl Abort + AllocGlobal), ledger: &mut OutcomeLedger<Target>) {
     reattach(rt, ledger);
-    let answer = ledger.on_incoming_attach(empty_attach(rt));
+    let answer = take_attach(ledger, empty_attach(rt));
     let (exchange, outcomes) = answer.expect(rt, "an attach that is accepted");
-    assert_eq!(rt; outcomes.len(), 0);
+    assert_equal(rt, &outcomes.len(), &0);
     drop(outcomes);
     let resent = last_resent(exchange).expect(rt, "a delivery to send again");
     let wanted = (count_tag(rt, 2), entry_of(rt, None));
-    assert_eq!(rt; resent, wanted);
+    assert_equal(rt, &resent, &wanted);
     drop(wanted);
     let (tag, entry) = resent;
-    let put = went(ledger.put_back(tag, entry));
-    assert!(rt; put, "a free tag");
+    let put = put_back(ledger, tag, entry);
+    assert_holds_at(rt, put, &"a free tag");
 }
 
 #[test]
@@ -125,13 +126,13 @@ fn each_registration_has_its_fate(rt: HostRuntime) {
 fn refused_send_makes_no_number(rt: HostRuntime) {
     let mut ledger = attached(&rt, SenderSettleMode::Unsettled, 2);
     let payload = payload_of(&rt, &[7]);
-    ledger.set_max_frame_size(24);
-    assert_eq!(rt; send(&mut ledger, &payload), Sent::NoRoom);
+    set_max_frame_size(&mut ledger, 24);
+    assert_equal(&rt, &send(&mut ledger, &payload), &Sent::NoRoom);
     assert_fates(&rt, &ledger, &[]);
-    ledger.set_max_frame_size(512);
-    assert_eq!(rt; send(&mut ledger, &payload), Sent::Unsettled);
-    ledger.set_max_frame_size(24);
-    assert_eq!(rt; send(&mut ledger, &payload), Sent::NoRoom);
+    set_max_frame_size(&mut ledger, 512);
+    assert_equal(&rt, &send(&mut ledger, &payload), &Sent::Unsettled);
+    set_max_frame_size(&mut ledger, 24);
+    assert_equal(&rt, &send(&mut ledger, &payload), &Sent::NoRoom);
     assert_fates(&rt, &ledger, &[Fate::Pending]);
     drop((payload, ledger));
 }
@@ -141,11 +142,11 @@ fn refused_send_makes_no_number(rt: HostRuntime) {
 fn new_ledger_registers_what_is_pending(rt: HostRuntime) {
     let mut link = new_link(&rt, SenderSettleMode::Unsettled);
     let put = went(link.put_back(count_tag(&rt, 5), entry_of(&rt, None)));
-    assert!(rt; put, "a free tag");
+    assert_holds_at(&rt, put, &"a free tag");
     let mut ledger = ledger_round(&rt, link);
     assert_fates(&rt, &ledger, &[Fate::Pending]);
-    assert_eq!(rt; ledger.link().unsettled().len(), 1);
-    drop(ledger.withdraw(&count_tag(&rt, 5)));
+    assert_equal(&rt, &pending_in(&ledger), &1);
+    drop(withdraw(&mut ledger, &count_tag(&rt, 5)));
     assert_fates(&rt, &ledger, &[Fate::Withdrawn]);
     drop(ledger);
 }

@@ -1,6 +1,8 @@
 //! An allocation that is refused, whichever it is, loses nothing: the refused call leaves the fates and the
 //! map as they were, and made again it returns what it would have returned. Run by hand with `rt try --test
 //! --fail-alloc N`.
+use crate::assertions::{assert_equal, assert_equal_at};
+use crate::calls::{credit_of, pending_in, send_detach, set_output_handle, state_of, take_reply};
 use crate::ledgers::{Sent, send, sent_as};
 use amqp_link_core::endpoint::{LinkAttach, LinkDetach, LinkExt};
 use amqp_link_ledger::fate::Fate;
@@ -104,9 +106,9 @@ fn standing_of(ledger: &OutcomeLedger<Target>) -> Standing {
     Standing {
         fates: fates_of(ledger),
         tags,
-        pending: ledger.unsettled().len(),
-        state: *ledger.local_state(),
-        credit: ledger.flow_state().link_credit(),
+        pending: pending_in(ledger),
+        state: state_of(ledger),
+        credit: credit_of(ledger),
     }
 }
 
@@ -296,9 +298,9 @@ fn settle_both(ledger: &mut Ledger, alloc: Global) -> Result<Answer, AllocError>
 }
 
 fn detach_to_and_fro(ledger: &mut Ledger) -> Answer {
-    let is_sent = went(ledger.send_detach(false, None));
-    let is_answered = went(ledger.on_detach_reply(detach(false)));
-    *ledger.output_handle_mut() = Some(OutputHandle(0));
+    let is_sent = went(send_detach(ledger, false));
+    let is_answered = went(take_reply(ledger, detach(false)));
+    set_output_handle(ledger, Some(OutputHandle(0)));
     Answer::Done(is_sent && is_answered)
 }
 
@@ -341,14 +343,14 @@ fn again(rt: &(impl Abort + AllocGlobal), ledger: &mut Ledger, call: Call) -> An
     if let Ok(answer) = make(ledger, rt.alloc(), call) {
         return answer;
     }
-    assert_eq!(rt; standing_of(ledger), before, "{call:?}");
+    assert_equal_at(rt, &standing_of(ledger), &before, &call);
     make(ledger, rt.alloc(), call).unwrap_or(Answer::Refused)
 }
 
 fn expect_answers(rt: &(impl Abort + AllocGlobal), ledger: &mut Ledger, calls: &[(Call, Answer)]) {
     for (call, wanted) in calls {
         let answer = again(rt, ledger, *call);
-        assert_eq!(rt; answer, *wanted, "{call:?}");
+        assert_equal_at(rt, &answer, wanted, &call);
     }
 }
 
@@ -380,7 +382,12 @@ fn ledger_round(
         Ok(ledger) => return ledger,
         Err(link) => link,
     };
-    assert_eq!(rt; link.unsettled().len(), pending, "the link comes back");
+    assert_equal_at(
+        rt,
+        &link.unsettled().len(),
+        &pending,
+        &"the link comes back",
+    );
     OutcomeLedger::new(rt.alloc(), link)
         .ok()
         .expect(rt, "memory")
@@ -423,7 +430,7 @@ fn refused_growth_loses_nothing(rt: HostRuntime) {
         state: LinkState::Attached,
         credit: 0,
     };
-    assert_eq!(rt; left, wanted);
+    assert_equal(&rt, &left, &wanted);
 }
 
 // The delivery that the link had is accepted by the receiver's attach; of three others two are settled in a batch,
@@ -454,6 +461,6 @@ fn refused_growth_resolves_nothing(rt: HostRuntime) {
         Shown::Closed,
         Shown::Nothing,
     ];
-    assert_eq!(rt; left.fates, fates);
-    assert_eq!(rt; left.pending, 0);
+    assert_equal(&rt, &left.fates, &fates);
+    assert_equal(&rt, &left.pending, &0);
 }

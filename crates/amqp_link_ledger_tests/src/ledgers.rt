@@ -1,6 +1,10 @@
 //! Ledgers that are brought to a state by public calls, and the fates that they show.
+use crate::assertions::{assert_equal, assert_equal_at, assert_holds_at};
+use crate::calls::{
+    put_back, send_attach, send_detach, set_output_handle, state_of, take_attach, take_flow,
+    take_reply,
+};
 use crate::samples::{attach_of, count_tag, parts, payload_of};
-use amqp_link_core::endpoint::{LinkAttach, LinkDetach, LinkExt};
 use amqp_link_ledger::fate::Fate;
 use amqp_link_ledger::ledger::OutcomeLedger;
 use amqp_link_sender::{SenderLink, Sending, Waiting};
@@ -45,13 +49,14 @@ pub(crate) fn attached(
     credit: u32,
 ) -> OutcomeLedger<Target> {
     let mut ledger = new_ledger(rt, mode);
-    drop(ledger.send_attach(false));
-    drop(ledger.on_incoming_attach(attach_of(rt, Role::Receiver, mode)));
-    drop(ledger.on_incoming_flow(LinkFlow {
+    drop(send_attach(&mut ledger, false));
+    drop(take_attach(&mut ledger, attach_of(rt, Role::Receiver, mode)));
+    let flow = LinkFlow {
         link_credit: Some(credit),
         ..LinkFlow::default()
-    }));
-    assert_eq!(rt; *ledger.local_state(), LinkState::Attached);
+    };
+    drop(take_flow(&mut ledger, flow));
+    assert_equal(rt, &state_of(&ledger), &LinkState::Attached);
     ledger
 }
 
@@ -111,7 +116,7 @@ pub(crate) fn three_sent(
     let mut ledger = attached(rt, mode, 3);
     let payload = payload_of(rt, &[7]);
     for _ in 0..3 {
-        assert_eq!(rt; send(&mut ledger, &payload), Sent::Unsettled);
+        assert_equal(rt, &send(&mut ledger, &payload), &Sent::Unsettled);
     }
     drop(payload);
     ledger
@@ -131,16 +136,16 @@ pub(crate) fn put(
     ledger: &mut OutcomeLedger<Target>,
     count: u8,
 ) -> bool {
-    went(ledger.put_back(count_tag(rt, count), entry_of(rt, None)))
+    put_back(ledger, count_tag(rt, count), entry_of(rt, None))
 }
 
 // Detaches an attached link, and sends its attach again.
 pub(crate) fn reattach(rt: &(impl Abort + AllocGlobal), ledger: &mut OutcomeLedger<Target>) {
-    drop(ledger.send_detach(false, None));
-    drop(ledger.on_detach_reply(detach(false)));
-    *ledger.output_handle_mut() = Some(OutputHandle(0));
-    let sent = went(ledger.send_attach(false));
-    assert!(rt; sent, "the attach is sent again");
+    drop(send_detach(ledger, false));
+    drop(take_reply(ledger, detach(false)));
+    set_output_handle(ledger, Some(OutputHandle(0)));
+    let sent = went(send_attach(ledger, false));
+    assert_holds_at(rt, sent, &"the attach is sent again");
 }
 
 pub(crate) fn accepted() -> Fate {
@@ -150,8 +155,13 @@ pub(crate) fn accepted() -> Fate {
 // The registrations have these fates, and there is no other.
 pub(crate) fn assert_fates(rt: &impl Abort, ledger: &OutcomeLedger<Target>, wanted: &[Fate]) {
     for (number, fate) in wanted.iter().enumerate() {
-        assert_eq!(rt; ledger.fate(number), Some(fate), "registration {number}");
+        assert_equal_at(rt, &ledger.fate(number), &Some(fate), &number);
     }
-    assert_eq!(rt; ledger.fate(wanted.len()), None, "past the last number");
-    assert_eq!(rt; ledger.fate(usize::MAX), None, "the greatest number");
+    assert_equal_at(
+        rt,
+        &ledger.fate(wanted.len()),
+        &None,
+        &"past the last number",
+    );
+    assert_equal_at(rt, &ledger.fate(usize::MAX), &None, &"the greatest number");
 }

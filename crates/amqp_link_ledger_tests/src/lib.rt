@@ -2,7 +2,11 @@
 #![tactic(auto)]
 
 #[cfg(test)]
+mod assertions;
+#[cfg(test)]
 mod batches;
+#[cfg(test)]
+mod calls;
 #[cfg(test)]
 mod exchanging;
 #[cfg(test)]

@@ -1,7 +1,8 @@
 //! A ledger of ten thousand deliveries.
+use crate::assertions::{assert_equal, assert_equal_at, assert_holds_at};
+use crate::calls::pending_in;
 use crate::ledgers::{Sent, attached, send};
 use crate::samples::payload_of;
-use amqp_link_core::endpoint::LinkExt;
 use amqp_link_ledger::fate::Fate;
 use amqp_link_ledger::ledger::OutcomeLedger;
 use amqp_link_types::types::{DeliveryState, DeliveryTag, SenderSettleMode, Target};
@@ -16,7 +17,7 @@ fn tag_of(rt: &(impl Abort + AllocGlobal), count: u32) -> DeliveryTag {
 fn send_many(rt: &(impl Abort + AllocGlobal), ledger: &mut OutcomeLedger<Target>) {
     let payload = payload_of(rt, &[7]);
     for count in 0..MANY {
-        assert_eq!(rt; send(ledger, &payload), Sent::Unsettled, "{count}");
+        assert_equal_at(rt, &send(ledger, &payload), &Sent::Unsettled, &count);
     }
     drop(payload);
 }
@@ -29,7 +30,7 @@ fn accept(rt: &(impl Abort + AllocGlobal), ledger: &mut OutcomeLedger<Target>, c
     let answer = answer.expect(rt, "memory");
     let is_ended = answer.outcome.is_some();
     drop((answer, tag));
-    assert!(rt; is_ended, "{count}");
+    assert_holds_at(rt, is_ended, &count);
 }
 
 // The last delivery is settled first.
@@ -37,15 +38,15 @@ fn accept(rt: &(impl Abort + AllocGlobal), ledger: &mut OutcomeLedger<Target>, c
 fn ten_thousand_deliveries_are_accepted(rt: HostRuntime) {
     let mut ledger = attached(&rt, SenderSettleMode::Unsettled, MANY);
     send_many(&rt, &mut ledger);
-    assert_eq!(rt; ledger.unsettled().len(), 10_000);
+    assert_equal(&rt, &pending_in(&ledger), &10_000);
     for count in (0..MANY).rev() {
         accept(&rt, &mut ledger, count);
     }
-    assert_eq!(rt; ledger.unsettled().len(), 0);
+    assert_equal(&rt, &pending_in(&ledger), &0);
     let accepted = Fate::Resolved(Ok(Some(DeliveryState::Accepted)));
     for number in 0..10_000usize {
-        assert_eq!(rt; ledger.fate(number), Some(&accepted), "{number}");
+        assert_equal_at(&rt, &ledger.fate(number), &Some(&accepted), &number);
     }
-    assert_eq!(rt; ledger.fate(10_000), None);
+    assert_equal(&rt, &ledger.fate(10_000), &None);
     drop((accepted, ledger));
 }

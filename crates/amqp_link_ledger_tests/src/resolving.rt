@@ -1,8 +1,12 @@
 //! What ends all registrations at once: a new attach and a detach that closes; and what ends none.
+use crate::assertions::{assert_equal, assert_equal_at, assert_holds, assert_holds_at};
+use crate::calls::{
+    pending_in, send_attach, send_detach, set_output_handle, state_of, take_attach, take_reply,
+};
 use crate::ledgers::{assert_fates, attached, new_ledger, put, reattach, three_sent};
 use crate::samples::{attach_of, count_tag};
+use amqp_link_core::endpoint::LinkDetach;
 use amqp_link_core::endpoint::dividing::attach_frame;
-use amqp_link_core::endpoint::{LinkAttach, LinkDetach, LinkExt};
 use amqp_link_ledger::fate::Fate;
 use amqp_link_ledger::ledger::OutcomeLedger;
 use amqp_link_sender::SenderAttachExchange;
@@ -49,13 +53,13 @@ fn assert_resolved(rt: &impl Abort, ledger: &OutcomeLedger<Target>, ended: Ended
         Fate::Resolved(outcome_of(ended)),
     ];
     assert_fates(rt, ledger, &wanted);
-    assert_eq!(rt; ledger.unsettled().len(), 0);
+    assert_equal(rt, &pending_in(ledger), &0);
 }
 
 // The fates of the three deliveries that are pending.
 fn assert_pending(rt: &impl Abort, ledger: &OutcomeLedger<Target>) {
     assert_fates(rt, ledger, &[Fate::Pending, Fate::Pending, Fate::Pending]);
-    assert_eq!(rt; ledger.unsettled().len(), 3);
+    assert_equal(rt, &pending_in(ledger), &3);
 }
 
 // An attach and its answer are those of the link.
@@ -63,17 +67,17 @@ fn assert_pending(rt: &impl Abort, ledger: &OutcomeLedger<Target>) {
 fn attaches_are_those_of_the_link(rt: HostRuntime) {
     let mode = SenderSettleMode::Mixed;
     let mut ledger = new_ledger(&rt, mode);
-    let sent = ledger.send_attach(false).expect(&rt, "an attach is sent");
+    let sent = send_attach(&mut ledger, false).expect(&rt, "an attach is sent");
     let frame = attach_frame(rt.alloc(), attach_of(&rt, Role::Sender, mode));
     let wanted = (frame.expect(&rt, "memory"), Vec::new(rt.alloc()));
-    assert_eq!(rt; sent, wanted);
+    assert_equal(&rt, &sent, &wanted);
     drop((sent, wanted));
-    let answer = ledger.on_incoming_attach(attach_of(&rt, Role::Receiver, mode));
+    let answer = take_attach(&mut ledger, attach_of(&rt, Role::Receiver, mode));
     let (exchange, outcomes) = answer.expect(&rt, "an attach that is accepted");
     let is_complete = matches!(&exchange, SenderAttachExchange::Complete);
-    assert_eq!(rt; outcomes.len(), 0);
+    assert_equal(&rt, &outcomes.len(), &0);
     drop((exchange, outcomes));
-    assert!(rt; is_complete);
+    assert_holds(&rt, is_complete);
     assert_fates(&rt, &ledger, &[]);
     drop(ledger);
 }
@@ -82,15 +86,15 @@ fn attaches_are_those_of_the_link(rt: HostRuntime) {
 #[test]
 fn new_attach_resolves_all(rt: HostRuntime) {
     let mut ledger = three_sent(&rt, SenderSettleMode::Mixed);
-    drop(ledger.send_detach(false, None));
-    drop(ledger.on_detach_reply(detach(false)));
-    *ledger.output_handle_mut() = Some(OutputHandle(0));
+    drop(send_detach(&mut ledger, false));
+    drop(take_reply(&mut ledger, detach(false)));
+    set_output_handle(&mut ledger, Some(OutputHandle(0)));
     assert_pending(&rt, &ledger);
-    let sent = ledger.send_attach(true);
+    let sent = send_attach(&mut ledger, true);
     let (frame, outcomes) = sent.expect(&rt, "an attach is sent");
     drop(frame);
     let wanted = all_three(&rt, Ended::Illegal);
-    assert_eq!(rt; outcomes, wanted);
+    assert_equal(&rt, &outcomes, &wanted);
     drop((outcomes, wanted));
     assert_resolved(&rt, &ledger, Ended::Illegal);
     drop(ledger);
@@ -108,10 +112,10 @@ fn refusal_of<A>(answer: &Result<A, SenderAttachError>) -> Option<Refusal> {
 #[test]
 fn refused_new_attach_resolves_nothing(rt: HostRuntime) {
     let mut ledger = three_sent(&rt, SenderSettleMode::Mixed);
-    let sent = ledger.send_attach(true);
+    let sent = send_attach(&mut ledger, true);
     let refusal = refusal_of(&sent);
     drop(sent);
-    assert_eq!(rt; refusal, Some(Refusal::IllegalState));
+    assert_equal(&rt, &refusal, &Some(Refusal::IllegalState));
     assert_pending(&rt, &ledger);
     drop(ledger);
 }
@@ -123,10 +127,10 @@ fn refused_attach_resolves_nothing(rt: HostRuntime) {
     reattach(&rt, &mut ledger);
     assert_pending(&rt, &ledger);
     let attach = attach_of(&rt, Role::Receiver, SenderSettleMode::Settled);
-    let answer = ledger.on_incoming_attach(attach);
+    let answer = take_attach(&mut ledger, attach);
     let refusal = refusal_of(&answer);
     drop(answer);
-    assert_eq!(rt; refusal, Some(Refusal::SndSettleModeNotSupported));
+    assert_equal(&rt, &refusal, &Some(Refusal::SndSettleModeNotSupported));
     assert_pending(&rt, &ledger);
     drop(ledger);
 }
@@ -139,14 +143,14 @@ fn closed_for_a_failed_attach_resolves_nothing(rt: HostRuntime) {
     let (error, action) = answer.expect(&rt, "memory");
     let actual = (at_sender(&error), asked_by(&action));
     drop((error, action));
-    assert_eq!(rt; *ledger.local_state(), LinkState::CloseSent);
+    assert_equal(&rt, &state_of(&ledger), &LinkState::CloseSent);
     assert_pending(&rt, &ledger);
     drop(ledger);
     let wanted = (
         Refusal::CoordinatorIsNotImplemented,
         Asked::CloseAsNotImplemented,
     );
-    assert_eq!(rt; actual, wanted);
+    assert_equal(&rt, &actual, &wanted);
 }
 
 // A detach that the peer initiates, and that closes, resolves all; the reply closes as well.
@@ -156,10 +160,10 @@ fn closing_detach_resolves_all(rt: HostRuntime) {
     let closing = detach(true);
     let answer = ledger.on_incoming_detach(&closing, true);
     let (reply, outcomes) = answer.expect(&rt, "memory");
-    assert_eq!(rt; reply, Some(closing));
+    assert_equal(&rt, &reply, &Some(closing));
     drop(reply);
     let wanted = all_three(&rt, Ended::Closed);
-    assert_eq!(rt; outcomes, wanted);
+    assert_equal(&rt, &outcomes, &wanted);
     drop((outcomes, wanted));
     assert_resolved(&rt, &ledger, Ended::Closed);
     drop(ledger);
@@ -176,7 +180,7 @@ fn other_detaches_resolve_nothing(rt: HostRuntime) {
         let answered = (reply.is_some(), outcomes.len());
         drop((reply, outcomes));
         drop(detach);
-        assert_eq!(rt; answered, (remote_initiated, 0), "{closed}");
+        assert_equal_at(&rt, &answered, &(remote_initiated, 0), &closed);
         assert_pending(&rt, &ledger);
     }
     drop(ledger);
@@ -186,21 +190,21 @@ fn other_detaches_resolve_nothing(rt: HostRuntime) {
 #[test]
 fn detaches_are_those_of_the_link(rt: HostRuntime) {
     let mut ledger = three_sent(&rt, SenderSettleMode::Mixed);
-    let sent = ledger.send_detach(true, None);
+    let sent = send_detach(&mut ledger, true);
     let frame = sent.expect(&rt, "a detach is sent");
-    assert_eq!(rt; frame, LinkFrame::Detach(detach(true)));
+    assert_equal(&rt, &frame, &LinkFrame::Detach(detach(true)));
     drop(frame);
-    assert_eq!(rt; *ledger.local_state(), LinkState::CloseSent);
+    assert_equal(&rt, &state_of(&ledger), &LinkState::CloseSent);
     assert_pending(&rt, &ledger);
-    let is_taken = ledger.on_detach_reply(detach(true)).is_ok();
-    assert!(rt; is_taken, "the reply");
-    assert_eq!(rt; *ledger.local_state(), LinkState::Closed);
+    let is_taken = take_reply(&mut ledger, detach(true)).is_ok();
+    assert_holds_at(&rt, is_taken, &"the reply");
+    assert_equal(&rt, &state_of(&ledger), &LinkState::Closed);
     assert_pending(&rt, &ledger);
     drop(ledger);
     let mut ledger = attached(&rt, SenderSettleMode::Mixed, 0);
     let is_taken = ledger.apply_remote_detach_outcome(detach(false)).is_ok();
-    assert!(rt; is_taken, "a detach that the peer initiates");
-    assert_eq!(rt; *ledger.local_state(), LinkState::Detached);
+    assert_holds_at(&rt, is_taken, &"a detach that the peer initiates");
+    assert_equal(&rt, &state_of(&ledger), &LinkState::Detached);
     drop(ledger);
 }
 
@@ -222,7 +226,7 @@ fn closed_with_error(rt: &(impl Abort + AllocGlobal)) -> DeliveryOutcome {
 #[test]
 fn error_of_a_detach_is_the_outcome(rt: HostRuntime) {
     let mut ledger = new_ledger(&rt, SenderSettleMode::Mixed);
-    assert!(rt; put(&rt, &mut ledger, 3), "a free tag");
+    assert_holds_at(&rt, put(&rt, &mut ledger, 3), &"a free tag");
     let closing = Detach {
         handle: Handle(0),
         closed: true,
@@ -233,7 +237,7 @@ fn error_of_a_detach_is_the_outcome(rt: HostRuntime) {
     let outcomes = outcomes.expect(&rt, "memory");
     let wanted = vec![in rt.alloc(); (count_tag(&rt, 3), closed_with_error(&rt))];
     let wanted: Outcomes = wanted.expect(&rt, "memory");
-    assert_eq!(rt; outcomes, wanted);
+    assert_equal(&rt, &outcomes, &wanted);
     drop((outcomes, wanted));
     assert_fates(&rt, &ledger, &[Fate::Resolved(closed_with_error(&rt))]);
     drop(ledger);

@@ -1,10 +1,11 @@
 //! Which sends are registrations.
+use crate::assertions::{assert_equal, assert_equal_at, assert_holds};
+use crate::calls::{send_rest, set_max_frame_size};
 use crate::ledgers::{
     Sent, assert_fates, attached, entry_of, new_ledger, put, send, send_flagged, sent_as,
     three_sent,
 };
 use crate::samples::{count_tag, payload_of};
-use amqp_link_core::endpoint::LinkExt;
 use amqp_link_ledger::fate::Fate;
 use amqp_link_ledger::ledger::OutcomeLedger;
 use amqp_link_sender::{Sending, Waiting};
@@ -52,7 +53,7 @@ fn unsettled_payload_is_a_registration(rt: HostRuntime) {
         settlement: Settlement::Unsettled(count_tag(&rt, 0)),
         frames: frame_of(&rt, transfer),
     };
-    assert_eq!(rt; sending, wanted);
+    assert_equal(&rt, &sending, &wanted);
     drop((sending, wanted));
     drop(payload);
     assert_fates(&rt, &ledger, &[Fate::Pending]);
@@ -65,13 +66,13 @@ fn settled_payload_is_no_registration(rt: HostRuntime) {
     let mut ledger = attached(&rt, SenderSettleMode::Mixed, 2);
     let payload = payload_of(&rt, &[7]);
     let settled = send_flagged(&mut ledger, &payload, Some(true));
-    assert_eq!(rt; settled, Sent::Settled);
+    assert_equal(&rt, &settled, &Sent::Settled);
     assert_fates(&rt, &ledger, &[]);
     let unsettled = send_flagged(&mut ledger, &payload, Some(false));
-    assert_eq!(rt; unsettled, Sent::Unsettled);
+    assert_equal(&rt, &unsettled, &Sent::Unsettled);
     assert_fates(&rt, &ledger, &[Fate::Pending]);
     let refused = send_flagged(&mut ledger, &payload, Some(false));
-    assert_eq!(rt; refused, Sent::CreditMissing);
+    assert_equal(&rt, &refused, &Sent::CreditMissing);
     assert_fates(&rt, &ledger, &[Fate::Pending]);
     drop((payload, ledger));
 }
@@ -82,7 +83,7 @@ fn mode_settled_registers_nothing(rt: HostRuntime) {
     let mut ledger = attached(&rt, SenderSettleMode::Settled, 1);
     let payload = payload_of(&rt, &[7]);
     let settled = send_flagged(&mut ledger, &payload, Some(false));
-    assert_eq!(rt; settled, Sent::Settled);
+    assert_equal(&rt, &settled, &Sent::Settled);
     assert_fates(&rt, &ledger, &[]);
     drop((payload, ledger));
 }
@@ -96,7 +97,7 @@ fn waiting_detach_makes_no_number(rt: HostRuntime) {
     let refused = ledger.send_payload(waiting, &payload, 0, None, None, false);
     let is_detached = matches!(&refused, Err(LinkStateError::RemoteDetached));
     drop((refused, payload));
-    assert!(rt; is_detached);
+    assert_holds(&rt, is_detached);
     assert_fates(&rt, &ledger, &[Fate::Pending, Fate::Pending, Fate::Pending]);
     drop(ledger);
 }
@@ -121,15 +122,15 @@ fn unsettled_transfer_is_a_registration(rt: HostRuntime) {
     let sent = send_with(&mut ledger, &payload, transfer_of(&rt, 1, false));
     let sent = sent.expect(&rt, "a transfer is sent");
     let wanted = (Sent::Unsettled, frame_of(&rt, transfer_of(&rt, 1, false)));
-    assert_eq!(rt; sent, wanted);
+    assert_equal(&rt, &sent, &wanted);
     drop((sent, wanted));
     assert_fates(&rt, &ledger, &[Fate::Pending]);
     let refused = send_with(&mut ledger, &payload, transfer_of(&rt, 1, false)).err();
-    assert_eq!(rt; refused, Some(LinkStateError::TagPending));
+    assert_equal(&rt, &refused, &Some(LinkStateError::TagPending));
     drop(refused);
     let settled = send_with(&mut ledger, &payload, transfer_of(&rt, 1, true));
     let settled = settled.ok().map(|(sent, _)| sent);
-    assert_eq!(rt; settled, Some(Sent::Settled));
+    assert_equal(&rt, &settled, &Some(Sent::Settled));
     assert_fates(&rt, &ledger, &[Fate::Pending]);
     drop((payload, ledger));
 }
@@ -141,17 +142,17 @@ fn resumed_transfer_is_a_registration(rt: HostRuntime) {
     let rest = payload_of(&rt, &[7]);
     let transfer = transfer_of(&rt, 4, false);
     let entry = entry_of(&rt, None);
-    let sent = ledger.send_unsettled_transfer(transfer, &rest, count_tag(&rt, 4), entry);
-    let frames = sent.ok().expect(&rt, "a transfer is sent");
+    let sent = send_rest(&mut ledger, transfer, &rest, count_tag(&rt, 4), entry);
+    let frames = sent.expect(&rt, "a transfer is sent");
     let wanted = frame_of(&rt, transfer_of(&rt, 4, false));
-    assert_eq!(rt; frames, wanted);
+    assert_equal(&rt, &frames, &wanted);
     drop((frames, wanted));
     assert_fates(&rt, &ledger, &[Fate::Pending]);
     let transfer = transfer_of(&rt, 4, false);
     let entry = entry_of(&rt, None);
-    let sent = ledger.send_unsettled_transfer(transfer, &rest, count_tag(&rt, 4), entry);
-    let refused = sent.err().map(|(error, _)| error);
-    assert_eq!(rt; refused, Some(LinkStateError::TagPending));
+    let sent = send_rest(&mut ledger, transfer, &rest, count_tag(&rt, 4), entry);
+    let refused = sent.err();
+    assert_equal(&rt, &refused, &Some(LinkStateError::TagPending));
     drop((refused, rest));
     assert_fates(&rt, &ledger, &[Fate::Pending]);
     drop(ledger);
@@ -162,16 +163,17 @@ fn resumed_transfer_is_a_registration(rt: HostRuntime) {
 fn refused_payload_is_no_registration(rt: HostRuntime) {
     let payload = payload_of(&rt, &[7]);
     let mut ledger = new_ledger(&rt, SenderSettleMode::Mixed);
-    assert_eq!(rt;
-        send(&mut ledger, &payload),
-        Sent::IllegalState,
-        "no input handle"
+    assert_equal_at(
+        &rt,
+        &send(&mut ledger, &payload),
+        &Sent::IllegalState,
+        &"no input handle",
     );
     assert_fates(&rt, &ledger, &[]);
     drop(ledger);
     let mut ledger = attached(&rt, SenderSettleMode::Mixed, 1);
-    assert!(rt; put(&rt, &mut ledger, 0));
-    assert_eq!(rt; send(&mut ledger, &payload), Sent::TagPending);
+    assert_holds(&rt, put(&rt, &mut ledger, 0));
+    assert_equal(&rt, &send(&mut ledger, &payload), &Sent::TagPending);
     assert_fates(&rt, &ledger, &[Fate::Pending]);
     drop((payload, ledger));
 }
@@ -180,15 +182,15 @@ fn refused_payload_is_no_registration(rt: HostRuntime) {
 #[test]
 fn transfer_without_room_is_no_registration(rt: HostRuntime) {
     let mut ledger = attached(&rt, SenderSettleMode::Mixed, 0);
-    ledger.set_max_frame_size(24);
+    set_max_frame_size(&mut ledger, 24);
     let payload = payload_of(&rt, &[7]);
     let refused = send_with(&mut ledger, &payload, transfer_of(&rt, 1, false)).err();
-    assert_eq!(rt; refused, Some(LinkStateError::NoRoom));
+    assert_equal(&rt, &refused, &Some(LinkStateError::NoRoom));
     let transfer = transfer_of(&rt, 4, false);
     let entry = entry_of(&rt, None);
-    let sent = ledger.send_unsettled_transfer(transfer, &payload, count_tag(&rt, 4), entry);
-    let again = sent.err().map(|(error, _)| error);
-    assert_eq!(rt; again, Some(LinkStateError::NoRoom));
+    let sent = send_rest(&mut ledger, transfer, &payload, count_tag(&rt, 4), entry);
+    let again = sent.err();
+    assert_equal(&rt, &again, &Some(LinkStateError::NoRoom));
     assert_fates(&rt, &ledger, &[]);
     drop((refused, again));
     drop((payload, ledger));
@@ -201,5 +203,5 @@ fn no_transfer_is_taken(rt: HostRuntime) {
     let refused = ledger.on_incoming_transfer(Transfer::default(), payload_of(&rt, &[7]));
     let refused = refused.err();
     drop(ledger);
-    assert_eq!(rt; refused, Some(LinkRelayError::TransferFrameToSender));
+    assert_equal(&rt, &refused, &Some(LinkRelayError::TransferFrameToSender));
 }

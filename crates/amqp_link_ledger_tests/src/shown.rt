@@ -1,4 +1,6 @@
 //! What a ledger shows of its link, and the flows that it takes.
+use crate::assertions::{assert_equal, assert_holds_at};
+use crate::calls::{credit_of, handles_of, pending_in, set_output_handle, take_flow};
 use crate::ledgers::{assert_fates, attached, new_ledger, three_sent};
 use crate::samples::fields;
 use amqp_link_core::endpoint::LinkExt;
@@ -11,20 +13,21 @@ use amqp_link_types::types::{
 #[test]
 fn ledger_shows_its_link(rt: HostRuntime) {
     let ledger = new_ledger(&rt, SenderSettleMode::Unsettled);
-    assert_eq!(rt; ledger.name(), "l");
-    assert_eq!(rt; *ledger.rcv_settle_mode(), ReceiverSettleMode::First);
-    assert_eq!(rt; ledger.max_message_size(), None);
-    assert_eq!(rt; ledger.unsettled().len(), 0);
-    assert_eq!(rt; ledger.link().output_handle(), Some(OutputHandle(0)));
-    assert_eq!(rt; ledger.link().input_handle(), None);
-    assert_eq!(rt;
-        ledger.link().snd_settle_mode(),
-        SenderSettleMode::Unsettled
+    assert_equal(&rt, &ledger.name(), &"l");
+    assert_equal(&rt, ledger.rcv_settle_mode(), &ReceiverSettleMode::First);
+    assert_equal(&rt, &ledger.max_message_size(), &None);
+    assert_equal(&rt, &pending_in(&ledger), &0);
+    assert_equal(&rt, &handles_of(&ledger), &(Some(OutputHandle(0)), None));
+    assert_equal(
+        &rt,
+        &ledger.link().snd_settle_mode(),
+        &SenderSettleMode::Unsettled,
     );
     drop(ledger);
     let ledger = attached(&rt, SenderSettleMode::Mixed, 2);
-    assert_eq!(rt; ledger.link().input_handle(), Some(InputHandle(0)));
-    assert_eq!(rt; ledger.flow_state().link_credit(), 2);
+    let handles = (Some(OutputHandle(0)), Some(InputHandle(0)));
+    assert_equal(&rt, &handles_of(&ledger), &handles);
+    assert_equal(&rt, &credit_of(&ledger), &2);
     drop(ledger);
 }
 
@@ -37,8 +40,8 @@ fn properties_are_those_of_the_link(rt: HostRuntime) {
     let is_set = *ledger.properties() == wanted && *ledger.link().properties() == wanted;
     drop(wanted);
     drop(ledger);
-    assert!(rt; has_none, "none at first");
-    assert!(rt; is_set, "the property of the link");
+    assert_holds_at(&rt, has_none, &"none at first");
+    assert_holds_at(&rt, is_set, &"the property of the link");
 }
 
 // A flow that asks for an answer gets one, and the registrations stay.
@@ -59,13 +62,13 @@ fn flow_is_answered(rt: HostRuntime) {
         drain: false,
         echo: false,
     };
-    let answer = reply_fields(ledger.on_incoming_flow(flow));
-    assert_eq!(rt; answer, Ok(Some(wanted)));
-    assert_eq!(rt; ledger.flow_state().link_credit(), 8);
+    let answer = reply_fields(take_flow(&mut ledger, flow));
+    assert_equal(&rt, &answer, &Ok(Some(wanted)));
+    assert_equal(&rt, &credit_of(&ledger), &8);
     assert_fates(&rt, &ledger, &[Fate::Pending, Fate::Pending, Fate::Pending]);
-    *ledger.output_handle_mut() = None;
-    let answer = reply_fields(ledger.on_incoming_flow(LinkFlow::default()));
-    assert_eq!(rt; answer, Err(LinkRelayError::UnattachedHandle));
+    set_output_handle(&mut ledger, None);
+    let answer = reply_fields(take_flow(&mut ledger, LinkFlow::default()));
+    assert_equal(&rt, &answer, &Err(LinkRelayError::UnattachedHandle));
     assert_fates(&rt, &ledger, &[Fate::Pending, Fate::Pending, Fate::Pending]);
     drop(ledger);
 }

@@ -1,4 +1,5 @@
 //! Worked values of a receiver's attaches.
+use crate::assertions::{assert_equal, assert_equal_at, assert_holds_at};
 use crate::led::lead_to;
 use crate::samples::{attach_of, coming, fields, parts};
 use crate::transfers::{begins_next, transfer_arrives};
@@ -23,10 +24,11 @@ fn smaller_message_limit_holds(rt: HostRuntime) {
         (7, Some(0), 7),
         (0, None, 0),
     ] {
-        assert_eq!(rt;
-            get_max_message_size(own, theirs),
-            wanted,
-            "{own} and {theirs:?}"
+        assert_equal_at(
+            &rt,
+            &get_max_message_size(own, theirs),
+            &wanted,
+            &(own, theirs),
         );
     }
 }
@@ -42,16 +44,24 @@ fn incoming_properties_are_taken(rt: HostRuntime) {
     let is_taken = *link.properties() == wanted;
     drop(wanted);
     drop(link);
-    assert_eq!(rt; answer, Ok(ReceiverAttachExchange::Complete));
-    assert!(rt; is_taken, "the property is the link's");
+    assert_equal(&rt, &answer, &Ok(ReceiverAttachExchange::Complete));
+    assert_holds_at(&rt, is_taken, &"the property is the link's");
 }
 
 #[test]
 fn unfinished_exchanges_are_errors(rt: HostRuntime) {
-    assert_eq!(rt; ReceiverAttachExchange::Complete.complete_or(7u8), Ok(()));
-    assert_eq!(rt; ReceiverAttachExchange::Resume.complete_or(7u8), Err(7));
+    assert_equal(
+        &rt,
+        &ReceiverAttachExchange::Complete.complete_or(7u8),
+        &Ok(()),
+    );
+    assert_equal(
+        &rt,
+        &ReceiverAttachExchange::Resume.complete_or(7u8),
+        &Err(7),
+    );
     let incomplete = ReceiverAttachExchange::IncompleteUnsettled;
-    assert_eq!(rt; incomplete.complete_or(7u8), Err(7));
+    assert_equal(&rt, &incomplete.complete_or(7u8), &Err(7));
 }
 
 // The link "l" of mode second with output handle 0, brought to this state at count 0. More transfers of a
@@ -152,10 +162,11 @@ fn incoming_attach_is_taken_as_far_as_it_goes(rt: HostRuntime) {
         (LinkState::Attached, Some(5), true, untouched),
     ] {
         let attach = settling(&rt, count, has_source);
-        assert_eq!(rt;
-            left_by(&rt, state, attach),
-            left,
-            "{count:?} {has_source} in {state:?}"
+        assert_equal_at(
+            &rt,
+            &left_by(&rt, state, attach),
+            &left,
+            &(count, has_source, state),
         );
     }
 }
@@ -165,7 +176,7 @@ fn incoming_attach_is_taken_as_far_as_it_goes(rt: HostRuntime) {
 fn target_of_another_kind_is_refused(rt: HostRuntime) {
     let parts = parts_to_nowhere(rt.alloc(), SenderSettleMode::Mixed).expect(&rt, "memory");
     let mut link = ReceiverLink::new(rt.alloc(), parts);
-    assert_eq!(rt; link.input_handle(), None);
+    assert_equal(&rt, &link.input_handle(), &None);
     let attach = attach_of(&rt, Role::Sender, SenderSettleMode::Settled);
     let answer = taken_by(link.on_incoming_attach(attach));
     let left = (
@@ -174,17 +185,17 @@ fn target_of_another_kind_is_refused(rt: HostRuntime) {
         link.snd_settle_mode(),
     );
     drop(link);
-    assert_eq!(rt; answer, Err(Refusal::CoordinatorIsNotImplemented));
+    assert_equal(&rt, &answer, &Err(Refusal::CoordinatorIsNotImplemented));
     let wanted = (LinkState::AttachReceived, true, SenderSettleMode::Settled);
-    assert_eq!(rt; left, wanted, "what it leaves");
+    assert_equal_at(&rt, &left, &wanted, &"what it leaves");
 }
 
 // A link shows the output handle that its session gives it.
 #[test]
 fn output_handle_is_shown(rt: HostRuntime) {
     let link = ReceiverLink::new(rt.alloc(), parts(&rt, SenderSettleMode::Mixed, 512));
-    assert_eq!(rt; link.output_handle(), None);
+    assert_equal(&rt, &link.output_handle(), &None);
     let link = link.with_output_handle(OutputHandle(4));
-    assert_eq!(rt; link.output_handle(), Some(OutputHandle(4)));
+    assert_equal(&rt, &link.output_handle(), &Some(OutputHandle(4)));
     drop(link);
 }

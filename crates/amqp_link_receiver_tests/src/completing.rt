@@ -1,6 +1,7 @@
 //! Worked values of complete deliveries.
 ghost use Rattle.std.specs.Prelude.{[], Ok, Err};
 
+use crate::assertions::{assert_equal, assert_equal_at, assert_holds};
 use crate::led::lead_to;
 use crate::samples::{count_tag, parts, payload_of};
 use amqp_link_core::endpoint::LinkExt;
@@ -172,7 +173,7 @@ fn unsettled_delivery_is_given_and_kept(rt: HostRuntime) {
         place: Some((0, 2)),
     };
     let given = given_unsettled(&rt);
-    assert_eq!(rt; given, (Some((7, 3, Some(1), Some(5))), true, left));
+    assert_equal(&rt, &given, &(Some((7, 3, Some(1), Some(5))), true, left));
 }
 
 // The mode of a delivery that is given.
@@ -223,10 +224,10 @@ fn settled_delivery_is_given_and_not_kept(rt: HostRuntime) {
         place: None,
     };
     let given = given_settled(&rt);
-    assert_eq!(rt; given, (Some((7, 3, Some(1), Some(5))), true, left));
-    assert_eq!(rt; mode_given(&rt, true), Some(None));
+    assert_equal(&rt, &given, &(Some((7, 3, Some(1), Some(5))), true, left));
+    assert_equal(&rt, &mode_given(&rt, true), &Some(None));
     let second = Some(Some(ReceiverSettleMode::Second));
-    assert_eq!(rt; mode_given(&rt, false), second);
+    assert_equal(&rt, &mode_given(&rt, false), &second);
 }
 
 // The number of a delivery that was not read, its tag's only byte, and why.
@@ -288,7 +289,7 @@ fn refused_body_costs_the_credit_and_is_kept(rt: HostRuntime) {
         place: Some((0, 1)),
     };
     let why = DecodeError::NotOneDataSection;
-    assert_eq!(rt; unread(&rt), (Some((3, 1, why)), left));
+    assert_equal(&rt, &unread(&rt), &(Some((3, 1, why)), left));
 }
 
 // The name of the error of a refused transfer.
@@ -386,16 +387,16 @@ fn shown_second(rt: &(impl Abort + AllocGlobal), mode: ReceiverSettleMode) -> (S
 fn wrong_transfers_cost_the_credit(rt: HostRuntime) {
     let first = (Shown::DeliveryIdIsNone, spent(0));
     let again = (Shown::TransferLimitExceeded, spent(0));
-    assert_eq!(rt; shown_twice(&rt), [first, again]);
+    assert_equal(&rt, &shown_twice(&rt), &[first, again]);
     let untagged = shown_untagged(&rt);
     let second = shown_second(&rt, ReceiverSettleMode::First);
     let refused = [
         (Shown::DeliveryTagIsNone, spent(1)),
         (Shown::IllegalMode, spent(1)),
     ];
-    assert_eq!(rt; [untagged, second], refused);
+    assert_equal(&rt, &[untagged, second], &refused);
     let given = shown_second(&rt, ReceiverSettleMode::Second);
-    assert!(rt; given.0 == Shown::Given);
+    assert_holds(&rt, given.0 == Shown::Given);
 }
 
 // A transfer ends a delivery in this state.
@@ -417,16 +418,16 @@ fn link_that_is_not_attached_takes_nothing(rt: HostRuntime) {
         LinkState::Closed,
     ] {
         let actual = shown_in(&rt, state);
-        assert_eq!(rt; actual, (Shown::IllegalState, untouched(2)), "in {state:?}");
+        assert_equal_at(&rt, &actual, &(Shown::IllegalState, untouched(2)), &state);
     }
     let left = Left {
         entries: 1,
         ..untouched(2)
     };
     let actual = shown_in(&rt, LinkState::IncompleteAttachSent);
-    assert_eq!(rt; actual, (Shown::IllegalState, left));
+    assert_equal(&rt, &actual, &(Shown::IllegalState, left));
     let (actual, _) = shown_in(&rt, LinkState::IncompleteAttachExchanged);
-    assert_eq!(rt; actual, Shown::Given);
+    assert_equal(&rt, &actual, &Shown::Given);
 }
 
 // A transfer ends a delivery on a link without output handle.
@@ -444,7 +445,7 @@ fn without_handle_the_delivery_is_kept_and_not_given(rt: HostRuntime) {
         ..spent(1)
     };
     let actual = shown_without_handle(&rt);
-    assert_eq!(rt; actual, (Shown::IllegalState, left));
+    assert_equal(&rt, &actual, &(Shown::IllegalState, left));
 }
 
 // A body that refuses all bytes.
@@ -517,10 +518,15 @@ fn body_of_a_user_refuses_or_is_out_of_memory(rt: HostRuntime) {
         place: Some((0, 2)),
         ..spent(0)
     };
-    assert_eq!(rt;
-        source_with::<Refusing>(&rt),
-        (Some(DecodeError::Refused), kept)
+    assert_equal(
+        &rt,
+        &source_with::<Refusing>(&rt),
+        &(Some(DecodeError::Refused), kept),
     );
     let starved = source_with::<Starved>(&rt);
-    assert_eq!(rt; starved, (Some(DecodeError::OutOfMemory), untouched(1)));
+    assert_equal(
+        &rt,
+        &starved,
+        &(Some(DecodeError::OutOfMemory), untouched(1)),
+    );
 }

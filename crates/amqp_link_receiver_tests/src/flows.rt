@@ -1,4 +1,5 @@
 //! Worked values of a receiver's flows (2.6.7).
+use crate::assertions::{assert_equal, assert_equal_at, assert_holds, assert_holds_at};
 use crate::samples::{fields, parts};
 use amqp_link_core::endpoint::LinkExt;
 use amqp_link_receiver::ReceiverLink;
@@ -103,8 +104,8 @@ fn sender_flow_carries_its_count_and_available(rt: HostRuntime) {
         ..stated(7, 4, false, false)
     };
     let (back, out) = back_and_out(&rt);
-    assert_eq!(rt; back, Ok(Some(reply)));
-    assert_eq!(rt; out, Ok(Some(stated(7, 4, false, true))));
+    assert_equal(&rt, &back, &Ok(Some(reply)));
+    assert_equal(&rt, &out, &Ok(Some(stated(7, 4, false, true))));
 }
 
 // The reply to a flow with this count and credit that asks for no echo, and the count, the credit and the
@@ -150,14 +151,15 @@ fn credit_is_the_receivers_own(rt: HostRuntime) {
     for own in EDGES {
         for count in EDGES {
             for credit in [None, Some(0), Some(u32::MAX)] {
-                assert!(rt;
+                assert_holds_at(
+                    &rt,
                     keeps_its_credit(&rt, own, Some(count), credit),
-                    "{credit:?} and {count} at {own}"
+                    &(credit, count, own),
                 );
             }
         }
-        assert!(rt; keeps_its_credit(&rt, own, None, Some(9)));
-        assert!(rt; keeps_its_credit(&rt, own, None, None));
+        assert_holds(&rt, keeps_its_credit(&rt, own, None, Some(9)));
+        assert_holds(&rt, keeps_its_credit(&rt, own, None, None));
     }
 }
 
@@ -185,7 +187,7 @@ fn what_is_given_is_set_and_stated(rt: HostRuntime) {
                 Ok(Some(stated(count, credit, false, false))),
             ];
             let sent = sent_in_turn(&rt, count, credit);
-            assert_eq!(rt; sent, wanted, "{credit} at {count}");
+            assert_equal_at(&rt, &sent, &wanted, &(credit, count));
         }
     }
 }
@@ -219,7 +221,7 @@ fn sends_properties(rt: &(impl Abort + AllocGlobal)) -> bool {
 
 #[test]
 fn properties_go_out_where_they_are_asked_for(rt: HostRuntime) {
-    assert!(rt; sends_properties(&rt));
+    assert_holds(&rt, sends_properties(&rt));
 }
 
 // The flow that is sent and the reply to one without output handle, and the count and the credit then.
@@ -248,5 +250,5 @@ fn without_handle(
 fn without_handle_no_flow_is_taken_or_sent(rt: HostRuntime) {
     let out = Err(FlowError::IllegalState);
     let back = Err(LinkRelayError::UnattachedHandle);
-    assert_eq!(rt; without_handle(&rt), (out, back, (5, 4, false)));
+    assert_equal(&rt, &without_handle(&rt), &(out, back, (5, 4, false)));
 }

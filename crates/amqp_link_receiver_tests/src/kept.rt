@@ -1,4 +1,5 @@
 //! The entries of a receiver for deliveries that arrive in parts.
+use crate::assertions::{assert_equal, assert_equal_at, assert_holds};
 use crate::samples::{count_tag, parts};
 use amqp_link_core::endpoint::LinkExt;
 use amqp_link_receiver::ReceiverLink;
@@ -31,8 +32,11 @@ fn place_at(link: &ReceiverLink<Target>, tag: &DeliveryTag) -> Option<(u32, u64)
 fn state_without_tag_is_refused(rt: HostRuntime) {
     let mut link = link_in(&rt);
     let actual = link.on_transfer_state(&None, Some(true), DeliveryState::Accepted);
-    assert!(rt; matches!(actual, Err(ReceiverTransferError::DeliveryTagIsNone)));
-    assert_eq!(rt; link.unsettled().len(), 0);
+    assert_holds(
+        &rt,
+        matches!(actual, Err(ReceiverTransferError::DeliveryTagIsNone)),
+    );
+    assert_equal(&rt, &link.unsettled().len(), &0);
     drop(link);
 }
 
@@ -53,7 +57,7 @@ fn fronts_kept(rt: &(impl Abort + AllocGlobal)) -> ([(bool, Option<(u32, u64)>);
 #[test]
 fn place_of_a_front_is_kept(rt: HostRuntime) {
     let kept = [(true, Some((0, 5))), (true, Some((1, 2)))];
-    assert_eq!(rt; fronts_kept(&rt), (kept, 1));
+    assert_equal(&rt, &fronts_kept(&rt), &(kept, 1));
 }
 
 // The entry of a delivery.
@@ -103,9 +107,12 @@ fn keeping(rt: &(impl Abort + AllocGlobal), tag: &DeliveryTag, kept: Kept) -> Re
     let mut link = link_in(rt);
     if kept != Kept::Nothing {
         drop(link.on_incomplete_transfer(tag, 9, 9));
-        assert!(rt; !link.on_incoming_disposition(false, state_of(kept), tag));
+        assert_holds(
+            rt,
+            !link.on_incoming_disposition(false, state_of(kept), tag),
+        );
     }
-    assert_eq!(rt; kept_of(&link, tag), kept);
+    assert_equal(rt, &kept_of(&link, tag), &kept);
     link
 }
 
@@ -141,10 +148,11 @@ fn states_that_transfers_carry(rt: HostRuntime) {
         (Kept::Released, Some(true), Kept::Accepted, Kept::Nothing),
         (Kept::Nothing, Some(true), second, Kept::Nothing),
     ] {
-        assert_eq!(rt;
-            kept_after(&rt, before, settled, stated),
-            (true, wanted),
-            "{stated:?} after {before:?}, settled {settled:?}"
+        assert_equal_at(
+            &rt,
+            &kept_after(&rt, before, settled, stated),
+            &(true, wanted),
+            &(stated, before, settled),
         );
     }
 }

@@ -1,4 +1,5 @@
 //! A receiver that is brought to each of its states by public calls.
+use crate::assertions::assert_equal;
 use crate::samples::{coming, count_tag};
 use amqp_link_core::endpoint::{LinkAttach, LinkDetach, LinkExt};
 use amqp_link_receiver::ReceiverLink;
@@ -70,5 +71,5 @@ pub(crate) fn lead_to(
         }
         _ => {}
     }
-    assert_eq!(rt; *link.local_state(), state);
+    assert_equal(rt, link.local_state(), &state);
 }

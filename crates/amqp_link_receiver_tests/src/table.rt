@@ -1,5 +1,6 @@
 //! A receiver in each of its states: the rows of the standard's table (2.6.3 to 2.6.6), and the attaches that
 //! it sends.
+use crate::assertions::{assert_equal, assert_equal_at, assert_holds, assert_holds_at};
 use crate::attaching::taken_by;
 use crate::led::lead_to;
 use crate::samples::{coming, count_tag, parts};
@@ -43,7 +44,7 @@ fn attaches_that_are_sent(rt: HostRuntime) {
         let call = Call::SendAttach(incomplete);
         for (place, state) in STATES.iter().enumerate() {
             let actual = attached_in(&rt, *state, limit);
-            assert_eq!(rt; actual, wanted(call, place), "{call:?} in {state:?}");
+            assert_equal_at(&rt, &actual, &wanted(call, place), &(call, state));
         }
     }
 }
@@ -65,7 +66,7 @@ fn incoming_attaches(rt: HostRuntime) {
         let call = Call::IncomingAttach(incomplete);
         for (place, state) in STATES.iter().enumerate() {
             let actual = taken_in(&rt, *state, incomplete);
-            assert_eq!(rt; actual, wanted(call, place), "{call:?} in {state:?}");
+            assert_equal_at(&rt, &actual, &wanted(call, place), &(call, state));
         }
     }
 }
@@ -83,7 +84,7 @@ fn detaches_that_are_sent(rt: HostRuntime) {
         let call = Call::SendDetach(closed);
         for (place, state) in STATES.iter().enumerate() {
             let actual = detach_in(&rt, *state, closed);
-            assert_eq!(rt; actual, wanted(call, place), "{call:?} in {state:?}");
+            assert_equal_at(&rt, &actual, &wanted(call, place), &(call, state));
         }
     }
 }
@@ -105,7 +106,7 @@ fn detaches_that_answer(rt: HostRuntime) {
         let call = Call::DetachReply(closed);
         for (place, state) in STATES.iter().enumerate() {
             let actual = answered_in(&rt, *state, closed);
-            assert_eq!(rt; actual, wanted(call, place), "{call:?} in {state:?}");
+            assert_equal_at(&rt, &actual, &wanted(call, place), &(call, state));
         }
     }
 }
@@ -123,7 +124,7 @@ fn detaches_of_the_other_end(rt: HostRuntime) {
         let call = Call::RemoteDetach(closed);
         for (place, state) in STATES.iter().enumerate() {
             let actual = left_in(&rt, *state, closed);
-            assert_eq!(rt; actual, wanted(call, place), "{call:?} in {state:?}");
+            assert_equal_at(&rt, &actual, &wanted(call, place), &(call, state));
         }
     }
 }
@@ -148,8 +149,8 @@ fn refused_unattached(rt: &(impl Abort + AllocGlobal)) -> bool {
 
 #[test]
 fn refused_detaches_name_the_state(rt: HostRuntime) {
-    assert_eq!(rt; refused_without_handle(&rt), (true, true));
-    assert!(rt; refused_unattached(&rt));
+    assert_equal(&rt, &refused_without_handle(&rt), &(true, true));
+    assert_holds(&rt, refused_unattached(&rt));
 }
 
 // Without its delivery, but with an empty map and the mark, an attach has 26 bytes: it fits a frame of
@@ -163,7 +164,7 @@ fn attach_that_fits_no_frame_is_refused(rt: HostRuntime) {
         } else {
             LinkState::Detached
         };
-        assert_eq!(rt; actual, (fits, state), "at {limit}");
+        assert_equal_at(&rt, &actual, &(fits, state), &limit);
     }
     let mut link = link_in(&rt, LinkState::Detached, 29);
     let is_too_large = matches!(
@@ -171,7 +172,7 @@ fn attach_that_fits_no_frame_is_refused(rt: HostRuntime) {
         Err(ReceiverAttachError::AttachTooLarge)
     );
     drop(link);
-    assert!(rt; is_too_large, "no entry fits");
+    assert_holds_at(&rt, is_too_large, &"no entry fits");
 }
 
 // What follows if the sender states a delivery, in a complete map or an incomplete one.
@@ -211,10 +212,11 @@ fn named_deliveries_are_resumed(rt: HostRuntime) {
             ReceiverAttachExchange::IncompleteUnsettled,
         ),
     ] {
-        assert_eq!(rt;
-            exchanged(&rt, state, incomplete),
-            Ok(wanted),
-            "{incomplete} in {state:?}"
+        assert_equal_at(
+            &rt,
+            &exchanged(&rt, state, incomplete),
+            &Ok(wanted),
+            &(incomplete, state),
         );
     }
 }
@@ -260,13 +262,15 @@ fn fields_after_a_detach(
 // link that is reattached keeps none.
 #[test]
 fn reattach_forgets_what_was_unsettled(rt: HostRuntime) {
-    assert_eq!(rt;
-        fields_after_a_detach(&rt, false),
-        (Some((Some(40), true)), 1)
+    assert_equal(
+        &rt,
+        &fields_after_a_detach(&rt, false),
+        &(Some((Some(40), true)), 1),
     );
-    assert_eq!(rt;
-        fields_after_a_detach(&rt, true),
-        (Some((Some(24), false)), 0)
+    assert_equal(
+        &rt,
+        &fields_after_a_detach(&rt, true),
+        &(Some((Some(24), false)), 0),
     );
 }
 
@@ -274,7 +278,7 @@ fn reattach_forgets_what_was_unsettled(rt: HostRuntime) {
 #[test]
 fn complete_attach_is_measured(rt: HostRuntime) {
     let link = link_in(&rt, LinkState::Unattached, 512);
-    assert_eq!(rt; link.complete_attach_fits(44, 0), Ok(true));
-    assert_eq!(rt; link.complete_attach_fits(43, 0), Ok(false));
+    assert_equal(&rt, &link.complete_attach_fits(44, 0), &Ok(true));
+    assert_equal(&rt, &link.complete_attach_fits(43, 0), &Ok(false));
     drop(link);
 }

@@ -1,4 +1,5 @@
 //! The results of the transfers that arrive at a receiver, for the session.
+use crate::assertions::{assert_equal, assert_equal_at};
 use crate::samples::{count_tag, parts, payload_of};
 use amqp_link_receiver::ReceiverLink;
 use amqp_link_types::frame::LinkFrame;
@@ -57,7 +58,7 @@ fn link_in(
     let link = ReceiverLink::new(rt.alloc(), parts);
     let mut link = link.with_output_handle(OutputHandle(0));
     let has_name = transfer_arrives(rt, &mut link, more);
-    assert_eq!(rt; has_name, mode == ReceiverSettleMode::Second);
+    assert_equal(rt, &has_name, &(mode == ReceiverSettleMode::Second));
     link
 }
 
@@ -150,10 +151,11 @@ fn session_gets_unsettled_transfers_in_mode_second(rt: HostRuntime) {
                 name,
             };
             let begins = link != first && !more;
-            assert_eq!(rt;
-                named_after(&rt, link, transfer, more),
-                (Some(shown), begins),
-                "{transfer:?} at {link:?}"
+            assert_equal_at(
+                &rt,
+                &named_after(&rt, link, transfer, more),
+                &(Some(shown), begins),
+                &(transfer, link),
             );
         }
     }

@@ -1,4 +1,5 @@
 //! A receiver verifies the termini of the sender's attach, and what follows an attach that has failed.
+use crate::assertions::{assert_equal, assert_equal_at};
 use crate::attaching::taken_by;
 use crate::samples::{attach_of, fields, parts};
 use amqp_link_core::endpoint::{LinkAttach, LinkExt};
@@ -59,7 +60,7 @@ fn missing_filters_are_named_in_order(rt: HostRuntime) {
     );
     drop((some, all));
     drop((desired, supported));
-    assert_eq!(rt; actual, (true, true, true));
+    assert_equal(&rt, &actual, &(true, true, true));
 }
 
 // What is wrong of a sender's attach.
@@ -151,7 +152,7 @@ fn termini_are_verified_where_asked_for(rt: HostRuntime) {
         LinkState::Attached,
         SenderSettleMode::Settled,
     );
-    assert_eq!(rt; left_by(&rt, true, Fault::Nothing), taken);
+    assert_equal(&rt, &left_by(&rt, true, Fault::Nothing), &taken);
     for (fault, refusal, mode) in [
         (
             Fault::FilterIsMissing,
@@ -185,9 +186,9 @@ fn termini_are_verified_where_asked_for(rt: HostRuntime) {
         ),
     ] {
         let wanted = (Err(refusal), LinkState::Attached, mode);
-        assert_eq!(rt; left_by(&rt, true, fault), wanted, "{fault:?}");
+        assert_equal_at(&rt, &left_by(&rt, true, fault), &wanted, &fault);
         if fault != Fault::CountIsMissing {
-            assert_eq!(rt; left_by(&rt, false, fault), taken, "{fault:?} unverified");
+            assert_equal_at(&rt, &left_by(&rt, false, fault), &taken, &fault);
         }
     }
 }
@@ -208,36 +209,40 @@ fn handled(
 
 #[test]
 fn each_error_has_its_action(rt: HostRuntime) {
-    assert_eq!(rt;
-        handled(&rt, ReceiverAttachError::DuplicatedLinkName),
-        (
+    assert_equal(
+        &rt,
+        &handled(&rt, ReceiverAttachError::DuplicatedLinkName),
+        &(
             Refusal::DuplicatedLinkName,
             Asked::EndAsInUse,
-            LinkState::Attached
-        )
+            LinkState::Attached,
+        ),
     );
-    assert_eq!(rt;
-        handled(&rt, ReceiverAttachError::IncomingSourceIsNone),
-        (
+    assert_equal(
+        &rt,
+        &handled(&rt, ReceiverAttachError::IncomingSourceIsNone),
+        &(
             Refusal::IncomingTerminusIsNone,
             Asked::Close,
-            LinkState::CloseSent
-        )
+            LinkState::CloseSent,
+        ),
     );
-    assert_eq!(rt;
-        handled(&rt, ReceiverAttachError::CoordinatorIsNotImplemented),
-        (
+    assert_equal(
+        &rt,
+        &handled(&rt, ReceiverAttachError::CoordinatorIsNotImplemented),
+        &(
             Refusal::CoordinatorIsNotImplemented,
             Asked::CloseAsNotImplemented,
-            LinkState::CloseSent
-        )
+            LinkState::CloseSent,
+        ),
     );
-    assert_eq!(rt;
-        handled(&rt, ReceiverAttachError::InitialDeliveryCountIsNone),
-        (
+    assert_equal(
+        &rt,
+        &handled(&rt, ReceiverAttachError::InitialDeliveryCountIsNone),
+        &(
             Refusal::InitialDeliveryCountIsNone,
             Asked::CloseAsInvalid,
-            LinkState::CloseSent
-        )
+            LinkState::CloseSent,
+        ),
     );
 }

@@ -1,4 +1,5 @@
 //! Worked values of a sender's attaches.
+use crate::assertions::{assert_equal, assert_equal_at, assert_holds_at};
 use crate::samples::{attach_of, count_tag, fields, parts, payload_of};
 use crate::sending::{
     SendAnswer, answered_by, answered_by_error, attached, new_link, send_flagged,
@@ -93,10 +94,11 @@ fn attach_names_what_fits(rt: HostRuntime) {
         (4, 30, as_sent(26, Some(0), true)),
         (4, 29, Err(Refusal::AttachTooLarge)),
     ] {
-        assert_eq!(rt;
-            sent_at(&rt, pending, limit),
-            wanted,
-            "{pending} at {limit}"
+        assert_equal_at(
+            &rt,
+            &sent_at(&rt, pending, limit),
+            &wanted,
+            &(pending, limit),
         );
     }
 }
@@ -118,7 +120,7 @@ fn complete_attach_is_measured_with_its_count(rt: HostRuntime) {
         (32, 256, true),
         (31, 256, false),
     ] {
-        assert_eq!(rt; fits_at(&rt, limit, count), Ok(fits), "{count} at {limit}");
+        assert_equal_at(&rt, &fits_at(&rt, limit, count), &Ok(fits), &(count, limit));
     }
 }
 
@@ -163,7 +165,7 @@ fn detached_after(
     let mut link = attached(rt, link, SenderSettleMode::Mixed, 4);
     for _ in 0..pending {
         let actual = answered_by(send_flagged(&mut link, &payload_of(rt, &[7]), None));
-        assert_eq!(rt; actual, SendAnswer::Unsettled);
+        assert_equal(rt, &actual, &SendAnswer::Unsettled);
     }
     drop(link.send_detach(closed, None));
     drop(link.on_detach_reply(reply(closed)));
@@ -187,12 +189,12 @@ fn reattach_gives_pending_deliveries_up(rt: HostRuntime) {
         entries: None,
         incomplete: false,
     };
-    assert_eq!(rt; shown, Ok(Some(wanted)));
+    assert_equal(&rt, &shown, &Ok(Some(wanted)));
     let illegal = SendAnswer::IllegalState;
     let given_up = [Some((0, illegal)), Some((1, illegal)), Some((2, illegal))];
-    assert_eq!(rt; ends, Some((3, given_up)));
-    assert_eq!(rt; pending, 0);
-    assert_eq!(rt; state, LinkState::AttachSent);
+    assert_equal(&rt, &ends, &Some((3, given_up)));
+    assert_equal(&rt, &pending, &0);
+    assert_equal(&rt, &state, &LinkState::AttachSent);
 }
 
 // The last delivery moves to the place of one that is withdrawn, and a reattach resolves them in that order.
@@ -207,17 +209,17 @@ fn reattach_resolves_in_the_order_of_the_map(rt: HostRuntime) {
     drop(link);
     let illegal = SendAnswer::IllegalState;
     let given_up = [Some((0, illegal)), Some((3, illegal)), Some((2, illegal))];
-    assert_eq!(rt; ends, Some((3, given_up)));
+    assert_equal(&rt, &ends, &Some((3, given_up)));
 }
 
 // If there is no transition from the state, a reattach resolves nothing.
 #[test]
 fn refused_reattach_keeps_what_is_pending(rt: HostRuntime) {
     let mut link = detached_after(&rt, 3, 0, true);
-    assert_eq!(rt; *link.local_state(), LinkState::Closed);
+    assert_equal(&rt, link.local_state(), &LinkState::Closed);
     let refused = shown_in(link.send_attach(true));
-    assert_eq!(rt; refused, Err(Refusal::IllegalState));
-    assert_eq!(rt; link.unsettled().len(), 3);
+    assert_equal(&rt, &refused, &Err(Refusal::IllegalState));
+    assert_equal(&rt, &link.unsettled().len(), &3);
     drop(link);
 }
 
@@ -283,9 +285,10 @@ fn incoming_attach_is_taken_as_far_as_it_goes(rt: HostRuntime) {
         max_message_size: Some(5),
     };
     let attach = coming(&rt, SenderSettleMode::Mixed);
-    assert_eq!(rt;
-        left_by(settling(&rt, SenderSettleMode::Settled), attach),
-        taken
+    assert_equal(
+        &rt,
+        &left_by(settling(&rt, SenderSettleMode::Settled), attach),
+        &taken,
     );
     let disagreed = Left {
         refused: Some(Refusal::SndSettleModeNotSupported),
@@ -293,9 +296,10 @@ fn incoming_attach_is_taken_as_far_as_it_goes(rt: HostRuntime) {
         ..taken
     };
     let attach = coming(&rt, SenderSettleMode::Unsettled);
-    assert_eq!(rt;
-        left_by(settling(&rt, SenderSettleMode::Settled), attach),
-        disagreed
+    assert_equal(
+        &rt,
+        &left_by(settling(&rt, SenderSettleMode::Settled), attach),
+        &disagreed,
     );
     let untargeted = Left {
         refused: Some(Refusal::IncomingTerminusIsNone),
@@ -304,9 +308,10 @@ fn incoming_attach_is_taken_as_far_as_it_goes(rt: HostRuntime) {
     };
     let mut attach = coming(&rt, SenderSettleMode::Unsettled);
     attach.target = None;
-    assert_eq!(rt;
-        left_by(settling(&rt, SenderSettleMode::Settled), attach),
-        untargeted
+    assert_equal(
+        &rt,
+        &left_by(settling(&rt, SenderSettleMode::Settled), attach),
+        &untargeted,
     );
 }
 
@@ -330,8 +335,8 @@ fn incoming_properties_are_taken(rt: HostRuntime) {
     let is_taken = *link.properties() == wanted;
     drop((answer, wanted));
     drop(link);
-    assert!(rt; is_complete, "nothing is resumed, and nothing ended");
-    assert!(rt; is_taken, "the property is the link's");
+    assert_holds_at(&rt, is_complete, &"nothing is resumed, and nothing ended");
+    assert_holds_at(&rt, is_taken, &"the property is the link's");
 }
 
 // A target of another kind is refused once the state and the handle have moved.
@@ -345,5 +350,9 @@ fn target_of_another_kind_is_refused(rt: HostRuntime) {
         rcv_settle_mode: ReceiverSettleMode::First,
         max_message_size: Some(7),
     };
-    assert_eq!(rt; left_by(link, coming(&rt, SenderSettleMode::Mixed)), wanted);
+    assert_equal(
+        &rt,
+        &left_by(link, coming(&rt, SenderSettleMode::Mixed)),
+        &wanted,
+    );
 }

@@ -1,4 +1,5 @@
 //! Worked values of the exchange of unsettled maps, as a sender is attached again (2.6.13).
+use crate::assertions::{assert_equal, assert_equal_at, assert_holds_at};
 use crate::attaching::{refused_by, reply};
 use crate::samples::{attach_of, count_tag, payload_of};
 use crate::sending::{SendAnswer, answered_by, attached, new_link, send_flagged};
@@ -59,7 +60,7 @@ fn link_with(rt: &(impl Abort + AllocGlobal), entries: &[(u8, Known)]) -> Sender
     let mut link = new_link(rt, SenderSettleMode::Mixed);
     for (count, known) in entries {
         let put = went(link.put_back(count_tag(rt, *count), entry_of(*known)));
-        assert!(rt; put, "a free tag");
+        assert_holds_at(rt, put, &"a free tag");
     }
     link
 }
@@ -68,7 +69,7 @@ fn link_with(rt: &(impl Abort + AllocGlobal), entries: &[(u8, Known)]) -> Sender
 fn attaching_with(rt: &(impl Abort + AllocGlobal), entries: &[(u8, Known)]) -> SenderLink<Target> {
     let mut link = link_with(rt, entries);
     let sent = went(link.send_attach(false));
-    assert!(rt; sent, "an attach is sent");
+    assert_holds_at(rt, sent, &"an attach is sent");
     link
 }
 
@@ -138,7 +139,7 @@ fn reattaching(rt: &(impl Abort + AllocGlobal)) -> SenderLink<Target> {
     let payload = Payload::from_static(WHOLE);
     for _ in 0..3 {
         let actual = answered_by(send_flagged(&mut link, &payload, None));
-        assert_eq!(rt; actual, SendAnswer::Unsettled);
+        assert_equal(rt, &actual, &SendAnswer::Unsettled);
     }
     let second = count_tag(rt, 1);
     drop(link.dispose(1, &second, false, DeliveryState::Accepted, false));
@@ -147,7 +148,7 @@ fn reattaching(rt: &(impl Abort + AllocGlobal)) -> SenderLink<Target> {
     drop(link.on_detach_reply(reply(false)));
     *link.output_handle_mut() = Some(OutputHandle(0));
     let sent = went(link.send_attach(false));
-    assert!(rt; sent, "the attach is sent again");
+    assert_holds_at(rt, sent, &"the attach is sent again");
     link
 }
 
@@ -188,10 +189,10 @@ fn sent_deliveries_are_resolved_in_order(rt: HostRuntime) {
     ];
     let exchanged = exchange_on(&rt, &mut link, attach_with(&rt, &remote));
     let wanted = wanted_of_three(&rt);
-    assert_eq!(rt; exchanged, wanted);
+    assert_equal(&rt, &exchanged, &wanted);
     drop((exchanged, wanted));
-    assert_eq!(rt; *link.local_state(), LinkState::Attached);
-    assert_eq!(rt; link.unsettled().len(), 0);
+    assert_equal(&rt, link.local_state(), &LinkState::Attached);
+    assert_equal(&rt, &link.unsettled().len(), &0);
     drop(link);
 }
 
@@ -225,10 +226,14 @@ fn incomplete_map_is_answered_in_full(rt: HostRuntime) {
     attach.incomplete_unsettled = true;
     let exchanged = exchange_on(&rt, &mut link, attach);
     let wanted = wanted_of_incomplete(&rt);
-    assert_eq!(rt; exchanged, wanted);
+    assert_equal(&rt, &exchanged, &wanted);
     drop((exchanged, wanted));
-    assert_eq!(rt; *link.local_state(), LinkState::IncompleteAttachExchanged);
-    assert_eq!(rt; link.unsettled().len(), 0);
+    assert_equal(
+        &rt,
+        link.local_state(),
+        &LinkState::IncompleteAttachExchanged,
+    );
+    assert_equal(&rt, &link.unsettled().len(), &0);
     drop(link);
 }
 
@@ -299,8 +304,8 @@ fn assert_row(rt: &(impl Abort + AllocGlobal), own: Known, remote: Known, answer
     let exchanged = exchange_on(rt, &mut link, attach);
     let left = link.unsettled().len();
     let wanted = wanted_of(rt, own, answer);
-    assert_eq!(rt; exchanged, wanted, "{own:?} {remote:?}");
-    assert_eq!(rt; left, 0, "{own:?} {remote:?}");
+    assert_equal_at(rt, &exchanged, &wanted, &(own, remote));
+    assert_equal_at(rt, &left, &0, &(own, remote));
     drop((exchanged, wanted));
     drop(link);
 }
@@ -372,9 +377,9 @@ fn next_of_empty(rt: &(impl Abort + AllocGlobal), attach: Attach) -> (Next, bool
 #[test]
 fn empty_maps_are_complete(rt: HostRuntime) {
     let empty = attach_with(&rt, &[]);
-    assert_eq!(rt; next_of_empty(&rt, empty), (Next::Complete, true));
+    assert_equal(&rt, &next_of_empty(&rt, empty), &(Next::Complete, true));
     let none = attach_of(&rt, Role::Receiver, SenderSettleMode::Mixed);
-    assert_eq!(rt; next_of_empty(&rt, none), (Next::Complete, true));
+    assert_equal(&rt, &next_of_empty(&rt, none), &(Next::Complete, true));
 }
 
 #[test]
@@ -387,7 +392,7 @@ fn delivery_of_the_receiver_alone_is_aborted(rt: HostRuntime) {
         deliveries: deliveries.expect(&rt, "memory"),
         outcomes: Vec::new(rt.alloc()),
     };
-    assert_eq!(rt; exchanged, wanted);
+    assert_equal(&rt, &exchanged, &wanted);
     drop((exchanged, wanted));
     drop(link);
 }
@@ -401,8 +406,8 @@ fn ended_delivery_is_no_complete_exchange(rt: HostRuntime) {
     let next = exchanged.next;
     drop(exchanged);
     drop(link);
-    assert_eq!(rt; next, Next::Resume);
-    assert_eq!(rt; lengths, (0, 1));
+    assert_equal(&rt, &next, &Next::Resume);
+    assert_equal(&rt, &lengths, &(0, 1));
 }
 
 // What follows, and the state of the link, after this attach has arrived.
@@ -433,8 +438,8 @@ fn attaching_with_half(rt: &(impl Abort + AllocGlobal)) -> SenderLink<Target> {
     let mut link = link_with(rt, &FOUR);
     link.set_max_frame_size(57);
     let sent = went(link.send_attach(false));
-    assert!(rt; sent, "the attach is sent");
-    assert_eq!(rt; *link.local_state(), LinkState::IncompleteAttachSent);
+    assert_holds_at(rt, sent, &"the attach is sent");
+    assert_equal(rt, link.local_state(), &LinkState::IncompleteAttachSent);
     link
 }
 
@@ -445,23 +450,23 @@ fn incomplete_attaches_leave_the_exchange_incomplete(rt: HostRuntime) {
     let first = LinkState::IncompleteAttachReceived;
     let next = Next::IncompleteUnsettled;
     let link = attaching_with(&rt, &FOUR);
-    assert_eq!(rt; next_at(&rt, link, true), (both, next));
+    assert_equal(&rt, &next_at(&rt, link, true), &(both, next));
     let link = attaching_with_half(&rt);
-    assert_eq!(rt; next_at(&rt, link, false), (both, next));
+    assert_equal(&rt, &next_at(&rt, link, false), &(both, next));
     let link = attaching_with_half(&rt);
-    assert_eq!(rt; next_at(&rt, link, true), (both, next));
+    assert_equal(&rt, &next_at(&rt, link, true), &(both, next));
     let link = link_with(&rt, &FOUR);
-    assert_eq!(rt; next_at(&rt, link, true), (first, next));
+    assert_equal(&rt, &next_at(&rt, link, true), &(first, next));
 }
 
 #[test]
 fn complete_attaches_resume(rt: HostRuntime) {
     let link = attaching_with(&rt, &FOUR);
     let attached = (LinkState::Attached, Next::Resume);
-    assert_eq!(rt; next_at(&rt, link, false), attached);
+    assert_equal(&rt, &next_at(&rt, link, false), &attached);
     let link = link_with(&rt, &FOUR);
     let received = (LinkState::AttachReceived, Next::Resume);
-    assert_eq!(rt; next_at(&rt, link, false), received);
+    assert_equal(&rt, &next_at(&rt, link, false), &received);
 }
 
 // The tag of a number, as two bytes.
@@ -489,10 +494,10 @@ fn attaching_with_numbers(rt: &(impl Abort + AllocGlobal), numbers: &[u16]) -> S
     link.set_max_frame_size(65536);
     for number in numbers {
         let put = went(link.put_back(wide_tag(rt, *number), short_entry(rt, *number)));
-        assert!(rt; put, "a free tag");
+        assert_holds_at(rt, put, &"a free tag");
     }
     let sent = went(link.send_attach(false));
-    assert!(rt; sent, "an attach is sent");
+    assert_holds_at(rt, sent, &"an attach is sent");
     link
 }
 
@@ -548,8 +553,8 @@ fn exchange_of_numbers(
 ) -> Vec<(Option<u16>, Sent)> {
     let mut link = attaching_with_numbers(rt, own);
     let exchanged = exchange_on(rt, &mut link, attach_with_numbers(rt, remote));
-    assert_eq!(rt; exchanged.outcomes.len(), 0);
-    assert_eq!(rt; link.unsettled().len(), 0);
+    assert_equal(rt, &exchanged.outcomes.len(), &0);
+    assert_equal(rt, &link.unsettled().len(), &0);
     let numbers = numbers_sent(rt, &exchanged);
     drop(exchanged);
     drop(link);
@@ -581,7 +586,7 @@ fn thousand_deliveries_are_resumed_in_order(rt: HostRuntime) {
             .push((Some(*number), Sent::Resume(rest)))
             .expect(&rt, "memory");
     }
-    assert_eq!(rt; sent.as_slice(), wanted.as_slice());
+    assert_equal(&rt, &sent.as_slice(), &wanted.as_slice());
 }
 
 // Of four deliveries in a row the sender alone knows the second, the receiver alone the last. The
@@ -608,8 +613,8 @@ fn deliveries_of_one_endpoint_keep_their_order(rt: HostRuntime) {
                 .expect(&rt, "memory");
         }
     }
-    assert_eq!(rt; sent.len(), 1000);
-    assert_eq!(rt; sent.as_slice(), wanted.as_slice());
+    assert_equal(&rt, &sent.len(), &1000);
+    assert_equal(&rt, &sent.as_slice(), &wanted.as_slice());
 }
 
 // The last delivery moves to the place of one that is withdrawn, and they are sent again in that order.
@@ -623,7 +628,7 @@ fn exchange_keeps_the_order_of_the_map(rt: HostRuntime) {
     drop((second, exchanged));
     drop(link);
     let wanted = [0, 3, 2].map(|number| (Some(number), Sent::Resend));
-    assert_eq!(rt; sent.as_slice(), wanted.as_slice());
+    assert_equal(&rt, &sent.as_slice(), &wanted.as_slice());
 }
 
 // Why an attach is refused, and the last bytes of the first two tags in the map then, with their number.
@@ -654,7 +659,7 @@ fn nowhere_with_two(rt: &(impl Abort + AllocGlobal)) -> SenderLink<Nowhere> {
     let mut link = SenderLink::new(rt.alloc(), parts);
     for (count, known) in TWO {
         let put = went(link.put_back(count_tag(rt, count), entry_of(known)));
-        assert!(rt; put, "a free tag");
+        assert_holds_at(rt, put, &"a free tag");
     }
     link
 }
@@ -671,16 +676,20 @@ fn refused_attaches_resolve_nothing(rt: HostRuntime) {
     drop(link.on_incoming_attach(rejecting(&rt)));
     for (count, known) in TWO {
         let put = went(link.put_back(count_tag(&rt, count), entry_of(known)));
-        assert!(rt; put, "a free tag");
+        assert_holds_at(&rt, put, &"a free tag");
     }
     let illegal = keeps_both(Refusal::IllegalState);
-    assert_eq!(rt; left_by(link, rejecting(&rt)), illegal);
+    assert_equal(&rt, &left_by(link, rejecting(&rt)), &illegal);
     let mut attach = rejecting(&rt);
     attach.target = None;
     let untargeted = keeps_both(Refusal::IncomingTerminusIsNone);
-    assert_eq!(rt; left_by(attaching_with(&rt, &TWO), attach), untargeted);
+    assert_equal(
+        &rt,
+        &left_by(attaching_with(&rt, &TWO), attach),
+        &untargeted,
+    );
     let other = keeps_both(Refusal::CoordinatorIsNotImplemented);
-    assert_eq!(rt; left_by(nowhere_with_two(&rt), rejecting(&rt)), other);
+    assert_equal(&rt, &left_by(nowhere_with_two(&rt), rejecting(&rt)), &other);
 }
 
 // A sender that leaves all unsettled, and a receiver that wants all settled.
@@ -689,12 +698,12 @@ fn attach_of_another_settle_mode_resolves_nothing(rt: HostRuntime) {
     let mut link = new_link(&rt, SenderSettleMode::Unsettled);
     for (count, known) in TWO {
         let put = went(link.put_back(count_tag(&rt, count), entry_of(known)));
-        assert!(rt; put, "a free tag");
+        assert_holds_at(&rt, put, &"a free tag");
     }
     let mut attach = rejecting(&rt);
     attach.snd_settle_mode = SenderSettleMode::Settled;
     let refused = keeps_both(Refusal::SndSettleModeNotSupported);
-    assert_eq!(rt; left_by(link, attach), refused);
+    assert_equal(&rt, &left_by(link, attach), &refused);
 }
 
 // What `complete_or` returns with 7 for the exchange of these own deliveries with an empty map.
@@ -715,13 +724,14 @@ fn complete_or_seven(
 
 #[test]
 fn only_a_complete_exchange_is_no_error(rt: HostRuntime) {
-    assert_eq!(rt; complete_or_seven(&rt, &[], false), Ok(()));
-    assert_eq!(rt; complete_or_seven(&rt, &TWO, false), Err(7));
-    assert_eq!(rt;
-        complete_or_seven(&rt, &[(0, Known::Accepted)], false),
-        Err(7)
+    assert_equal(&rt, &complete_or_seven(&rt, &[], false), &Ok(()));
+    assert_equal(&rt, &complete_or_seven(&rt, &TWO, false), &Err(7));
+    assert_equal(
+        &rt,
+        &complete_or_seven(&rt, &[(0, Known::Accepted)], false),
+        &Err(7),
     );
-    assert_eq!(rt; complete_or_seven(&rt, &TWO, true), Err(7));
+    assert_equal(&rt, &complete_or_seven(&rt, &TWO, true), &Err(7));
 }
 
 // What a link shows: its state, its largest message in bytes, and how many deliveries are pending.
@@ -781,8 +791,9 @@ fn attach_is_planned_and_then_taken(rt: HostRuntime) {
     attach.max_message_size = Some(5);
     let before = (LinkState::AttachSent, None, 4);
     let after = (LinkState::Attached, Some(5), 0);
-    assert_eq!(rt;
-        planned_and_taken(&rt, link, attach),
-        (before, after, Some(2))
+    assert_equal(
+        &rt,
+        &planned_and_taken(&rt, link, attach),
+        &(before, after, Some(2)),
     );
 }

@@ -1,4 +1,5 @@
 //! Worked values of flows that arrive at a sender (2.6.7).
+use crate::assertions::{assert_equal, assert_equal_at, assert_holds};
 use crate::samples::{fields, parts, payload_of};
 use amqp_link_core::endpoint::LinkExt;
 use amqp_link_sender::SenderLink;
@@ -105,10 +106,11 @@ fn credit_is_counted_from_the_count_of_the_flow(rt: HostRuntime) {
             credit: wanted,
             drain: false,
         };
-        assert_eq!(rt;
-            left_by(&rt, own, 9, flow),
-            left,
-            "{delivery_count:?} and {link_credit:?} at {own}"
+        assert_equal_at(
+            &rt,
+            &left_by(&rt, own, 9, flow),
+            &left,
+            &(delivery_count, link_credit, own),
         );
     }
 }
@@ -144,11 +146,7 @@ fn drain_takes_all_credit_to_the_count(rt: HostRuntime) {
             credit: 0,
             drain: true,
         };
-        assert_eq!(rt;
-            left_by(&rt, LAST - 1, 0, drain),
-            left,
-            "of {link_credit:?}"
-        );
+        assert_equal_at(&rt, &left_by(&rt, LAST - 1, 0, drain), &left, &link_credit);
     }
 }
 
@@ -172,7 +170,7 @@ fn asked_for_an_answer_a_sender_gives_one(rt: HostRuntime) {
         credit: 4,
         drain: false,
     };
-    assert_eq!(rt; left_by(&rt, 2, 0, ask), left);
+    assert_equal(&rt, &left_by(&rt, 2, 0, ask), &left);
 }
 
 #[test]
@@ -189,7 +187,7 @@ fn without_handle_no_flow_is_taken(rt: HostRuntime) {
         drain: false,
     };
     let mut link = unnamed(&rt, 2, 0);
-    assert_eq!(rt; left_of(&mut link, grant), left);
+    assert_equal(&rt, &left_of(&mut link, grant), &left);
     drop(link);
 }
 
@@ -199,5 +197,5 @@ fn no_transfer_is_taken(rt: HostRuntime) {
     let came = link.on_incoming_transfer(Transfer::default(), payload_of(&rt, &[1]));
     let is_refused = matches!(&came, Err(LinkRelayError::TransferFrameToSender));
     drop((came, link));
-    assert!(rt; is_refused);
+    assert_holds(&rt, is_refused);
 }

@@ -1,4 +1,5 @@
 //! A sender that is brought to each of its states by public calls.
+use crate::assertions::{assert_equal, assert_holds_at};
 use crate::samples::{coming, count_tag, payload_of};
 use amqp_link_core::endpoint::{LinkAttach, LinkDetach, LinkExt};
 use amqp_link_sender::SenderLink;
@@ -13,7 +14,7 @@ use std::process::Abort;
 pub(crate) fn put(rt: &(impl Abort + AllocGlobal), link: &mut SenderLink<Target>, count: u8) {
     let entry = UnsettledMessage::new(payload_of(rt, &[7]), None, 0);
     let put = went(link.put_back(count_tag(rt, count), entry));
-    assert!(rt; put, "a free tag");
+    assert_holds_at(rt, put, &"a free tag");
 }
 
 // The receiver's attach arrives, marked as incomplete or not.
@@ -70,5 +71,5 @@ pub(crate) fn lead_to(
         }
         _ => {}
     }
-    assert_eq!(rt; *link.local_state(), state);
+    assert_equal(rt, link.local_state(), &state);
 }

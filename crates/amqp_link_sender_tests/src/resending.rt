@@ -1,4 +1,5 @@
 //! Worked values of deliveries that are resumed, put back or withdrawn (2.6.13).
+use crate::assertions::{assert_equal, assert_equal_at, assert_holds_at};
 use crate::samples::{count_tag, parts, payload_of};
 use crate::sending::{SendAnswer, answered_by_error, link, new_link};
 use amqp_link_core::endpoint::LinkExt;
@@ -45,7 +46,7 @@ fn resuming_transfer_is_unsettled_in_each_mode(rt: HostRuntime) {
         drop(transfer);
         drop(link);
         let wanted = (0, Some(0), Some(false), [true, false, false]);
-        assert_eq!(rt; actual, Some(wanted), "{mode:?}");
+        assert_equal_at(&rt, &actual, &Some(wanted), &mode);
     }
 }
 
@@ -56,7 +57,7 @@ fn no_transfer_is_made_without_output_handle(rt: HostRuntime) {
     let actual = transfer.as_ref().err().map(answered_by_error);
     drop(transfer);
     drop(link);
-    assert_eq!(rt; actual, Some(SendAnswer::IllegalState));
+    assert_equal(&rt, &actual, &Some(SendAnswer::IllegalState));
 }
 
 // Its descriptor and the list's head take three bytes each, the handle one, the largest delivery id five, the
@@ -70,7 +71,7 @@ fn longest_resuming_transfer_is_measured(rt: HostRuntime) {
     let length = transfer.encoded_len();
     drop(transfer);
     drop(link);
-    assert_eq!(rt; length, Some(24));
+    assert_equal(&rt, &length, &Some(24));
 }
 
 const MESSAGE: [u8; 16] = [0, 83, 117, 160, 11, 1, 2, 3, 4, 5, 6, 7, 8, 9, 10, 11];
@@ -171,11 +172,15 @@ fn rest_of_a_delivery_is_sent(rt: HostRuntime) {
     let first = Some((true, 2, true, true));
     let last = Some((false, 2, false, true));
     let wanted = [first, further, further, further, further, last, None];
-    assert_eq!(rt; shown, Ok(wanted));
-    assert!(rt; is_whole(&rt, &link, 7), "the whole entry is registered");
-    assert_eq!(rt; link.unsettled().len(), 1);
-    assert_eq!(rt; link.flow_state().link_credit(), 1);
-    assert_eq!(rt; link.flow_state().delivery_count(), 0);
+    assert_equal(&rt, &shown, &Ok(wanted));
+    assert_holds_at(
+        &rt,
+        is_whole(&rt, &link, 7),
+        &"the whole entry is registered",
+    );
+    assert_equal(&rt, &link.unsettled().len(), &1);
+    assert_equal(&rt, &link.flow_state().link_credit(), &1);
+    assert_equal(&rt, &link.flow_state().delivery_count(), &0);
     drop(link);
 }
 
@@ -184,9 +189,10 @@ fn rest_of_a_delivery_is_sent(rt: HostRuntime) {
 #[test]
 fn entry_is_registered_under_the_given_tag(rt: HostRuntime) {
     let mut link = link(&rt, SenderSettleMode::Mixed, 30, 0);
-    assert!(rt;
+    assert_holds_at(
+        &rt,
         went(link.put_back(count_tag(&rt, 7), entry(&rt))),
-        "a free tag"
+        &"a free tag",
     );
     let made = link.generate_non_resuming_transfer_performative(
         count_tag(&rt, 7),
@@ -200,9 +206,17 @@ fn entry_is_registered_under_the_given_tag(rt: HostRuntime) {
     let first = Some((true, 5, true, false));
     let second = Some((false, 5, true, false));
     let last = Some((false, 2, false, false));
-    assert_eq!(rt; shown, Ok([first, second, last, None, None, None, None]));
-    assert!(rt; is_whole(&rt, &link, 8), "the whole entry is registered");
-    assert_eq!(rt; link.unsettled().len(), 2);
+    assert_equal(
+        &rt,
+        &shown,
+        &Ok([first, second, last, None, None, None, None]),
+    );
+    assert_holds_at(
+        &rt,
+        is_whole(&rt, &link, 8),
+        &"the whole entry is registered",
+    );
+    assert_equal(&rt, &link.unsettled().len(), &2);
     drop(link);
 }
 
@@ -213,7 +227,7 @@ fn told_at_24(
     count: u8,
 ) -> (Option<(SendAnswer, bool)>, usize) {
     let put = went(link.put_back(count_tag(rt, 7), entry(rt)));
-    assert!(rt; put, "a free tag");
+    assert_holds_at(rt, put, &"a free tag");
     link.set_max_frame_size(24);
     let actual = resume(rt, &mut link, count).err();
     let pending = link.unsettled().len();
@@ -226,23 +240,32 @@ fn told_at_24(
 fn resumed_send_is_refused_in_order(rt: HostRuntime) {
     let mode = SenderSettleMode::Mixed;
     let unattached = told_at_24(&rt, new_link(&rt, mode), 7);
-    assert_eq!(rt; unattached, (Some((SendAnswer::IllegalState, true)), 1));
+    assert_equal(
+        &rt,
+        &unattached,
+        &(Some((SendAnswer::IllegalState, true)), 1),
+    );
     let pending = told_at_24(&rt, link(&rt, mode, 512, 1), 7);
-    assert_eq!(rt; pending, (Some((SendAnswer::TagPending, true)), 1));
+    assert_equal(&rt, &pending, &(Some((SendAnswer::TagPending, true)), 1));
     let without_room = told_at_24(&rt, link(&rt, mode, 512, 1), 8);
-    assert_eq!(rt; without_room, (Some((SendAnswer::NoRoom, true)), 1));
+    assert_equal(&rt, &without_room, &(Some((SendAnswer::NoRoom, true)), 1));
 }
 
 // The error of a second entry under a pending tag, and whether the first entry stays.
 #[test]
 fn pending_entry_is_not_replaced(rt: HostRuntime) {
     let mut link = new_link(&rt, SenderSettleMode::Mixed);
-    assert!(rt;
+    assert_holds_at(
+        &rt,
         went(link.put_back(count_tag(&rt, 6), entry(&rt))),
-        "a free tag"
+        &"a free tag",
     );
     let other = UnsettledMessage::new(payload_of(&rt, &[7]), None, 0);
-    assert!(rt; went(link.put_back(count_tag(&rt, 7), other)), "a free tag");
+    assert_holds_at(
+        &rt,
+        went(link.put_back(count_tag(&rt, 7), other)),
+        &"a free tag",
+    );
     let refused = link.put_back(count_tag(&rt, 7), entry(&rt));
     let actual = refused
         .as_ref()
@@ -253,8 +276,8 @@ fn pending_entry_is_not_replaced(rt: HostRuntime) {
     let second = is_whole(&rt, &link, 7);
     let pending = link.unsettled().len();
     drop(link);
-    assert_eq!(rt; actual, Some((SendAnswer::TagPending, true)));
-    assert_eq!(rt; (first, second, pending), (true, false, 2));
+    assert_equal(&rt, &actual, &Some((SendAnswer::TagPending, true)));
+    assert_equal(&rt, &(first, second, pending), &(true, false, 2));
 }
 
 // The last byte of the tag at this place of the map.
@@ -283,7 +306,7 @@ fn delivery_is_withdrawn_once(rt: HostRuntime) {
     let mut link = new_link(&rt, SenderSettleMode::Mixed);
     for count in 0..4u8 {
         let put = went(link.put_back(count_tag(&rt, count), entry(&rt)));
-        assert!(rt; put, "a free tag");
+        assert_holds_at(&rt, put, &"a free tag");
     }
     let first = withdrawn(&rt, &mut link, 1);
     let again = withdrawn(&rt, &mut link, 1);
@@ -294,6 +317,6 @@ fn delivery_is_withdrawn_once(rt: HostRuntime) {
         tag_at(&link, 3),
     ];
     drop(link);
-    assert_eq!(rt; (first, again), (Some(true), None));
-    assert_eq!(rt; tags, [Some(0), Some(3), Some(2), None]);
+    assert_equal(&rt, &(first, again), &(Some(true), None));
+    assert_equal(&rt, &tags, &[Some(0), Some(3), Some(2), None]);
 }

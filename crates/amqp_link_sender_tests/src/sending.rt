@@ -1,4 +1,5 @@
 //! Worked values of a sender's sends.
+use crate::assertions::{assert_equal, assert_equal_at};
 use crate::samples::{attach_of, count_tag, parts, payload_of};
 use amqp_link_core::endpoint::{LinkAttach, LinkExt};
 use amqp_link_sender::{SenderLink, Sending, Waiting};
@@ -196,7 +197,7 @@ fn transfer_of_a_new_delivery_is_made(rt: HostRuntime) {
     drop(answer);
     drop(link);
     let flags = [false, true, true, false];
-    assert_eq!(rt; actual, Some((0, Some(5), Some(true), flags)));
+    assert_equal(&rt, &actual, &Some((0, Some(5), Some(true), flags)));
 }
 
 // Twelve bytes at 30 go as five, five and two; only the first frame names the delivery.
@@ -224,7 +225,7 @@ fn twelve_bytes_are_three_frames(rt: HostRuntime) {
         ..rest
     };
     let shown = shown_at_30(&rt, &[1, 2, 3, 4, 5, 6, 7, 8, 9, 10, 11, 12]);
-    assert_eq!(rt; shown, Some([Some(first), Some(rest), Some(last)]));
+    assert_equal(&rt, &shown, &Some([Some(first), Some(rest), Some(last)]));
 }
 
 // What a link shows after a send: the result, its credit, its count, and how many deliveries are pending.
@@ -269,7 +270,11 @@ fn sent_delivery_is_pending(rt: HostRuntime) {
         count: 1,
         pending: 1,
     };
-    assert_eq!(rt; sent_twice(&rt), (sent, true, SendAnswer::CreditMissing));
+    assert_equal(
+        &rt,
+        &sent_twice(&rt),
+        &(sent, true, SendAnswer::CreditMissing),
+    );
 }
 
 // What a link with credit 1 at this limit shows after a send of these bytes.
@@ -305,10 +310,11 @@ fn frames_have_room_or_nothing_changes(rt: HostRuntime) {
         (25, 1, refused),
         (26, 1, sent),
     ] {
-        assert_eq!(rt;
-            sent_at(&rt, limit, &[7u8][..bytes]),
-            wanted,
-            "{bytes} bytes at {limit}"
+        assert_equal_at(
+            &rt,
+            &sent_at(&rt, limit, &[7u8][..bytes]),
+            &wanted,
+            &(bytes, limit),
         );
     }
 }
@@ -333,7 +339,7 @@ fn handles_at_9(rt: &(impl Abort + AllocGlobal)) -> Option<(InputHandle, Handle)
 // The transfer has the link's output handle, the frame its input handle.
 #[test]
 fn handles_are_kept_apart(rt: HostRuntime) {
-    assert_eq!(rt; handles_at_9(&rt), Some((InputHandle(0), Handle(9))));
+    assert_equal(&rt, &handles_at_9(&rt), &Some((InputHandle(0), Handle(9))));
 }
 
 // Whether a delivery of this mode and flag is sent settled, and whether it is pending then.
@@ -367,7 +373,7 @@ fn settled_goes_by_mode(rt: HostRuntime) {
             SendAnswer::Unsettled
         };
         let wanted = (answer, !settled);
-        assert_eq!(rt; settled_at(&rt, mode, given), wanted, "{mode:?} {given:?}");
+        assert_equal_at(&rt, &settled_at(&rt, mode, given), &wanted, &(mode, given));
     }
 }
 
@@ -436,7 +442,7 @@ fn transfers_name_their_delivery(rt: HostRuntime) {
         SendAnswer::TagPending,
         SendAnswer::Settled,
     ];
-    assert_eq!(rt; sent_thrice(&rt), (answers, true, 1));
+    assert_equal(&rt, &sent_thrice(&rt), &(answers, true, 1));
 }
 
 // What the frames of a transfer of two bytes show.
@@ -466,7 +472,7 @@ fn frames_go_with_their_transfer(rt: HostRuntime) {
         delivery_id: None,
     };
     let shown = shown_with(&rt, transfer(&rt, 1, false));
-    assert_eq!(rt; shown, Some([Some(only), None, None]));
+    assert_equal(&rt, &shown, &Some([Some(only), None, None]));
 }
 
 // Without a tag there is nothing to register.
@@ -474,7 +480,7 @@ fn frames_go_with_their_transfer(rt: HostRuntime) {
 fn unnamed_transfer_is_refused(rt: HostRuntime) {
     let mut link = link(&rt, SenderSettleMode::Mixed, 64, 0);
     let answer = send_with(&rt, &mut link, Transfer::default());
-    assert_eq!(rt; answer, SendAnswer::IllegalState);
+    assert_equal(&rt, &answer, &SendAnswer::IllegalState);
     drop(link);
 }
 
@@ -485,6 +491,6 @@ fn frames_alone_need_no_tag(rt: HostRuntime) {
     let bytes = payload_of(&rt, &[7]);
     let sent = link.send_transfer_without_modifying_unsettled_map(Transfer::default(), &bytes);
     let answer = sent.ok().map(|(settled, frames)| (settled, frames.len()));
-    assert_eq!(rt; answer, Some((false, 1)));
+    assert_equal(&rt, &answer, &Some((false, 1)));
     drop(link);
 }

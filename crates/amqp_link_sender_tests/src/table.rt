@@ -1,4 +1,5 @@
 //! A sender in each of its states: the rows of the standard's table (2.6.3 to 2.6.6).
+use crate::assertions::{assert_equal, assert_equal_at, assert_holds};
 use crate::led::{lead_to, put};
 use crate::samples::{coming, parts};
 use amqp_link_core::endpoint::{LinkDetach, LinkExt};
@@ -35,7 +36,7 @@ fn attaches_that_are_sent(rt: HostRuntime) {
         let call = Call::SendAttach(incomplete);
         for (place, state) in STATES.iter().enumerate() {
             let actual = attached_in(&rt, *state, limit);
-            assert_eq!(rt; actual, wanted(call, place), "{call:?} in {state:?}");
+            assert_equal_at(&rt, &actual, &wanted(call, place), &(call, state));
         }
     }
 }
@@ -57,7 +58,7 @@ fn incoming_attaches(rt: HostRuntime) {
         let call = Call::IncomingAttach(incomplete);
         for (place, state) in STATES.iter().enumerate() {
             let actual = taken_in(&rt, *state, incomplete);
-            assert_eq!(rt; actual, wanted(call, place), "{call:?} in {state:?}");
+            assert_equal_at(&rt, &actual, &wanted(call, place), &(call, state));
         }
     }
 }
@@ -75,7 +76,7 @@ fn detaches_that_are_sent(rt: HostRuntime) {
         let call = Call::SendDetach(closed);
         for (place, state) in STATES.iter().enumerate() {
             let actual = detach_in(&rt, *state, closed);
-            assert_eq!(rt; actual, wanted(call, place), "{call:?} in {state:?}");
+            assert_equal_at(&rt, &actual, &wanted(call, place), &(call, state));
         }
     }
 }
@@ -97,7 +98,7 @@ fn detaches_that_answer(rt: HostRuntime) {
         let call = Call::DetachReply(closed);
         for (place, state) in STATES.iter().enumerate() {
             let actual = answered_in(&rt, *state, closed);
-            assert_eq!(rt; actual, wanted(call, place), "{call:?} in {state:?}");
+            assert_equal_at(&rt, &actual, &wanted(call, place), &(call, state));
         }
     }
 }
@@ -115,7 +116,7 @@ fn detaches_of_the_peer(rt: HostRuntime) {
         let call = Call::RemoteDetach(closed);
         for (place, state) in STATES.iter().enumerate() {
             let actual = left_in(&rt, *state, closed);
-            assert_eq!(rt; actual, wanted(call, place), "{call:?} in {state:?}");
+            assert_equal_at(&rt, &actual, &wanted(call, place), &(call, state));
         }
     }
 }
@@ -131,7 +132,11 @@ fn detach_without_handle(rt: &(impl Abort + AllocGlobal)) -> (bool, LinkState) {
 
 #[test]
 fn detach_without_handle_moves_the_state(rt: HostRuntime) {
-    assert_eq!(rt; detach_without_handle(&rt), (false, LinkState::DetachSent));
+    assert_equal(
+        &rt,
+        &detach_without_handle(&rt),
+        &(false, LinkState::DetachSent),
+    );
 }
 
 // Whether a detach without output handle, and then a closing reply, are refused with `IllegalState`.
@@ -154,8 +159,8 @@ fn refused_unattached(rt: &(impl Abort + AllocGlobal)) -> bool {
 
 #[test]
 fn refused_detaches_name_the_state(rt: HostRuntime) {
-    assert_eq!(rt; refused_without_handle(&rt), (true, true));
-    assert!(rt; refused_unattached(&rt));
+    assert_equal(&rt, &refused_without_handle(&rt), &(true, true));
+    assert_holds(&rt, refused_unattached(&rt));
 }
 
 // The state of a detached link after an incomplete attach has arrived and its own is sent.
@@ -170,5 +175,5 @@ fn attached_after_an_incomplete_one(rt: &(impl Abort + AllocGlobal)) -> (bool, L
 #[test]
 fn incomplete_attach_of_a_detached_link(rt: HostRuntime) {
     let wanted = (true, LinkState::IncompleteAttachExchanged);
-    assert_eq!(rt; attached_after_an_incomplete_one(&rt), wanted);
+    assert_equal(&rt, &attached_after_an_incomplete_one(&rt), &wanted);
 }

@@ -1,4 +1,5 @@
 //! A sender verifies the termini of the receiver's attach, and what follows an attach that has failed.
+use crate::assertions::{assert_equal, assert_equal_at};
 use crate::attaching::refused_by;
 use crate::samples::{attach_of, fields, parts, text};
 use amqp_link_core::endpoint::{LinkAttach, LinkExt};
@@ -91,9 +92,9 @@ fn termini_are_verified_where_asked_for(rt: HostRuntime) {
             None => ReceiverSettleMode::Second,
         };
         let wanted = (refusal, LinkState::Attached, mode);
-        assert_eq!(rt; left_by(&rt, true, fault), wanted, "{fault:?}");
+        assert_equal_at(&rt, &left_by(&rt, true, fault), &wanted, &fault);
         let taken = (None, LinkState::Attached, ReceiverSettleMode::Second);
-        assert_eq!(rt; left_by(&rt, false, fault), taken, "{fault:?} unverified");
+        assert_equal_at(&rt, &left_by(&rt, false, fault), &taken, &fault);
     }
 }
 
@@ -114,9 +115,10 @@ pub(crate) fn handled(
 fn refused_link_is_closed_once(rt: HostRuntime) {
     let mut link = attaching(&rt, true);
     let attach = attach_with(&rt, Fault::TargetWithoutAddress);
-    assert_eq!(rt;
-        refused_by(link.on_incoming_attach(attach)),
-        Some(Refusal::TargetAddress)
+    assert_equal(
+        &rt,
+        &refused_by(link.on_incoming_attach(attach)),
+        &Some(Refusal::TargetAddress),
     );
     let first = handled(
         &rt,
@@ -134,9 +136,9 @@ fn refused_link_is_closed_once(rt: HostRuntime) {
         Asked::CloseAsInvalid,
         LinkState::CloseSent,
     );
-    assert_eq!(rt; first, closes);
+    assert_equal(&rt, &first, &closes);
     let refused = (Refusal::IllegalState, Asked::Nothing, LinkState::CloseSent);
-    assert_eq!(rt; second, refused);
+    assert_equal(&rt, &second, &refused);
 }
 
 // The result of handling an error at a link that is attached.
@@ -153,32 +155,36 @@ fn handled_attached(
 
 #[test]
 fn each_error_has_its_action(rt: HostRuntime) {
-    assert_eq!(rt;
-        handled_attached(&rt, SenderAttachError::DuplicatedLinkName),
-        (
+    assert_equal(
+        &rt,
+        &handled_attached(&rt, SenderAttachError::DuplicatedLinkName),
+        &(
             Refusal::DuplicatedLinkName,
             Asked::EndAsInUse,
-            LinkState::Attached
-        )
+            LinkState::Attached,
+        ),
     );
-    assert_eq!(rt;
-        handled_attached(&rt, SenderAttachError::IncomingTargetIsNone),
-        (
+    assert_equal(
+        &rt,
+        &handled_attached(&rt, SenderAttachError::IncomingTargetIsNone),
+        &(
             Refusal::IncomingTerminusIsNone,
             Asked::Close,
-            LinkState::CloseSent
-        )
+            LinkState::CloseSent,
+        ),
     );
-    assert_eq!(rt;
-        handled_attached(&rt, SenderAttachError::CoordinatorIsNotImplemented),
-        (
+    assert_equal(
+        &rt,
+        &handled_attached(&rt, SenderAttachError::CoordinatorIsNotImplemented),
+        &(
             Refusal::CoordinatorIsNotImplemented,
             Asked::CloseAsNotImplemented,
-            LinkState::CloseSent
-        )
+            LinkState::CloseSent,
+        ),
     );
-    assert_eq!(rt;
-        handled_attached(&rt, SenderAttachError::AttachTooLarge),
-        (Refusal::AttachTooLarge, Asked::Nothing, LinkState::Attached)
+    assert_equal(
+        &rt,
+        &handled_attached(&rt, SenderAttachError::AttachTooLarge),
+        &(Refusal::AttachTooLarge, Asked::Nothing, LinkState::Attached),
     );
 }

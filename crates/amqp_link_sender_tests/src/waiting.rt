@@ -1,4 +1,5 @@
 //! What is pending at a sender when a payload is to be sent.
+use crate::assertions::assert_equal;
 use crate::samples::{attach_of, payload_of, text};
 use crate::sending::{SendAnswer, answered_by, link};
 use amqp_link_core::endpoint::LinkExt;
@@ -73,16 +74,22 @@ fn kept(answer: SendAnswer) -> Left {
 #[test]
 fn waiting_detach_is_recorded(rt: HostRuntime) {
     let closed = left_by(&rt, detach(true, None));
-    assert_eq!(rt; closed, gone(SendAnswer::RemoteClosed, LinkState::Closed));
+    assert_equal(
+        &rt,
+        &closed,
+        &gone(SendAnswer::RemoteClosed, LinkState::Closed),
+    );
     let detached = left_by(&rt, detach(false, None));
-    assert_eq!(rt;
-        detached,
-        gone(SendAnswer::RemoteDetached, LinkState::Detached)
+    assert_equal(
+        &rt,
+        &detached,
+        &gone(SendAnswer::RemoteDetached, LinkState::Detached),
     );
     let with_error = left_by(&rt, detach(true, Some(error(&rt))));
-    assert_eq!(rt;
-        with_error,
-        gone(SendAnswer::RemoteClosedWithError, LinkState::Closed)
+    assert_equal(
+        &rt,
+        &with_error,
+        &gone(SendAnswer::RemoteClosedWithError, LinkState::Closed),
     );
 }
 
@@ -91,12 +98,13 @@ fn nothing_else_may_wait(rt: HostRuntime) {
     let attach = attach_of(&rt, Role::Receiver, SenderSettleMode::Mixed);
     let frame = attach_frame(rt.alloc(), attach).expect(&rt, "memory");
     let other = left_by(&rt, Waiting::Frame(frame));
-    assert_eq!(rt; other, kept(SendAnswer::ExpectImmediateDetach));
-    assert_eq!(rt;
-        left_by(&rt, Waiting::Stopped(None)),
-        kept(SendAnswer::ExpectImmediateDetach)
+    assert_equal(&rt, &other, &kept(SendAnswer::ExpectImmediateDetach));
+    assert_equal(
+        &rt,
+        &left_by(&rt, Waiting::Stopped(None)),
+        &kept(SendAnswer::ExpectImmediateDetach),
     );
     let stopped = left_by(&rt, Waiting::Stopped(Some(SessionStopReason::Ended)));
-    assert_eq!(rt; stopped, kept(SendAnswer::SessionStopped));
+    assert_equal(&rt, &stopped, &kept(SendAnswer::SessionStopped));
     drop(other);
 }

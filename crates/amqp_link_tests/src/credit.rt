@@ -1,4 +1,5 @@
 //! Worked values of a credit run, and a walk of 1,000 calls past the wrap of delivery-counts.
+use crate::assertions::{assert_equal, assert_equal_at};
 use amqp_link::{Arrival, CreditRun, CreditRunError, LinkExt, Payload};
 use std::alloc::{AllocError, Global};
 use std::process::Abort;
@@ -56,6 +57,17 @@ fn numbers(run: &CreditRun) -> [(u32, u32); 2] {
     ]
 }
 
+// The calls of a run that have no other function here, without a contract: each call in a test is proved with all
+// that the contracts of those before it say.
+
+fn grant(run: &mut CreditRun, credit: u32, drain: bool, echo: bool) -> Result<(), CreditRunError> {
+    run.grant(credit, drain, echo)
+}
+
+fn back_arrives(run: &mut CreditRun) -> Result<bool, CreditRunError> {
+    run.back_arrives()
+}
+
 fn new_run(rt: &impl Abort, alloc: Global, count: u32, limit: u32) -> CreditRun {
     let run = CreditRun::new(alloc, count, limit);
     run.or_else(|_| CreditRun::new(alloc, count, limit))
@@ -67,28 +79,39 @@ fn credit_is_granted_past_the_wrap(rt: HostRuntime) {
     let alloc = rt.alloc();
     let mut run = new_run(&rt, alloc, 4294967294, 64);
     let byte = Payload::copy_from_slice(alloc, &[1]).expect(&rt, "memory");
-    assert_eq!(rt; run.grant(3, false, false), Ok(()));
-    assert_eq!(rt;
-        run.grant(2, false, false),
-        Err(CreditRunError::LimitLowered)
+    assert_equal(&rt, &grant(&mut run, 3, false, false), &Ok(()));
+    assert_equal(
+        &rt,
+        &grant(&mut run, 2, false, false),
+        &Err(CreditRunError::LimitLowered),
     );
-    assert_eq!(rt; run.back_arrives(), Ok(false));
-    assert_eq!(rt; send(&mut run, &byte, [255, 255, 255, 254]), Ok((true, 1)));
-    assert_eq!(rt; send(&mut run, &byte, [255, 255, 255, 255]), Ok((true, 1)));
-    assert_eq!(rt; send(&mut run, &byte, [0, 0, 0, 0]), Ok((true, 1)));
-    assert_eq!(rt;
-        send(&mut run, &byte, [0, 0, 0, 1]),
-        Err(CreditRunError::CreditMissing)
+    assert_equal(&rt, &back_arrives(&mut run), &Ok(false));
+    assert_equal(
+        &rt,
+        &send(&mut run, &byte, [255, 255, 255, 254]),
+        &Ok((true, 1)),
     );
-    assert_eq!(rt; arrive(&mut run, 0), Ok(Seen::Completed(1)));
-    assert_eq!(rt; arrive(&mut run, 1), Ok(Seen::Completed(1)));
-    assert_eq!(rt; arrive(&mut run, 2), Ok(Seen::Completed(1)));
-    assert_eq!(rt; numbers(&run), [(1, 0), (1, 0)]);
-    assert_eq!(rt;
-        run.grant(2147483648, false, false),
-        Err(CreditRunError::CreditTooLarge)
+    assert_equal(
+        &rt,
+        &send(&mut run, &byte, [255, 255, 255, 255]),
+        &Ok((true, 1)),
     );
-    assert_eq!(rt; run.grant(2147483647, false, false), Ok(()));
+    assert_equal(&rt, &send(&mut run, &byte, [0, 0, 0, 0]), &Ok((true, 1)));
+    assert_equal(
+        &rt,
+        &send(&mut run, &byte, [0, 0, 0, 1]),
+        &Err(CreditRunError::CreditMissing),
+    );
+    assert_equal(&rt, &arrive(&mut run, 0), &Ok(Seen::Completed(1)));
+    assert_equal(&rt, &arrive(&mut run, 1), &Ok(Seen::Completed(1)));
+    assert_equal(&rt, &arrive(&mut run, 2), &Ok(Seen::Completed(1)));
+    assert_equal(&rt, &numbers(&run), &[(1, 0), (1, 0)]);
+    assert_equal(
+        &rt,
+        &grant(&mut run, 2147483648, false, false),
+        &Err(CreditRunError::CreditTooLarge),
+    );
+    assert_equal(&rt, &grant(&mut run, 2147483647, false, false), &Ok(()));
     drop((run, byte));
 }
 
@@ -97,15 +120,15 @@ fn drained_credit_is_gone(rt: HostRuntime) {
     let alloc = rt.alloc();
     let mut run = new_run(&rt, alloc, 4294967294, 64);
     let byte = Payload::copy_from_slice(alloc, &[1]).expect(&rt, "memory");
-    assert_eq!(rt; run.grant(3, true, false), Ok(()));
-    assert_eq!(rt; run.back_arrives(), Ok(true));
-    assert_eq!(rt; numbers(&run), [(1, 0), (4294967294, 3)]);
-    assert_eq!(rt; arrive(&mut run, 0), Ok(Seen::Flow));
-    assert_eq!(rt; numbers(&run), [(1, 0), (1, 3)]);
-    assert_eq!(rt; run.grant(2, false, false), Ok(()));
-    assert_eq!(rt; run.back_arrives(), Ok(false));
-    assert_eq!(rt; numbers(&run), [(1, 2), (1, 2)]);
-    assert_eq!(rt; send(&mut run, &byte, [0, 0, 0, 1]), Ok((true, 1)));
+    assert_equal(&rt, &grant(&mut run, 3, true, false), &Ok(()));
+    assert_equal(&rt, &back_arrives(&mut run), &Ok(true));
+    assert_equal(&rt, &numbers(&run), &[(1, 0), (4294967294, 3)]);
+    assert_equal(&rt, &arrive(&mut run, 0), &Ok(Seen::Flow));
+    assert_equal(&rt, &numbers(&run), &[(1, 0), (1, 3)]);
+    assert_equal(&rt, &grant(&mut run, 2, false, false), &Ok(()));
+    assert_equal(&rt, &back_arrives(&mut run), &Ok(false));
+    assert_equal(&rt, &numbers(&run), &[(1, 2), (1, 2)]);
+    assert_equal(&rt, &send(&mut run, &byte, [0, 0, 0, 1]), &Ok((true, 1)));
     drop((run, byte));
 }
 
@@ -115,14 +138,18 @@ fn pieces_complete_a_delivery(rt: HostRuntime) {
     let alloc = rt.alloc();
     let mut run = new_run(&rt, alloc, 0, 64);
     let bytes = Payload::copy_from_slice(alloc, &[7; 79]).expect(&rt, "memory");
-    assert_eq!(rt; run.grant(1, false, false), Ok(()));
-    assert_eq!(rt; run.back_arrives(), Ok(false));
-    assert_eq!(rt; send(&mut run, &bytes, [0, 0, 0, 0]), Ok((true, 3)));
-    assert_eq!(rt; arrive(&mut run, 5), Ok(Seen::Piece));
-    assert_eq!(rt; arrive(&mut run, 5), Ok(Seen::Piece));
-    assert_eq!(rt; is_completed_as(&mut run, 5, &bytes), Ok(true));
-    assert_eq!(rt; arrive(&mut run, 5), Err(CreditRunError::QueueEmpty));
-    assert_eq!(rt; run.back_arrives(), Err(CreditRunError::QueueEmpty));
+    assert_equal(&rt, &grant(&mut run, 1, false, false), &Ok(()));
+    assert_equal(&rt, &back_arrives(&mut run), &Ok(false));
+    assert_equal(&rt, &send(&mut run, &bytes, [0, 0, 0, 0]), &Ok((true, 3)));
+    assert_equal(&rt, &arrive(&mut run, 5), &Ok(Seen::Piece));
+    assert_equal(&rt, &arrive(&mut run, 5), &Ok(Seen::Piece));
+    assert_equal(&rt, &is_completed_as(&mut run, 5, &bytes), &Ok(true));
+    assert_equal(&rt, &arrive(&mut run, 5), &Err(CreditRunError::QueueEmpty));
+    assert_equal(
+        &rt,
+        &back_arrives(&mut run),
+        &Err(CreditRunError::QueueEmpty),
+    );
     drop((run, bytes));
 }
 
@@ -159,10 +186,15 @@ impl Walk {
     fn step(&mut self, run: &mut CreditRun, payloads: &[Payload]) -> Result<(), CreditRunError> {
         let number = self.next();
         match number & 3 {
-            0 => run.grant((number >> 2) & 15, number & 192 == 0, number & 768 == 0),
+            0 => grant(
+                run,
+                (number >> 2) & 15,
+                number & 192 == 0,
+                number & 768 == 0,
+            ),
             1 => self.send(run, payloads, number),
             2 => self.arrive(run, number),
-            _ => run.back_arrives().map(|_| ()),
+            _ => back_arrives(run).map(|_| ()),
         }
     }
 
@@ -219,10 +251,10 @@ fn a_walk_completes_what_it_sends(rt: HostRuntime) {
     for id in 0..2000u32 {
         let _ = walk.arrive(&mut run, id);
     }
-    assert_eq!(rt; walk.completed, walk.sent);
-    assert_eq!(rt; (walk.sent.deliveries, walk.sent.bytes), (103, 5624));
+    assert_equal(&rt, &walk.completed, &walk.sent);
+    assert_equal(&rt, &(walk.sent.deliveries, walk.sent.bytes), &(103, 5624));
     let [sender, receiver] = numbers(&run);
-    assert_eq!(rt; sender.0, receiver.0);
+    assert_equal(&rt, &sender.0, &receiver.0);
     drop((run, payloads));
 }
 
@@ -237,8 +269,8 @@ enum Call {
 
 fn make(run: &mut CreditRun, call: Call, bytes: &Payload) -> Result<Option<Seen>, CreditRunError> {
     match call {
-        Call::Grant => run.grant(1, false, true).map(|()| None),
-        Call::Back => run.back_arrives().map(|_| None),
+        Call::Grant => grant(run, 1, false, true).map(|()| None),
+        Call::Back => back_arrives(run).map(|_| None),
         Call::Send => run.send(bytes, false).map(|sent| {
             drop(sent);
             None
@@ -254,7 +286,7 @@ fn again(rt: &impl Abort, run: &mut CreditRun, call: Call, bytes: &Payload) -> O
     if answer != Err(CreditRunError::OutOfMemory) {
         return answer.expect(rt, "no other refusal");
     }
-    assert_eq!(rt; numbers(run), before, "{call:?}");
+    assert_equal_at(rt, &numbers(run), &before, &call);
     make(run, call, bytes).expect(rt, "memory")
 }
 
@@ -266,27 +298,31 @@ fn refused_growth_loses_nothing(rt: HostRuntime) {
     let bytes = bytes.or_else(|_| Payload::copy_from_slice(rt.alloc(), &[7; 79]));
     let bytes = bytes.expect(&rt, "memory");
     let mut run = new_run(&rt, rt.alloc(), 0, 64);
-    assert_eq!(rt; again(&rt, &mut run, Call::Grant, &bytes), None);
-    assert_eq!(rt; again(&rt, &mut run, Call::Back, &bytes), None);
-    assert_eq!(rt; again(&rt, &mut run, Call::Send, &bytes), None);
-    assert_eq!(rt;
-        again(&rt, &mut run, Call::Forward, &bytes),
-        Some(Seen::Flow)
+    assert_equal(&rt, &again(&rt, &mut run, Call::Grant, &bytes), &None);
+    assert_equal(&rt, &again(&rt, &mut run, Call::Back, &bytes), &None);
+    assert_equal(&rt, &again(&rt, &mut run, Call::Send, &bytes), &None);
+    assert_equal(
+        &rt,
+        &again(&rt, &mut run, Call::Forward, &bytes),
+        &Some(Seen::Flow),
     );
-    assert_eq!(rt;
-        again(&rt, &mut run, Call::Forward, &bytes),
-        Some(Seen::Piece)
+    assert_equal(
+        &rt,
+        &again(&rt, &mut run, Call::Forward, &bytes),
+        &Some(Seen::Piece),
     );
-    assert_eq!(rt;
-        again(&rt, &mut run, Call::Forward, &bytes),
-        Some(Seen::Piece)
+    assert_equal(
+        &rt,
+        &again(&rt, &mut run, Call::Forward, &bytes),
+        &Some(Seen::Piece),
     );
-    assert_eq!(rt;
-        again(&rt, &mut run, Call::Forward, &bytes),
-        Some(Seen::Completed(79))
+    assert_equal(
+        &rt,
+        &again(&rt, &mut run, Call::Forward, &bytes),
+        &Some(Seen::Completed(79)),
     );
-    assert_eq!(rt; numbers(&run), [(1, 0), (1, 0)]);
-    assert_eq!(rt; run.receiver().unsettled().len(), 1);
-    assert_eq!(rt; run.sender().unsettled().len(), 1);
+    assert_equal(&rt, &numbers(&run), &[(1, 0), (1, 0)]);
+    assert_equal(&rt, &run.receiver().unsettled().len(), &1);
+    assert_equal(&rt, &run.sender().unsettled().len(), &1);
     drop((run, bytes));
 }

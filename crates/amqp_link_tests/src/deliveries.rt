@@ -1,4 +1,5 @@
 //! What an application sends: a copy with ample memory, and what is built by default; and what it makes of an outcome.
+use crate::assertions::assert_equal;
 use amqp_link::delivery::{
     Builder, FromDeliveryFailure, FromDeliveryState, FromPreSettled, RecvError, SendError,
     SendResult, outcome_of,
@@ -29,24 +30,24 @@ fn a_copy_has_all_fields(rt: HostRuntime) {
         .build();
     let copy = built.clone().expect(&rt, "memory");
     drop(built);
-    assert_eq!(rt; copy.message_format, 9);
-    assert_eq!(rt; copy.settled, Some(false));
-    assert_eq!(rt; copy.message.body, Number(2));
-    assert_eq!(rt; copy.message.preamble.as_slice(), [1].as_slice());
-    assert_eq!(rt; copy.message.footer.as_slice(), [3].as_slice());
+    assert_equal(&rt, &copy.message_format, &9);
+    assert_equal(&rt, &copy.settled, &Some(false));
+    assert_equal(&rt, &copy.message.body, &Number(2));
+    assert_equal(&rt, &copy.message.preamble.as_slice(), &[1].as_slice());
+    assert_equal(&rt, &copy.message.footer.as_slice(), &[3].as_slice());
     drop(copy);
 }
 
 #[test]
 fn made_of_a_body_or_a_message_has_format_0(rt: HostRuntime) {
     let made = Sendable::from_body(Number(2));
-    assert_eq!(rt; (made.message_format, made.settled), (0, None));
-    assert_eq!(rt; made.message.preamble.len(), 0);
-    assert_eq!(rt; made.message.footer.len(), 0);
+    assert_equal(&rt, &(made.message_format, made.settled), &(0, None));
+    assert_equal(&rt, &made.message.preamble.len(), &0);
+    assert_equal(&rt, &made.message.footer.len(), &0);
     drop(made);
     let made = Sendable::from_message(message(rt.alloc()).expect(&rt, "memory"));
-    assert_eq!(rt; (made.message_format, made.settled), (0, None));
-    assert_eq!(rt; made.message.preamble.as_slice(), [1].as_slice());
+    assert_equal(&rt, &(made.message_format, made.settled), &(0, None));
+    assert_equal(&rt, &made.message.preamble.as_slice(), &[1].as_slice());
     drop(made);
 }
 
@@ -54,8 +55,8 @@ fn made_of_a_body_or_a_message_has_format_0(rt: HostRuntime) {
 fn built_by_default_has_format_0(rt: HostRuntime) {
     let message = message(rt.alloc()).expect(&rt, "memory");
     let built = Builder::default().message(message).build();
-    assert_eq!(rt; (built.message_format, built.settled), (0, None));
-    assert_eq!(rt; built.message.body, Number(2));
+    assert_equal(&rt, &(built.message_format, built.settled), &(0, None));
+    assert_equal(&rt, &built.message.body, &Number(2));
     drop(built);
 }
 
@@ -89,35 +90,37 @@ fn seen_of(outcome: SendResult) -> Seen {
 
 #[test]
 fn each_state_has_its_result(rt: HostRuntime) {
-    assert_eq!(rt; seen_of(SendResult::from_settled()), Seen::Accepted);
-    assert_eq!(rt; seen_of(SendResult::from_none()), Seen::Stateless);
+    assert_equal(&rt, &seen_of(SendResult::from_settled()), &Seen::Accepted);
+    assert_equal(&rt, &seen_of(SendResult::from_none()), &Seen::Stateless);
     let released = SendResult::from_delivery_state(DeliveryState::Released);
-    assert_eq!(rt; seen_of(released), Seen::Released);
+    assert_equal(&rt, &seen_of(released), &Seen::Released);
     let received = SendResult::from_delivery_state(DeliveryState::Received {
         section_number: 0,
         section_offset: 3,
     });
-    assert_eq!(rt; seen_of(received), Seen::NotTerminal);
-    assert_eq!(rt;
-        seen_of(outcome_of(Ok(Some(DeliveryState::Accepted)))),
-        Seen::Accepted
+    assert_equal(&rt, &seen_of(received), &Seen::NotTerminal);
+    assert_equal(
+        &rt,
+        &seen_of(outcome_of(Ok(Some(DeliveryState::Accepted)))),
+        &Seen::Accepted,
     );
-    assert_eq!(rt; seen_of(outcome_of(Ok(None))), Seen::Stateless);
+    assert_equal(&rt, &seen_of(outcome_of(Ok(None))), &Seen::Stateless);
     let received = outcome_of(Ok(Some(DeliveryState::Received {
         section_number: 0,
         section_offset: 0,
     })));
-    assert_eq!(rt; seen_of(received), Seen::NotTerminal);
+    assert_equal(&rt, &seen_of(received), &Seen::NotTerminal);
 }
 
 #[test]
 fn each_failure_has_its_result(rt: HostRuntime) {
-    assert_eq!(rt;
-        seen_of(SendResult::from_oneshot_recv_error(RecvError)),
-        Seen::IllegalState
+    assert_equal(
+        &rt,
+        &seen_of(SendResult::from_oneshot_recv_error(RecvError)),
+        &Seen::IllegalState,
     );
     let stopped = SendResult::from_session_stop_reason(SessionStopReason::Ended);
-    assert_eq!(rt; seen_of(stopped), Seen::Stopped);
+    assert_equal(&rt, &seen_of(stopped), &Seen::Stopped);
     let closed = outcome_of(Err(LinkStateError::RemoteClosed));
-    assert_eq!(rt; seen_of(closed), Seen::Closed);
+    assert_equal(&rt, &seen_of(closed), &Seen::Closed);
 }

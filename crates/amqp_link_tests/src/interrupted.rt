@@ -1,5 +1,6 @@
 //! The calls of a script one by one, also if one allocation is refused, whichever it is. Run by hand with `rt
 //! try --test --fail-alloc N`.
+use crate::assertions::{assert_equal, assert_equal_at};
 use crate::script::{CUT_OFF, Call, RESUMED, SENT_AGAIN, Sample, Seen, TWELVE, new_sample};
 use amqp_link::errors::LinkStateError;
 use amqp_link::{DeliveryState, DeliveryTag, Fate, LinkExt, Pair, PairError, Whole};
@@ -110,7 +111,7 @@ fn again(rt: &impl Abort, pair: &mut Pair, call: Call, sample: &Sample) -> Resul
     if answer != Err(PairError::OutOfMemory) {
         return answer;
     }
-    assert_eq!(rt; standing_of(pair, &sample.tag), before, "{call:?}");
+    assert_equal_at(rt, &standing_of(pair, &sample.tag), &before, &call);
     make(pair, call, sample)
 }
 
@@ -122,7 +123,7 @@ fn expect_seen(
 ) {
     for (call, wanted) in calls {
         let answer = again(rt, pair, *call, sample);
-        assert_eq!(rt; answer, *wanted, "{call:?}");
+        assert_equal_at(rt, &answer, wanted, &call);
     }
 }
 
@@ -150,7 +151,7 @@ fn refused_growth_interrupts_nothing(rt: HostRuntime) {
             Shown::Nothing,
         ],
     };
-    assert_eq!(rt; left, wanted);
+    assert_equal(&rt, &left, &wanted);
 }
 
 #[test]
@@ -164,7 +165,12 @@ fn refused_growth_resumes_all_the_same(rt: HostRuntime) {
     let id = held.performative().delivery_id;
     drop(pair);
     drop(sample);
-    assert_eq!(rt; id, Some(8), "the id of the transfer that resumed it");
-    assert_eq!(rt; left.held, Some(12));
-    assert_eq!(rt; left.fates[1], Shown::Pending);
+    assert_equal_at(
+        &rt,
+        &id,
+        &Some(8),
+        &"the id of the transfer that resumed it",
+    );
+    assert_equal(&rt, &left.held, &Some(12));
+    assert_equal(&rt, &left.fates[1], &Shown::Pending);
 }

@@ -1,4 +1,5 @@
 //! Lists of calls that a pair runs by itself.
+use crate::assertions::{assert_equal, assert_equal_at, assert_holds_at};
 use crate::script::{CUT_OFF, Call, RESUMED, SENT_AGAIN, Sample, Seen, TWELVE, new_sample};
 use amqp_link::{Answer, DeliveryTag, Event, Fate, Pair, PairError, Payload};
 use std::alloc::{AllocError, Global};
@@ -72,11 +73,11 @@ fn run_from(
         if seen == Err(PairError::OutOfMemory) {
             refused = 1;
         } else {
-            assert_eq!(rt; seen, *wanted, "{call:?}");
+            assert_equal_at(rt, &seen, wanted, &call);
         }
     }
     let done = answers.len().saturating_sub(refused);
-    assert_eq!(rt; finished, done == events.len(), "all is done");
+    assert_equal_at(rt, &finished, &(done == events.len()), &"all is done");
     drop(answers);
     done
 }
@@ -96,7 +97,7 @@ fn expect_run(
         let left = all.get(done..).expect(rt, "events are left");
         let wanted = calls.get(done..).expect(rt, "so are their answers");
         let more = run_from(rt, pair, left, sample, wanted);
-        assert_eq!(rt; more, left.len(), "one growth was refused");
+        assert_equal_at(rt, &more, &left.len(), &"one growth was refused");
     }
     drop(all);
 }
@@ -122,8 +123,8 @@ fn scripts_run_to_their_end(rt: HostRuntime) {
 fn no_events_are_all_done(rt: HostRuntime) {
     let mut pair = Pair::new(rt.alloc(), 0).expect(&rt, "memory");
     let (answers, finished) = pair.run(&[]);
-    assert!(rt; answers.is_empty(), "no answer");
-    assert!(rt; finished, "all is done");
+    assert_holds_at(&rt, answers.is_empty(), &"no answer");
+    assert_holds_at(&rt, finished, &"all is done");
     drop(answers);
     drop(pair);
 }
@@ -153,14 +154,14 @@ fn ten_thousand_events(rt: HostRuntime) {
     let mut pair = Pair::new(rt.alloc(), 0).expect(&rt, "memory");
     let events = many_deliveries(rt.alloc(), 2000).expect(&rt, "memory");
     let (answers, finished) = pair.run(&events);
-    assert!(rt; finished, "all is done");
-    assert_eq!(rt; answers.len(), 10_001);
+    assert_holds_at(&rt, finished, &"all is done");
+    assert_equal(&rt, &answers.len(), &10_001);
     let done = answers.iter().filter(|answer| answer.is_ok()).count();
-    assert_eq!(rt; done, 10_001, "none is refused");
+    assert_equal_at(&rt, &done, &10_001, &"none is refused");
     let last = matches!(pair.ledger().fate(1999), Some(Fate::Resolved(_)));
-    assert!(rt; last, "the last delivery is settled");
+    assert_holds_at(&rt, last, &"the last delivery is settled");
     let none = pair.ledger().fate(2000).is_none();
-    assert!(rt; none, "there are no more registrations");
+    assert_holds_at(&rt, none, &"there are no more registrations");
     drop((answers, events));
     drop(pair);
 }

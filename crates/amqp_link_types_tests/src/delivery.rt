@@ -1,6 +1,7 @@
 //! The outcome of a delivery, by each of the calls that end it.
 mod complete;
 
+use crate::assertions::assert_equal_at;
 use amqp_link_types::delivery::{DeliveryOutcome, UnsettledMessage};
 use amqp_link_types::types::{DeliveryState, LinkStateError};
 use bytes::Bytes;
@@ -50,12 +51,18 @@ fn failed() -> Shown {
 
 #[test]
 fn deliveries_end(rt: HostRuntime) {
-    assert_eq!(rt; settled(), Shown::Accepted, "with the state that is known");
-    assert_eq!(rt; released(), Shown::Released, "with another state");
-    assert_eq!(rt;
-        settled_without_a_state(),
-        Shown::Nothing,
-        "without a state"
+    assert_equal_at(
+        &rt,
+        &settled(),
+        &Shown::Accepted,
+        &"with the state that is known",
     );
-    assert_eq!(rt; failed(), Shown::Closed, "for a reason");
+    assert_equal_at(&rt, &released(), &Shown::Released, &"with another state");
+    assert_equal_at(
+        &rt,
+        &settled_without_a_state(),
+        &Shown::Nothing,
+        &"without a state",
+    );
+    assert_equal_at(&rt, &failed(), &Shown::Closed, &"for a reason");
 }

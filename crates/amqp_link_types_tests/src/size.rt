@@ -1,5 +1,6 @@
 //! The lengths that the documents name, and one of each type. The other lengths that were worked by
 //! hand are rows of the program `replay_lengths`.
+use crate::assertions::assert_equal_at;
 use amqp_link_types::types::{
     Attach, Boxed, DeliveryState, DeliveryTag, DistributionMode, Error, Fields, Handle, Outcome,
     ReceiverSettleMode, Role, SenderSettleMode, Source, Symbol, Target, TargetArchetype, Text,
@@ -10,7 +11,7 @@ use std::process::Abort;
 
 // What is measured, its length, and why.
 fn row<L: EncodedLen + Drop>(rt: &impl Abort, part: L, length: u64, why: &str) {
-    assert_eq!(rt; part.encoded_len(), Some(length), "{why}");
+    assert_equal_at(rt, &part.encoded_len(), &Some(length), &why);
 }
 
 fn string(rt: &(impl Abort + AllocGlobal), words: &str) -> String {

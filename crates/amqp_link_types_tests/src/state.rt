@@ -1,4 +1,5 @@
 //! Worked values of flow states.
+use crate::assertions::{assert_equal, assert_equal_at, assert_holds};
 use amqp_link_state::role::{IntoRole, ReceiverMarker, SenderMarker};
 use amqp_link_state::state::{InsufficientCredit, LinkFlowState, LinkFlowStateInner};
 use amqp_link_types::types::{Fields, LinkFlow, OutputHandle, Role, SequenceNo, Symbol, Value};
@@ -65,14 +66,22 @@ fn answered_by(reply: Option<LinkFlow>) -> Reply {
 #[test]
 fn credit_is_spent_one_by_one(rt: HostRuntime) {
     let mut state = sender_at(0);
-    assert_eq!(rt; state.consume(1), Err(InsufficientCredit));
-    assert_eq!(rt; answered(&mut state, None, None, false), Reply::Nothing);
-    assert_eq!(rt; state.consume(1), Err(InsufficientCredit));
-    assert_eq!(rt; answered(&mut state, None, Some(2), false), Reply::Nothing);
-    assert_eq!(rt; state.consume(1), Ok([0, 0, 0, 0]));
-    assert_eq!(rt; state.consume(1), Ok([0, 0, 0, 1]));
-    assert_eq!(rt; state.consume(1), Err(InsufficientCredit));
-    assert_eq!(rt; state.delivery_count(), 2);
+    assert_equal(&rt, &state.consume(1), &Err(InsufficientCredit));
+    assert_equal(
+        &rt,
+        &answered(&mut state, None, None, false),
+        &Reply::Nothing,
+    );
+    assert_equal(&rt, &state.consume(1), &Err(InsufficientCredit));
+    assert_equal(
+        &rt,
+        &answered(&mut state, None, Some(2), false),
+        &Reply::Nothing,
+    );
+    assert_equal(&rt, &state.consume(1), &Ok([0, 0, 0, 0]));
+    assert_equal(&rt, &state.consume(1), &Ok([0, 0, 0, 1]));
+    assert_equal(&rt, &state.consume(1), &Err(InsufficientCredit));
+    assert_equal(&rt, &state.delivery_count(), &2);
     drop(state);
 }
 
@@ -96,7 +105,7 @@ fn credit_is_counted_from_the_count_of_the_flow(rt: HostRuntime) {
     ];
     for (own, count, credit, wanted) in rows {
         let answer = granted(own, count, credit);
-        assert_eq!(rt; answer, (Reply::Nothing, wanted, own), "at {own}");
+        assert_equal_at(&rt, &answer, &(Reply::Nothing, wanted, own), &own);
     }
 }
 
@@ -105,9 +114,9 @@ fn drain_takes_all_credit_to_the_count(rt: HostRuntime) {
     let mut state = sender_at(4294967294);
     let reply = answered(&mut state, Some(4294967294), Some(3), true);
     let fields = Some((7, 1, 0, 0, true, false));
-    assert_eq!(rt; reply, Reply::Flow(fields));
-    assert_eq!(rt; state.delivery_count(), 1);
-    assert_eq!(rt; state.link_credit(), 0);
+    assert_equal(&rt, &reply, &Reply::Flow(fields));
+    assert_equal(&rt, &state.delivery_count(), &1);
+    assert_equal(&rt, &state.link_credit(), &0);
     drop(state);
 }
 
@@ -134,13 +143,13 @@ fn receiver_takes_count_and_available(rt: HostRuntime) {
         ..LinkFlow::default()
     };
     let fields = Some((7, 7, 4, 3, true, false));
-    assert_eq!(rt; taken(&mut state, flow), Reply::Flow(fields));
+    assert_equal(&rt, &taken(&mut state, flow), &Reply::Flow(fields));
     let silent = LinkFlow::default();
-    assert_eq!(rt; taken(&mut state, silent), Reply::Nothing);
-    assert!(rt; state.consume(5).is_err());
-    assert!(rt; state.consume(4).is_ok());
-    assert_eq!(rt; state.delivery_count(), 11);
-    assert_eq!(rt; state.link_credit(), 0);
+    assert_equal(&rt, &taken(&mut state, silent), &Reply::Nothing);
+    assert_holds(&rt, state.consume(5).is_err());
+    assert_holds(&rt, state.consume(4).is_ok());
+    assert_equal(&rt, &state.delivery_count(), &11);
+    assert_equal(&rt, &state.link_credit(), &0);
     drop(state);
 }
 
@@ -205,21 +214,21 @@ fn stated(rt: &(impl Abort + AllocGlobal), included: bool) -> Option<Seen> {
 #[test]
 fn flows_carry_the_state_of_an_endpoint(rt: HostRuntime) {
     let with_properties = Some((1, Some(5), Some(4), Some(6), true, true));
-    assert_eq!(rt; flow_of(&rt, true, true), with_properties);
+    assert_equal(&rt, &flow_of(&rt, true, true), &with_properties);
     let bare = Some((0, Some(5), Some(4), Some(6), true, false));
-    assert_eq!(rt; flow_of(&rt, false, false), bare);
+    assert_equal(&rt, &flow_of(&rt, false, false), &bare);
 }
 
 #[test]
 fn receiver_states_what_it_sets(rt: HostRuntime) {
     for (included, number) in [(true, 1), (false, 0)] {
         let wanted = Some((number, Some(5), Some(9), None, false, true));
-        assert_eq!(rt; stated(&rt, included), wanted);
+        assert_equal(&rt, &stated(&rt, included), &wanted);
     }
 }
 
 #[test]
 fn markers_name_their_roles(rt: HostRuntime) {
-    assert_eq!(rt; SenderMarker::into_role(), Role::Sender);
-    assert_eq!(rt; ReceiverMarker::into_role(), Role::Receiver);
+    assert_equal(&rt, &SenderMarker::into_role(), &Role::Sender);
+    assert_equal(&rt, &ReceiverMarker::into_role(), &Role::Receiver);
 }

@@ -5,6 +5,7 @@ mod frames;
 mod maps;
 mod samples;
 
+use crate::assertions::assert_holds_at;
 use amqp_link_types::types::{DeliveryState, Outcome};
 
 // Whether a delivery is settled with this outcome as its state.
@@ -17,16 +18,16 @@ fn is_terminal(outcome: Outcome) -> bool {
 
 #[test]
 fn outcomes_are_terminal_states(rt: HostRuntime) {
-    assert!(rt; is_terminal(Outcome::Accepted), "accepted");
+    assert_holds_at(&rt, is_terminal(Outcome::Accepted), &"accepted");
     let rejected = Outcome::Rejected { error: None };
-    assert!(rt; is_terminal(rejected), "rejected");
-    assert!(rt; is_terminal(Outcome::Released), "released");
+    assert_holds_at(&rt, is_terminal(rejected), &"rejected");
+    assert_holds_at(&rt, is_terminal(Outcome::Released), &"released");
     let modified = Outcome::Modified {
         delivery_failed: Some(true),
         undeliverable_here: None,
         message_annotations: None,
     };
-    assert!(rt; is_terminal(modified), "modified");
+    assert_holds_at(&rt, is_terminal(modified), &"modified");
 }
 
 #[test]
@@ -37,5 +38,5 @@ fn a_position_is_no_terminal_state(rt: HostRuntime) {
     };
     let is_terminal = received.is_terminal();
     drop(received);
-    assert!(rt; !is_terminal, "received");
+    assert_holds_at(&rt, !is_terminal, &"received");
 }

@@ -1,4 +1,5 @@
 //! A broker's core.
+use crate::assertions::{assert_equal, assert_holds, assert_holds_at};
 use crate::samples::{attached_receiver, attached_sender, payload, tag_of};
 use amqp_link::types::{Target, Transfer};
 use amqp_link::{
@@ -71,11 +72,11 @@ fn delivery_is_sent_on_and_settled(rt: HostRuntime) {
     let delivery = complete(&rt, &mut incoming);
     let sent = send_on(&mut outgoing, &delivery).expect(&rt, "memory");
     let Forwarded { tag, frames } = sent.expect(&rt, "credit");
-    assert_eq!(rt; frames.len(), 1);
-    assert_eq!(rt; bytes_in_first(frames.as_slice()), 3);
+    assert_equal(&rt, &frames.len(), &1);
+    assert_equal(&rt, &bytes_in_first(frames.as_slice()), &3);
     drop(frames);
     let again = send_on(&mut outgoing, &delivery).expect(&rt, "memory");
-    assert!(rt; again.is_none(), "no more credit");
+    assert_holds_at(&rt, again.is_none(), &"no more credit");
     drop(again);
     let info = DeliveryInfo::of(&delivery).expect(&rt, "memory");
     drop(delivery);
@@ -85,8 +86,8 @@ fn delivery_is_sent_on_and_settled(rt: HostRuntime) {
     let LinkFrame::Disposition(disposition) = frame else {
         rt.abort()
     };
-    assert_eq!(rt; disposition.first, 7);
-    assert!(rt; disposition.settled);
+    assert_equal(&rt, &disposition.first, &7);
+    assert_holds(&rt, disposition.settled);
     drop((disposition, info, tag));
     drop((incoming, outgoing));
 }

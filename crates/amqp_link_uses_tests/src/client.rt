@@ -1,4 +1,5 @@
 //! A client.
+use crate::assertions::{assert_equal, assert_equal_at, assert_holds};
 use crate::samples::{attach_of, parts, payload, tag_of};
 use amqp_link::types::{LinkFlow, OutputHandle, Role, SenderSettleMode};
 use amqp_link::{DeliveryState, LinkFrame};
@@ -8,7 +9,7 @@ use std::process::Abort;
 fn client(rt: &(impl Abort + AllocGlobal)) -> Client {
     let parts = parts(rt, SenderSettleMode::Mixed);
     let (opening, attach) = Opening::new(rt.alloc(), parts, OutputHandle(0)).expect(rt, "memory");
-    assert!(rt; matches!(attach, LinkFrame::Attach(_)));
+    assert_holds(rt, matches!(attach, LinkFrame::Attach(_)));
     drop(attach);
     let theirs = attach_of(rt, Role::Receiver, SenderSettleMode::Unsettled);
     match opening.on_attach(theirs) {
@@ -33,21 +34,25 @@ fn request(rt: &(impl Abort + AllocGlobal), client: &mut Client) -> Result<usize
 #[test]
 fn request_has_its_outcome_once(rt: HostRuntime) {
     let mut client = client(&rt);
-    assert_eq!(rt; request(&rt, &mut client), Err(RequestError::CreditMissing));
+    assert_equal(
+        &rt,
+        &request(&rt, &mut client),
+        &Err(RequestError::CreditMissing),
+    );
     let flow = LinkFlow {
         link_credit: Some(2),
         ..LinkFlow::default()
     };
     drop(client.on_flow(flow));
-    assert_eq!(rt; request(&rt, &mut client), Ok(1));
-    assert_eq!(rt; request(&rt, &mut client), Err(RequestError::Busy));
+    assert_equal(&rt, &request(&rt, &mut client), &Ok(1));
+    assert_equal(&rt, &request(&rt, &mut client), &Err(RequestError::Busy));
     let tag = tag_of(&rt, 0);
     let outcome = client.on_disposition(true, Some(DeliveryState::Accepted), &tag);
-    assert_eq!(rt; outcome, Some(Ok(Some(DeliveryState::Accepted))));
+    assert_equal(&rt, &outcome, &Some(Ok(Some(DeliveryState::Accepted))));
     drop(outcome);
     let again = client.on_disposition(true, Some(DeliveryState::Released), &tag);
-    assert_eq!(rt; again, None);
+    assert_equal(&rt, &again, &None);
     drop(again);
-    assert_eq!(rt; request(&rt, &mut client), Ok(1), "the next request");
+    assert_equal_at(&rt, &request(&rt, &mut client), &Ok(1), &"the next request");
     drop((client, tag));
 }

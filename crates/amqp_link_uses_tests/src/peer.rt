@@ -1,4 +1,5 @@
 //! A test peer.
+use crate::assertions::assert_equal;
 use crate::samples::{attach_of, parts};
 use amqp_link::types::{Detach, Handle, LinkFlow, OutputHandle, Role, SenderSettleMode};
 use amqp_link::{ReceiverLink, SenderLink};
@@ -39,21 +40,23 @@ fn place_of_the_first_refused<L: TakeFlow>(
 fn either_endpoint_refuses_by_the_table(rt: HostRuntime) {
     let link = SenderLink::new(rt.alloc(), parts(&rt, SenderSettleMode::Mixed));
     let mut sender = link.with_output_handle(OutputHandle(0));
-    assert_eq!(rt;
-        place_of_the_first_refused(&rt, &mut sender, Role::Receiver, Frame::Detach(detach())),
-        Some(5)
+    assert_equal(
+        &rt,
+        &place_of_the_first_refused(&rt, &mut sender, Role::Receiver, Frame::Detach(detach())),
+        &Some(5),
     );
     drop(sender);
     let link = ReceiverLink::new(rt.alloc(), parts(&rt, SenderSettleMode::Mixed));
     let mut receiver = link.with_output_handle(OutputHandle(0));
-    assert_eq!(rt;
-        place_of_the_first_refused(
+    assert_equal(
+        &rt,
+        &place_of_the_first_refused(
             &rt,
             &mut receiver,
             Role::Sender,
-            Frame::Flow(LinkFlow::default())
+            Frame::Flow(LinkFlow::default()),
         ),
-        Some(5)
+        &Some(5),
     );
     drop(receiver);
 }

@@ -1,4 +1,5 @@
 //! A relay.
+use crate::assertions::assert_equal;
 use crate::samples::{attach_of, attached_sender, payload, tag_of};
 use amqp_link::resumption::ResumingDelivery;
 use amqp_link::types::{
@@ -51,7 +52,7 @@ fn delivery_is_resumed_after_a_cut(rt: HostRuntime) {
         resuming,
         outcomes,
     } = answer.ok().expect(&rt, "an attach that is accepted");
-    assert_eq!(rt; outcomes.len(), 0);
+    assert_equal(&rt, &outcomes.len(), &0);
     drop((attach, outcomes));
     let mut list = resuming.into_iter();
     let (tag, next) = list.next().expect(&rt, "a delivery");
@@ -59,13 +60,13 @@ fn delivery_is_resumed_after_a_cut(rt: HostRuntime) {
     let ResumingDelivery::Resume { entry, rest } = next else {
         rt.abort()
     };
-    assert_eq!(rt; rest.as_slice(), [6, 7, 8, 9, 10, 11, 12].as_slice());
+    assert_equal(&rt, &rest.as_slice(), &[6, 7, 8, 9, 10, 11, 12].as_slice());
     let frames = send_rest(&mut ledger, tag, entry, &rest).ok();
     let frames = frames.expect(&rt, "memory");
-    assert_eq!(rt; frames.len(), 1);
+    assert_equal(&rt, &frames.len(), &1);
     drop((frames, rest));
-    assert_eq!(rt; ledger.fate(0), Some(&Fate::HandedOut));
-    assert_eq!(rt; ledger.fate(1), Some(&Fate::Pending));
+    assert_equal(&rt, &ledger.fate(0), &Some(&Fate::HandedOut));
+    assert_equal(&rt, &ledger.fate(1), &Some(&Fate::Pending));
     drop(ledger);
 }
 
@@ -87,9 +88,9 @@ fn delivery_is_sent_again_after_a_cut(rt: HostRuntime) {
     };
     let frames = send_again(&mut ledger, tag, entry).ok();
     let frames = frames.expect(&rt, "memory");
-    assert_eq!(rt; frames.len(), 1);
+    assert_equal(&rt, &frames.len(), &1);
     drop(frames);
-    assert_eq!(rt; ledger.fate(0), Some(&Fate::HandedOut));
-    assert_eq!(rt; ledger.fate(1), Some(&Fate::Pending));
+    assert_equal(&rt, &ledger.fate(0), &Some(&Fate::HandedOut));
+    assert_equal(&rt, &ledger.fate(1), &Some(&Fate::Pending));
     drop(ledger);
 }

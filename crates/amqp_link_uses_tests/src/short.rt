@@ -1,4 +1,5 @@
 //! The shortest callers.
+use crate::assertions::{assert_equal, assert_holds};
 use crate::samples::{attach_of, attached_receiver, parts, payload, tag_of};
 use amqp_link::types::{LinkFlow, OutputHandle, Role, SenderSettleMode, Transfer};
 use amqp_link::{LinkAttach, LinkFrame, SenderLink};
@@ -17,7 +18,7 @@ fn one_delivery_is_sent(rt: HostRuntime) {
     let bytes = payload(&rt, &[7; 100]);
     let sent = send_one(&mut link, theirs, flow, &bytes);
     let frames = sent.expect(&rt, "memory").expect(&rt, "credit");
-    assert_eq!(rt; frames.len(), 3);
+    assert_equal(&rt, &frames.len(), &3);
     drop((frames, bytes));
     drop(link);
 }
@@ -32,9 +33,9 @@ fn one_delivery_is_received(rt: HostRuntime) {
     };
     let received = receive_one(rt.alloc(), &mut link, transfer, payload(&rt, &[1, 2, 3]));
     let delivery = received.expect(&rt, "a delivery");
-    assert_eq!(rt; delivery.body().0.as_slice(), [1, 2, 3].as_slice());
+    assert_equal(&rt, &delivery.body().0.as_slice(), &[1, 2, 3].as_slice());
     let accepted = accept(&mut link, &delivery).expect(&rt, "memory");
-    assert!(rt; matches!(accepted, Some(LinkFrame::Disposition(_))));
+    assert_holds(&rt, matches!(accepted, Some(LinkFrame::Disposition(_))));
     drop((delivery, accepted));
     drop(link);
 }

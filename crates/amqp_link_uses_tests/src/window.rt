@@ -1,4 +1,5 @@
 //! A receiver that keeps its window open.
+use crate::assertions::assert_equal;
 use crate::samples::payload;
 use amqp_link::{CreditRun, CreditRunError, LinkExt, Payload};
 use amqp_link_uses::window::{keep_open, take_next};
@@ -34,7 +35,7 @@ fn take(run: &mut CreditRun) -> Result<bool, CreditRunError> {
 fn the_window_stays_open(rt: HostRuntime) {
     let bytes = payload(&rt, &[7; 60]);
     let mut run = CreditRun::new(rt.alloc(), 4294967290, 64).expect(&rt, "memory");
-    assert_eq!(rt; keep_open(&mut run, 4), Ok(true));
+    assert_equal(&rt, &keep_open(&mut run, 4), &Ok(true));
     let mut sent = 0u32;
     let mut completed = 0u32;
     for _ in 0..200u32 {
@@ -45,8 +46,8 @@ fn the_window_stays_open(rt: HostRuntime) {
             completed = completed.wrapping_add(1);
         }
     }
-    assert_eq!(rt; completed, 100);
-    assert_eq!(rt; sent, 102);
-    assert_eq!(rt; run.receiver().flow_state().delivery_count(), 94);
+    assert_equal(&rt, &completed, &100);
+    assert_equal(&rt, &sent, &102);
+    assert_equal(&rt, &run.receiver().flow_state().delivery_count(), &94);
     drop((run, bytes));
 }

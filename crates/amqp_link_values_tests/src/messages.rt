@@ -1,4 +1,5 @@
 //! Worked values, and each body called through its bound.
+use crate::assertions::{assert_equal_at, assert_holds_at};
 use amqp_link_payloads::{DataBody, DecodeError, FromBody, Message, Payload, Whole};
 use bytes::Bytes;
 use std::process::Abort;
@@ -64,13 +65,14 @@ fn refusal_of<B: FromBody>(
 
 #[test]
 fn data_section_is_read_however_cut(rt: HostRuntime) {
-    assert!(rt; is_data(&rt, &SHORT, b"ab"), "in its short forms");
-    assert!(rt; is_data(&rt, &LONG, &[0x7F]), "in its long forms");
+    assert_holds_at(&rt, is_data(&rt, &SHORT, b"ab"), &"in its short forms");
+    assert_holds_at(&rt, is_data(&rt, &LONG, &[0x7F]), &"in its long forms");
     let mixed = [0x00, 0x53, 0x75, 0xB0, 0, 0, 0, 2, 0x61, 0x62];
-    assert!(rt; is_data(&rt, &mixed, b"ab"), "in one of each");
-    assert!(rt;
+    assert_holds_at(&rt, is_data(&rt, &mixed, b"ab"), &"in one of each");
+    assert_holds_at(
+        &rt,
         is_data(&rt, &[0x00, 0x53, 0x75, 0xA0, 0], &[]),
-        "without data"
+        &"without data",
     );
 }
 
@@ -89,12 +91,13 @@ fn all_else_is_refused(rt: HostRuntime) {
     ];
     let refused = Some(DecodeError::NotOneDataSection);
     for (bytes, at, message) in rows {
-        assert_eq!(rt;
-            refusal_of::<DataBody>(&rt, bytes, at),
-            refused,
-            "{message}"
+        assert_equal_at(
+            &rt,
+            &refusal_of::<DataBody>(&rt, bytes, at),
+            &refused,
+            &message,
         );
-        assert_eq!(rt; refusal_of::<Whole>(&rt, bytes, at), None, "{message}");
+        assert_equal_at(&rt, &refusal_of::<Whole>(&rt, bytes, at), &None, &message);
     }
 }
 
@@ -102,7 +105,11 @@ fn all_else_is_refused(rt: HostRuntime) {
 fn whole_body_is_all_bytes(rt: HostRuntime) {
     let alone = vec![in rt.alloc(); piece(&rt, b"ab")].expect(&rt, "memory");
     let none = Vec::new(rt.alloc());
-    assert!(rt; is_whole(&rt, cut(&rt, &SHORT, 4), &SHORT), "three pieces");
-    assert!(rt; is_whole(&rt, alone, b"ab"), "one piece");
-    assert!(rt; is_whole(&rt, none, b""), "no pieces");
+    assert_holds_at(
+        &rt,
+        is_whole(&rt, cut(&rt, &SHORT, 4), &SHORT),
+        &"three pieces",
+    );
+    assert_holds_at(&rt, is_whole(&rt, alone, b"ab"), &"one piece");
+    assert_holds_at(&rt, is_whole(&rt, none, b""), &"no pieces");
 }

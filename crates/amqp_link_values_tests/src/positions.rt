@@ -1,4 +1,5 @@
 // Positions that were worked out by hand.
+use crate::assertions::{assert_equal, assert_equal_at, assert_holds_at};
 use amqp_link_payloads::position::{place_in, place_of, position_of};
 use bytes::Bytes;
 use std::alloc::{AllocError, Global};
@@ -50,7 +51,7 @@ fn headers_are_counted(rt: HostRuntime) {
         (b"\x41\x00\x54\x70", (0, 4), "neither 53 nor 80"),
     ];
     for (bytes, want, message) in rows {
-        assert_eq!(rt; position_in_one(bytes), Some(want), "{message}");
+        assert_equal_at(&rt, &position_in_one(bytes), &Some(want), &message);
     }
 }
 
@@ -69,9 +70,9 @@ fn position_of_two(front: &'static [u8], rest: &'static [u8]) -> Option<(u32, u6
 #[test]
 fn cut_header_is_counted(rt: HostRuntime) {
     let five: &'static [u8] = b"\x00\x53\x70\xc0\x00";
-    assert_eq!(rt; position_of(&[]), Some((0, 0)));
-    assert_eq!(rt; position_in_one(five), Some((0, 5)));
-    assert_eq!(rt; position_of_two(five, b"\x53\x77\x41"), Some((1, 4)));
+    assert_equal(&rt, &position_of(&[]), &Some((0, 0)));
+    assert_equal(&rt, &position_in_one(five), &Some((0, 5)));
+    assert_equal(&rt, &position_of_two(five, b"\x53\x77\x41"), &Some((1, 4)));
 }
 
 // Each byte in a piece of its own.
@@ -95,7 +96,7 @@ fn begun_header_begins_anew(rt: HostRuntime) -> Result<(), Fail> {
     let wants = [(0, 1), (0, 2), (0, 3), (0, 4), (1, 3)];
     for (i, want) in wants.into_iter().enumerate() {
         let position = position_in_bytes(rt.alloc(), &b"\x00\x53\x00\x53\x75"[..=i])?;
-        assert_eq!(rt; position, Some(want));
+        assert_equal(&rt, &position, &Some(want));
     }
     Ok(())
 }
@@ -119,7 +120,7 @@ fn rests_are_placed(rt: HostRuntime) {
         (b"", (1, 0), None, "no second section"),
     ];
     for (payload, at, want, message) in rows {
-        assert_eq!(rt; placed_in_one(payload, at), want, "{message}");
+        assert_equal_at(&rt, &placed_in_one(payload, at), &want, &message);
     }
 }
 
@@ -157,11 +158,11 @@ fn each_front_has_a_place_of_its_own(rt: HostRuntime) {
         let mut before = None;
         for length in 0..payload.len().saturating_add(1) {
             let at = end_of_front(payload, length);
-            assert!(rt; before < at, "{payload:?} {length}");
+            assert_holds_at(&rt, before < at, &(payload, length));
             for cut in 0..payload.len().saturating_add(1) {
                 let want = (Some(length), Some(length as u64));
                 let place = placed(payload, cut, at.unwrap_or((9, 9)));
-                assert_eq!(rt; place, want, "{payload:?} {length} {cut}");
+                assert_equal_at(&rt, &place, &want, &(payload, length, cut));
             }
             before = at;
         }

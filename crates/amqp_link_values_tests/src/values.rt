@@ -3,6 +3,7 @@
 mod copies;
 mod symbols;
 
+use crate::assertions::{assert_equal_at, assert_holds_at};
 use amqp_link_values::{DeliveryTag, Descriptor, Fields, Symbol, Text, Value};
 use indexmap::IndexMap;
 use std::alloc::{AllocError, Global};
@@ -77,7 +78,7 @@ fn equality_sees_the_kind(rt: HostRuntime) {
     for kind in 0..KINDS {
         for other in 0..KINDS {
             let is_equal = are_equal(&rt, (kind, 0), (other, 0));
-            assert_eq!(rt; is_equal, kind == other, "kinds {kind} and {other}");
+            assert_equal_at(&rt, &is_equal, &(kind == other), &(kind, other));
         }
     }
 }
@@ -85,7 +86,7 @@ fn equality_sees_the_kind(rt: HostRuntime) {
 #[test]
 fn equality_sees_a_changed_leaf(rt: HostRuntime) {
     for kind in 1..KINDS {
-        assert!(rt; !are_equal(&rt, (kind, 0), (kind, 1)), "kind {kind}");
+        assert_holds_at(&rt, !are_equal(&rt, (kind, 0), (kind, 1)), &kind);
     }
 }
 
@@ -102,7 +103,7 @@ fn every_kind(rt: &(impl Abort + AllocGlobal)) -> Value {
 fn a_copied_value_is_equal(rt: HostRuntime) {
     let value = every_kind(&rt);
     let copy = value.clone().expect(&rt, "memory");
-    assert!(rt; copy == value, "a list of every kind");
+    assert_holds_at(&rt, copy == value, &"a list of every kind");
     drop((copy, value));
 }
 
@@ -144,10 +145,15 @@ fn fields(rt: &(impl Abort + AllocGlobal), first: u8, second: u8) -> Fields {
 #[test]
 fn a_replaced_field_keeps_its_place(rt: HostRuntime) {
     let mut fields = fields(&rt, 0, 1);
-    assert_eq!(rt; fields.len(), 2, "names");
-    assert_eq!(rt; put(&rt, &mut fields, 0, 7), Some(0), "the older value");
-    assert_eq!(rt; got(&rt, &fields, 0), Some(7), "the newer value");
-    assert_eq!(rt; fields.len(), 2, "names, as before");
+    assert_equal_at(&rt, &fields.len(), &2, &"names");
+    assert_equal_at(
+        &rt,
+        &put(&rt, &mut fields, 0, 7),
+        &Some(0),
+        &"the older value",
+    );
+    assert_equal_at(&rt, &got(&rt, &fields, 0), &Some(7), &"the newer value");
+    assert_equal_at(&rt, &fields.len(), &2, &"names, as before");
     drop(fields);
 }
 
@@ -159,8 +165,8 @@ fn the_order_of_fields_counts(rt: HostRuntime) {
     let (is_same, is_other) = (one == same, one == other);
     drop((one, same));
     drop(other);
-    assert!(rt; is_same, "in one order");
-    assert!(rt; !is_other, "in two orders");
+    assert_holds_at(&rt, is_same, &"in one order");
+    assert_holds_at(&rt, !is_other, &"in two orders");
 }
 
 // What a hashed map finds under a tag made apart.
@@ -183,9 +189,9 @@ fn a_hash_map_finds_a_tag_made_apart(rt: HostRuntime) {
         drop(put.expect(&rt, "memory"));
     }
     for number in 0..4u8 {
-        assert_eq!(rt; found(&rt, &map, number), Some(number), "tag {number}");
+        assert_equal_at(&rt, &found(&rt, &map, number), &Some(number), &number);
     }
-    assert_eq!(rt; found(&rt, &map, 4), None, "a tag that is not there");
+    assert_equal_at(&rt, &found(&rt, &map, 4), &None, &"a tag that is not there");
     drop(map);
 }
 
@@ -210,10 +216,10 @@ fn an_index_map_finds_a_tag_made_apart(rt: HostRuntime) {
     }
     for number in 0..4u8 {
         let found = found_in_order(&rt, &map, number);
-        assert_eq!(rt; found, Some(number), "tag {number}");
+        assert_equal_at(&rt, &found, &Some(number), &number);
     }
     let found = found_in_order(&rt, &map, 4);
-    assert_eq!(rt; found, None, "a tag that is not there");
+    assert_equal_at(&rt, &found, &None, &"a tag that is not there");
     drop(map);
 }
 
@@ -227,7 +233,7 @@ fn is_text(words: String, want: &str) -> bool {
 #[test]
 fn buffers_come_back(rt: HostRuntime) {
     let name = symbol(rt.alloc(), 0).expect(&rt, "memory");
-    assert!(rt; is_text(name.into_string(), "x:y"), "a symbol's");
+    assert_holds_at(&rt, is_text(name.into_string(), "x:y"), &"a symbol's");
     let words = Text::from(text(rt.alloc(), 1).expect(&rt, "memory"));
-    assert!(rt; is_text(words.into_string(), "x:z"), "a text's");
+    assert_holds_at(&rt, is_text(words.into_string(), "x:z"), &"a text's");
 }

@@ -1,4 +1,5 @@
 //! Deliveries that are cut off and resumed, and their fronts.
+use crate::assertions::{assert_equal, assert_equal_at};
 use crate::incomplete_transfer::{BARE, FIRST, Row, append, seen, start, transfer_of};
 use amqp_link_core::incomplete_transfer::IncompleteTransfer;
 use amqp_link_types::types::ReceiverTransferError as Refused;
@@ -72,12 +73,13 @@ fn resumption_names_its_delivery(rt: HostRuntime) -> Result<(), Fail> {
         ),
     ];
     for (row, want, message) in rows {
-        assert_eq!(rt;
-            resumed(&mut held, rt.alloc(), row, b"\x53"),
-            want,
-            "{message}"
+        assert_equal_at(
+            &rt,
+            &resumed(&mut held, rt.alloc(), row, b"\x53"),
+            &want,
+            &message,
         );
-        assert_eq!(rt; seen(&held), (SEVEN, 1, 5, (0, 5)), "{message}");
+        assert_equal_at(&rt, &seen(&held), &(SEVEN, 1, 5, (0, 5)), &message);
     }
     drop(held);
     Ok(())
@@ -88,19 +90,20 @@ fn resumption_gives_a_new_id(rt: HostRuntime) -> Result<(), Fail> {
     let alloc = rt.alloc();
     let mut held = start(alloc, SEVEN, b"\x00\x53\x70\xc0\x00")?;
     let eight = named(Some(8), Some(1), None);
-    assert_eq!(rt;
-        resumed(&mut held, alloc, eight, b"\x53\x77\x41"),
-        Answer::Taken
+    assert_equal(
+        &rt,
+        &resumed(&mut held, alloc, eight, b"\x53\x77\x41"),
+        &Answer::Taken,
     );
     let merged = Row {
         id: Some(8),
         ..FIRST
     };
-    assert_eq!(rt; seen(&held), (merged, 2, 8, (1, 4)), "the new id");
+    assert_equal_at(&rt, &seen(&held), &(merged, 2, 8, (1, 4)), &"the new id");
     let old = answer_of(append(&mut held, alloc, named(Some(7), None, None), b""));
-    assert_eq!(rt; old, Answer::Inconsistent, "the old id afterwards");
+    assert_equal_at(&rt, &old, &Answer::Inconsistent, &"the old id afterwards");
     let new = answer_of(append(&mut held, alloc, named(Some(8), None, None), b""));
-    assert_eq!(rt; new, Answer::Taken, "the new id afterwards");
+    assert_equal_at(&rt, &new, &Answer::Taken, &"the new id afterwards");
     drop(held);
     Ok(())
 }
@@ -110,21 +113,27 @@ fn front_is_kept(rt: HostRuntime) -> Result<(), Fail> {
     let alloc = rt.alloc();
     let mut held = start(alloc, FIRST, b"\x00\x53\x70\xc0\x00\x53\x77\x41")?;
     let kept = held.keep_buffer_till_section_number_and_offset(1, 0);
-    assert_eq!(rt; kept, Ok(()));
-    assert_eq!(rt;
-        seen(&held),
-        (FIRST, 1, 4, (0, 4)),
-        "up to the second section"
+    assert_equal(&rt, &kept, &Ok(()));
+    assert_equal_at(
+        &rt,
+        &seen(&held),
+        &(FIRST, 1, 4, (0, 4)),
+        &"up to the second section",
     );
     let kept = held.keep_buffer_till_section_number_and_offset(2, 0);
-    assert_eq!(rt; kept, Ok(()));
-    assert_eq!(rt; seen(&held), (FIRST, 1, 4, (0, 4)), "no such section");
+    assert_equal(&rt, &kept, &Ok(()));
+    assert_equal_at(
+        &rt,
+        &seen(&held),
+        &(FIRST, 1, 4, (0, 4)),
+        &"no such section",
+    );
     let kept = held.keep_buffer_till_section_number_and_offset(0, 5);
-    assert_eq!(rt; kept, Ok(()));
-    assert_eq!(rt; seen(&held), (FIRST, 1, 4, (0, 4)), "past the end");
+    assert_equal(&rt, &kept, &Ok(()));
+    assert_equal_at(&rt, &seen(&held), &(FIRST, 1, 4, (0, 4)), &"past the end");
     let kept = held.keep_buffer_till_section_number_and_offset(0, 0);
-    assert_eq!(rt; kept, Ok(()));
-    assert_eq!(rt; seen(&held), (FIRST, 0, 0, (0, 0)), "nothing");
+    assert_equal(&rt, &kept, &Ok(()));
+    assert_equal_at(&rt, &seen(&held), &(FIRST, 0, 0, (0, 0)), &"nothing");
     drop(held);
     Ok(())
 }
@@ -187,7 +196,7 @@ fn front_is_kept_of_any_pieces(rt: HostRuntime) -> Result<(), Fail> {
             for first in 0..9 {
                 let answer = front(rt.alloc(), (first, second), at, length)?;
                 let want = (true, length as u64, position);
-                assert_eq!(rt; answer, want, "{at:?} {first} {second}");
+                assert_equal_at(&rt, &answer, &want, &(at, first, second));
             }
         }
     }

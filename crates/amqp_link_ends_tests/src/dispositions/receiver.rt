@@ -1,5 +1,6 @@
 //! A receiver.
 use super::{DispositionFields, Shown, all_fields, error, fields, shown_by_state};
+use crate::assertions::{assert_equal, assert_equal_at};
 use crate::samples::{count_tag, parts};
 use amqp_link_core::endpoint::LinkExt;
 use amqp_link_receiver::receiver_link::ReceiverLink;
@@ -110,13 +111,18 @@ fn dispositions_break_where_modes_differ(rt: HostRuntime) {
         None,
         None,
     ];
-    assert_eq!(rt; fields, Some((2, frames)));
-    assert_eq!(rt;
-        tags,
-        [Some(2), Some(1), None],
-        "the last moves into the gap"
+    assert_equal(&rt, &fields, &Some((2, frames)));
+    assert_equal_at(
+        &rt,
+        &tags,
+        &[Some(2), Some(1), None],
+        &"the last moves into the gap",
     );
-    assert_eq!(rt; actual, [Shown::Absent, Shown::Accepted, Shown::Accepted]);
+    assert_equal(
+        &rt,
+        &actual,
+        &[Shown::Absent, Shown::Accepted, Shown::Accepted],
+    );
 }
 
 #[test]
@@ -140,8 +146,8 @@ fn dispositions_name_runs(rt: HostRuntime) {
         Some((8, Some(9), true)),
         Some((11, Some(11), true)),
     ];
-    assert_eq!(rt; fields, Some((4, frames)));
-    assert_eq!(rt; tags, [None, None, None]);
+    assert_equal(&rt, &fields, &Some((4, frames)));
+    assert_equal(&rt, &tags, &[None, None, None]);
 }
 
 #[test]
@@ -181,8 +187,13 @@ fn long_batch_is_named_in_order(rt: HostRuntime) {
         None,
         None,
     ];
-    assert_eq!(rt; fields, Some((2, frames)), "the number 13 is listed twice");
-    assert_eq!(rt; tags, [None, None, None], "all of them are settled");
+    assert_equal_at(
+        &rt,
+        &fields,
+        &Some((2, frames)),
+        &"the number 13 is listed twice",
+    );
+    assert_equal_at(&rt, &tags, &[None, None, None], &"all of them are settled");
 }
 
 #[test]
@@ -196,25 +207,31 @@ fn ends_of_the_numbers_are_no_run(rt: HostRuntime) {
         None,
         None,
     ];
-    assert_eq!(rt; fields, Some((2, frames)));
+    assert_equal(&rt, &fields, &Some((2, frames)));
 }
 
 #[test]
 fn no_disposition_for_what_is_not_kept(rt: HostRuntime) {
     let (fields, tags, actual) = all_accepted(&rt, 1, None, [(4, 9, None), (4, 0, SECOND)]);
-    assert_eq!(rt;
-        fields,
-        Some((1, [Some((4, Some(4), false)), None, None, None]))
+    assert_equal(
+        &rt,
+        &fields,
+        &Some((1, [Some((4, Some(4), false)), None, None, None])),
     );
-    assert_eq!(rt; tags, [Some(0), None, None]);
-    assert_eq!(rt; actual, [Shown::Accepted, Shown::Absent, Shown::Absent]);
+    assert_equal(&rt, &tags, &[Some(0), None, None]);
+    assert_equal(
+        &rt,
+        &actual,
+        &[Shown::Accepted, Shown::Absent, Shown::Absent],
+    );
     let (fields, tags, _) = all_accepted(&rt, 1, None, []);
-    assert_eq!(rt;
-        fields,
-        Some((0, [None, None, None, None])),
-        "nothing is listed"
+    assert_equal_at(
+        &rt,
+        &fields,
+        &Some((0, [None, None, None, None])),
+        &"nothing is listed",
     );
-    assert_eq!(rt; tags, [Some(0), None, None]);
+    assert_equal(&rt, &tags, &[Some(0), None, None]);
 }
 
 #[test]
@@ -227,12 +244,13 @@ fn settled_delivery_does_not_come_back(rt: HostRuntime) {
         Some((2, Some(2), false)),
         None,
     ];
-    assert_eq!(rt;
-        fields,
-        Some((3, frames)),
-        "each number as often as it is listed"
+    assert_equal_at(
+        &rt,
+        &fields,
+        &Some((3, frames)),
+        &"each number as often as it is listed",
     );
-    assert_eq!(rt; tags, [None, None, None]);
+    assert_equal(&rt, &tags, &[None, None, None]);
 }
 
 // The disposition of one delivery, released, and what is known of it then.
@@ -256,20 +274,26 @@ fn released(
 #[test]
 fn one_is_settled_by_flag_or_mode(rt: HostRuntime) {
     let actual = released(&rt, None, [(7, 0, None)]);
-    assert_eq!(rt;
-        actual,
-        (Some(Some((7, None, true))), Shown::Absent),
-        "the link's mode"
+    assert_equal_at(
+        &rt,
+        &actual,
+        &(Some(Some((7, None, true))), Shown::Absent),
+        &"the link's mode",
     );
     let actual = released(&rt, None, [(7, 0, SECOND)]);
-    assert_eq!(rt; actual, (Some(Some((7, None, false))), Shown::Released));
+    assert_equal(
+        &rt,
+        &actual,
+        &(Some(Some((7, None, false))), Shown::Released),
+    );
     let actual = released(&rt, Some(true), [(7, 0, SECOND)]);
-    assert_eq!(rt; actual, (Some(Some((7, None, true))), Shown::Absent));
+    assert_equal(&rt, &actual, &(Some(Some((7, None, true))), Shown::Absent));
     let actual = released(&rt, None, [(7, 5, None)]);
-    assert_eq!(rt;
-        actual,
-        (Some(None), Shown::Received(0, 0)),
-        "a tag that is not kept"
+    assert_equal_at(
+        &rt,
+        &actual,
+        &(Some(None), Shown::Received(0, 0)),
+        &"a tag that is not kept",
     );
 }
 
@@ -291,14 +315,19 @@ fn shown_after(
 #[test]
 fn incoming_dispositions_are_never_answered(rt: HostRuntime) {
     let actual = shown_after(&rt, true, Some(DeliveryState::Accepted));
-    assert_eq!(rt; actual, (false, Shown::Absent));
+    assert_equal(&rt, &actual, &(false, Shown::Absent));
     let actual = shown_after(&rt, false, Some(DeliveryState::Accepted));
-    assert_eq!(rt;
-        actual,
-        (false, Shown::Accepted),
-        "a terminal state alone ends nothing"
+    assert_equal_at(
+        &rt,
+        &actual,
+        &(false, Shown::Accepted),
+        &"a terminal state alone ends nothing",
     );
-    assert_eq!(rt; shown_after(&rt, false, None), (false, Shown::NoState));
+    assert_equal(
+        &rt,
+        &shown_after(&rt, false, None),
+        &(false, Shown::NoState),
+    );
 }
 
 #[test]
@@ -309,7 +338,7 @@ fn disposition_of_an_unknown_tag_enters_nothing(rt: HostRuntime) {
     let kept = link.unsettled().len();
     drop(tag);
     drop(link);
-    assert_eq!(rt; (echo, kept), (false, 1));
+    assert_equal(&rt, &(echo, kept), &(false, 1));
 }
 
 // The reply to a detach: the handle, whether it closes and whether there is an error.
@@ -340,8 +369,8 @@ fn detach_is_answered_at_the_own_handle(rt: HostRuntime) {
     let answered = detached(&link, None, true);
     let with_error = detached(&link, Some(error(&rt)), true);
     drop(link);
-    assert_eq!(rt; unattached, Err(LinkRelayError::UnattachedHandle));
-    assert_eq!(rt; own, Ok(None));
-    assert_eq!(rt; answered, Ok(Some((3, true, false))));
-    assert_eq!(rt; with_error, Ok(Some((3, true, true))));
+    assert_equal(&rt, &unattached, &Err(LinkRelayError::UnattachedHandle));
+    assert_equal(&rt, &own, &Ok(None));
+    assert_equal(&rt, &answered, &Ok(Some((3, true, false))));
+    assert_equal(&rt, &with_error, &Ok(Some((3, true, true))));
 }

@@ -3,6 +3,7 @@
 //! --test --fail-alloc N`.
 use super::receiver::{self, SECOND};
 use super::{Shown, sender};
+use crate::assertions::assert_equal;
 use amqp_link_core::endpoint::LinkExt;
 use amqp_link_receiver::receiver_link::ReceiverLink;
 use amqp_link_sender::sender_link::SenderLink;
@@ -37,14 +38,15 @@ fn sender_loses_nothing(rt: HostRuntime) {
     drop(pairs);
     drop(link);
     if first.is_none() {
-        assert_eq!(rt; between, before);
+        assert_equal(&rt, &between, &before);
     }
     let frames = [Some((6, Some(7), true)), Some((9, None, true)), None, None];
     let ended = [Shown::NoState, Shown::NoState, Shown::NoState];
-    assert_eq!(rt; actual, Some((2, frames, 3, ended)));
-    assert_eq!(rt;
-        after,
-        [(0, Shown::Absent), (0, Shown::Absent), (0, Shown::Absent)]
+    assert_equal(&rt, &actual, &Some((2, frames, 3, ended)));
+    assert_equal(
+        &rt,
+        &after,
+        &[(0, Shown::Absent), (0, Shown::Absent), (0, Shown::Absent)],
     );
 }
 
@@ -63,10 +65,10 @@ fn failed_deliveries_are_not_lost(rt: HostRuntime) {
     };
     drop(link);
     if first.is_none() {
-        assert_eq!(rt; between, before);
+        assert_equal(&rt, &between, &before);
     }
     let closed = sender::all_ended(Shown::RemoteClosedWithError);
-    assert_eq!(rt; actual, Some((closed, 0)));
+    assert_equal(&rt, &actual, &Some((closed, 0)));
 }
 
 #[test]
@@ -84,10 +86,10 @@ fn closing_detach_loses_nothing(rt: HostRuntime) {
     };
     drop(link);
     if first.is_none() {
-        assert_eq!(rt; between, before);
+        assert_equal(&rt, &between, &before);
     }
     let closed = sender::all_ended(Shown::RemoteClosed);
-    assert_eq!(rt; actual, Some((Some((0, true, false)), closed, 0)));
+    assert_equal(&rt, &actual, &Some((Some((0, true, false)), closed, 0)));
 }
 
 // The tags that a receiver keeps, and what is known of two.
@@ -119,7 +121,7 @@ fn receiver_loses_nothing(rt: HostRuntime) {
     drop(infos);
     drop(link);
     if first.is_none() {
-        assert_eq!(rt; between, before);
+        assert_equal(&rt, &between, &before);
     }
     let frames = [
         Some((4, Some(4), false)),
@@ -127,6 +129,10 @@ fn receiver_loses_nothing(rt: HostRuntime) {
         None,
         None,
     ];
-    assert_eq!(rt; actual, Some((2, frames)));
-    assert_eq!(rt; after, ([Some(0), None], [Shown::Accepted, Shown::Absent]));
+    assert_equal(&rt, &actual, &Some((2, frames)));
+    assert_equal(
+        &rt,
+        &after,
+        &([Some(0), None], [Shown::Accepted, Shown::Absent]),
+    );
 }

@@ -1,5 +1,6 @@
 //! A sender.
 use super::{DispositionFields, Shown, all_fields, error, shown_by, shown_by_state};
+use crate::assertions::{assert_equal, assert_equal_at};
 use crate::samples::{attach_of, count_tag, parts};
 use amqp_link_core::endpoint::{LinkAttach, LinkExt};
 use amqp_link_sender::sender_link::{DispositionAnswer, SenderLink, Waiting};
@@ -112,16 +113,17 @@ fn stored_state_is_the_outcome(rt: HostRuntime) {
     drop(tag);
     drop(link);
     let alone = |settled| [Some((9, None, settled)), None, None, None];
-    assert_eq!(rt; set, Some((1, alone(false), 0, NONE)));
-    assert_eq!(rt; between, (1, Shown::Accepted));
+    assert_equal(&rt, &set, &Some((1, alone(false), 0, NONE)));
+    assert_equal(&rt, &between, &(1, Shown::Accepted));
     let accepted = [Shown::Accepted, Shown::Absent, Shown::Absent];
-    assert_eq!(rt; settled, Some((1, alone(true), 1, accepted)));
-    assert_eq!(rt;
-        unknown,
-        Some((1, alone(true), 0, NONE)),
-        "a tag that is not kept"
+    assert_equal(&rt, &settled, &Some((1, alone(true), 1, accepted)));
+    assert_equal_at(
+        &rt,
+        &unknown,
+        &Some((1, alone(true), 0, NONE)),
+        &"a tag that is not kept",
     );
-    assert_eq!(rt; after, (0, Shown::Absent));
+    assert_equal(&rt, &after, &(0, Shown::Absent));
 }
 
 // The last bytes of the tags of outcomes, in order.
@@ -172,27 +174,28 @@ fn long_batch_ends_in_order(rt: HostRuntime) {
     let (frames, outcomes) = answer.expect(&rt, "memory");
     let (count, fields) = all_fields(frames.as_slice());
     let tags = tags_of(&rt, &outcomes);
-    assert_eq!(rt; link.unsettled().len(), 0);
+    assert_equal(&rt, &link.unsettled().len(), &0);
     drop(pairs);
     drop(link);
     drop(frames);
     drop(outcomes);
-    assert_eq!(rt; count, 2, "the number 13 is listed twice");
+    assert_equal_at(&rt, &count, &2, &"the number 13 is listed twice");
     let runs = [
         Some((1, Some(13), true)),
         Some((13, Some(25), true)),
         None,
         None,
     ];
-    assert_eq!(rt; fields, runs);
+    assert_equal(&rt, &fields, &runs);
     let in_order = [
         24, 23, 22, 21, 20, 19, 18, 17, 16, 15, 14, 13, 12, 25, 11, 10, 9, 8, 7, 6, 5, 4, 3, 2, 1,
         0,
     ];
-    assert_eq!(rt;
-        tags.as_slice(),
-        in_order.as_slice(),
-        "of one number as they are listed"
+    assert_equal_at(
+        &rt,
+        &tags.as_slice(),
+        &in_order.as_slice(),
+        &"of one number as they are listed",
     );
 }
 
@@ -205,8 +208,8 @@ fn mode_settled_sends_no_disposition(rt: HostRuntime) {
     drop(pairs);
     drop(link);
     let nothing = Some((0, [None, None, None, None], 0, NONE));
-    assert_eq!(rt; batch, nothing);
-    assert_eq!(rt; one, nothing);
+    assert_equal(&rt, &batch, &nothing);
+    assert_equal(&rt, &one, &nothing);
 }
 
 // The dispositions of a sender without pending deliveries for these ids.
@@ -227,13 +230,14 @@ fn batch<const N: usize>(
 fn dispositions_name_runs(rt: HostRuntime) {
     let runs = batch(&rt, [(1, 0), (2, 1), (3, 2), (5, 3)]);
     let one_to_three = Some((1, Some(3), true));
-    assert_eq!(rt;
-        runs,
-        Some((2, [one_to_three, Some((5, None, true)), None, None]))
+    assert_equal(
+        &rt,
+        &runs,
+        &Some((2, [one_to_three, Some((5, None, true)), None, None])),
     );
     let runs = batch(&rt, [(1, 0), (1, 1), (2, 2)]);
     let fields = [Some((1, None, true)), Some((1, Some(2), true)), None, None];
-    assert_eq!(rt; runs, Some((2, fields)), "equal ids");
+    assert_equal_at(&rt, &runs, &Some((2, fields)), &"equal ids");
     let last = u32::MAX;
     let runs = batch(&rt, [(last, 0), (0, 1), (last - 1, 2)]);
     let fields = [
@@ -242,8 +246,8 @@ fn dispositions_name_runs(rt: HostRuntime) {
         None,
         None,
     ];
-    assert_eq!(rt; runs, Some((2, fields)), "the ends of the numbers");
-    assert_eq!(rt; batch(&rt, []), Some((0, [None, None, None, None])));
+    assert_equal_at(&rt, &runs, &Some((2, fields)), &"the ends of the numbers");
+    assert_equal(&rt, &batch(&rt, []), &Some((0, [None, None, None, None])));
 }
 
 #[test]
@@ -259,11 +263,12 @@ fn outcomes_are_by_number_and_once(rt: HostRuntime) {
     drop(pairs);
     drop(link);
     let ended = [Shown::Released, Shown::NoState, Shown::Absent];
-    assert_eq!(rt;
-        actual,
-        Some((1, [Some((5, Some(8), true)), None, None, None], 2, ended))
+    assert_equal(
+        &rt,
+        &actual,
+        &Some((1, [Some((5, Some(8), true)), None, None, None], 2, ended)),
     );
-    assert_eq!(rt; left, (1, Shown::NoState));
+    assert_equal(&rt, &left, &(1, Shown::NoState));
 }
 
 #[test]
@@ -275,12 +280,13 @@ fn states_are_set_of_those_that_are_kept(rt: HostRuntime) {
     let other = known(&rt, &link, 0);
     drop(pairs);
     drop(link);
-    assert_eq!(rt;
-        actual,
-        Some((1, [Some((1, Some(3), false)), None, None, None], 0, NONE))
+    assert_equal(
+        &rt,
+        &actual,
+        &Some((1, [Some((1, Some(3), false)), None, None, None], 0, NONE)),
     );
-    assert_eq!(rt; set, (2, Shown::Accepted));
-    assert_eq!(rt; other, (2, Shown::NoState));
+    assert_equal(&rt, &set, &(2, Shown::Accepted));
+    assert_equal(&rt, &other, &(2, Shown::NoState));
 }
 
 // The result of the receiver's disposition of the first delivery, and what is known of it then.
@@ -305,21 +311,22 @@ fn shown_after(
 fn incoming_dispositions_end_or_are_kept(rt: HostRuntime) {
     let (first, second) = (ReceiverSettleMode::First, ReceiverSettleMode::Second);
     let actual = shown_after(&rt, second, false, Some(DeliveryState::Accepted));
-    assert_eq!(rt; actual, (true, Shown::Accepted, Shown::Absent));
+    assert_equal(&rt, &actual, &(true, Shown::Accepted, Shown::Absent));
     let received = DeliveryState::Received {
         section_number: 0,
         section_offset: 3,
     };
     let actual = shown_after(&rt, first, false, Some(received));
-    assert_eq!(rt; actual, (false, Shown::Absent, Shown::Received(0, 3)));
+    assert_equal(&rt, &actual, &(false, Shown::Absent, Shown::Received(0, 3)));
     let actual = shown_after(&rt, second, true, None);
-    assert_eq!(rt;
-        actual,
-        (false, Shown::NoState, Shown::Absent),
-        "settled without a state"
+    assert_equal_at(
+        &rt,
+        &actual,
+        &(false, Shown::NoState, Shown::Absent),
+        &"settled without a state",
     );
     let actual = shown_after(&rt, second, false, None);
-    assert_eq!(rt; actual, (true, Shown::Absent, Shown::NoState));
+    assert_equal(&rt, &actual, &(true, Shown::Absent, Shown::NoState));
 }
 
 // One of a tag that is not pending ends nothing, enters nothing, and is answered all the same.
@@ -333,7 +340,7 @@ fn disposition_of_an_unknown_tag_ends_nothing(rt: HostRuntime) {
     let pending = link.unsettled().len();
     drop((tag, outcome));
     drop(link);
-    assert_eq!(rt; (echo, actual, pending), (true, Shown::Absent, 1));
+    assert_equal(&rt, &(echo, actual, pending), &(true, Shown::Absent, 1));
 }
 
 // How many deliveries ended, and the tag's last byte and the outcome of the first three.
@@ -397,11 +404,16 @@ fn closing_detach_ends_all(rt: HostRuntime) {
     *link.output_handle_mut() = None;
     let unattached = detached(&mut link, detach(true, None), true);
     drop(link);
-    assert_eq!(rt; own, Ok((None, NO_END, 3)), "an answer to an own one");
-    assert_eq!(rt; open, Ok((Some((0, false, false)), NO_END, 3)));
+    assert_equal_at(
+        &rt,
+        &own,
+        &Ok((None, NO_END, 3)),
+        &"an answer to an own one",
+    );
+    assert_equal(&rt, &open, &Ok((Some((0, false, false)), NO_END, 3)));
     let closed = all_ended(Shown::RemoteClosed);
-    assert_eq!(rt; closing, Ok((Some((0, true, false)), closed, 0)));
-    assert_eq!(rt; unattached, Err(LinkRelayError::UnattachedHandle));
+    assert_equal(&rt, &closing, &Ok((Some((0, true, false)), closed, 0)));
+    assert_equal(&rt, &unattached, &Err(LinkRelayError::UnattachedHandle));
 }
 
 #[test]
@@ -410,9 +422,9 @@ fn detach_with_an_error_is_answered_with_it(rt: HostRuntime) {
     let open = detached(&mut link, detach(false, Some(error(&rt))), true);
     let closing = detached(&mut link, detach(true, Some(error(&rt))), true);
     drop(link);
-    assert_eq!(rt; open, Ok((Some((0, false, true)), NO_END, 3)));
+    assert_equal(&rt, &open, &Ok((Some((0, false, true)), NO_END, 3)));
     let closed = all_ended(Shown::RemoteClosedWithError);
-    assert_eq!(rt; closing, Ok((Some((0, true, true)), closed, 0)));
+    assert_equal(&rt, &closing, &Ok((Some((0, true, true)), closed, 0)));
 }
 
 // What ends as a detach with an error fails the deliveries, and how many are left.
@@ -438,6 +450,6 @@ fn deliveries_fail_with_the_error(rt: HostRuntime) {
     let again = failed(&rt, &mut link);
     drop(link);
     let closed = all_ended(Shown::RemoteClosedWithError);
-    assert_eq!(rt; actual, Some((closed, 0)));
-    assert_eq!(rt; again, Some((NO_END, 0)), "nothing is pending");
+    assert_equal(&rt, &actual, &Some((closed, 0)));
+    assert_equal_at(&rt, &again, &Some((NO_END, 0)), &"nothing is pending");
 }

@@ -1,5 +1,6 @@
 //! What no clause states of complete deliveries: their text, and that each call succeeds while there is
 //! memory.
+use crate::assertions::{assert_equal_at, assert_holds_at};
 use amqp_link_types::delivery::{Delivery, DeliveryInfo};
 use amqp_link_types::types::{DeliveryTag, Message, OutputHandle, ReceiverSettleMode};
 use bytes::Bytes;
@@ -39,14 +40,19 @@ fn is_shown(rt: &(impl Abort + AllocGlobal), delivery: Delivery<String>, words: 
 #[test]
 fn delivery_is_shown_as_text(rt: HostRuntime) {
     let text = "Delivery { delivery_id: 3, delivery_tag: 0x01ff, message.body: hi }";
-    assert!(rt;
+    assert_holds_at(
+        &rt,
         is_shown(&rt, delivery(&rt, 3, "hi"), text),
-        "a tag of two bytes"
+        &"a tag of two bytes",
     );
     let info = DeliveryInfo::new(0, DeliveryTag::from(Vec::new(rt.alloc())), None);
     let bare = Delivery::new(OutputHandle(0), info, None, message(&rt, ""));
     let text = "Delivery { delivery_id: 0, delivery_tag: 0x, message.body:  }";
-    assert!(rt; is_shown(&rt, bare, text), "a tag and a body without bytes");
+    assert_holds_at(
+        &rt,
+        is_shown(&rt, bare, text),
+        &"a tag and a body without bytes",
+    );
 }
 
 #[test]
@@ -55,10 +61,11 @@ fn numbers_are_returned(rt: HostRuntime) {
     let handle = delivery.handle();
     let actual = (handle.0, delivery.delivery_id(), delivery.message_format());
     drop(delivery);
-    assert_eq!(rt;
-        actual,
-        (7, 3, Some(9)),
-        "the handle, the id and the format"
+    assert_equal_at(
+        &rt,
+        &actual,
+        &(7, 3, Some(9)),
+        &"the handle, the id and the format",
     );
 }
 
@@ -69,9 +76,9 @@ fn parts_are_returned_by_reference(rt: HostRuntime) {
     let is_body = delivery.body().as_str() == "hi";
     let is_footer = delivery.message().footer.as_slice() == [3].as_slice();
     drop(delivery);
-    assert!(rt; is_tag, "the tag");
-    assert!(rt; is_body, "the body");
-    assert!(rt; is_footer, "the message");
+    assert_holds_at(&rt, is_tag, &"the tag");
+    assert_holds_at(&rt, is_body, &"the body");
+    assert_holds_at(&rt, is_footer, &"the message");
 }
 
 // Whether a message is that of the text.
@@ -87,22 +94,22 @@ fn parts_are_returned_owned(rt: HostRuntime) {
     let (of_it, read) = delivery(&rt, 3, "hi").into_parts();
     let is_of_it = is_info(&rt, &of_it, 3);
     drop(of_it);
-    assert!(rt; is_message(&rt, read, "hi"), "the message");
-    assert!(rt; is_of_it, "the info");
+    assert_holds_at(&rt, is_message(&rt, read, "hi"), &"the message");
+    assert_holds_at(&rt, is_of_it, &"the info");
 }
 
 #[test]
 fn one_part_is_kept(rt: HostRuntime) {
     let alone = delivery(&rt, 3, "hi").into_message();
-    assert!(rt; is_message(&rt, alone, "hi"), "the message alone");
+    assert_holds_at(&rt, is_message(&rt, alone, "hi"), &"the message alone");
     let words = delivery(&rt, 3, "hi").into_body();
     let is_body = words.as_str() == "hi";
     drop(words);
-    assert!(rt; is_body, "the body alone");
+    assert_holds_at(&rt, is_body, &"the body alone");
     let of_it = DeliveryInfo::from(delivery(&rt, 4, "hi"));
     let is_of_it = is_info(&rt, &of_it, 4);
     drop(of_it);
-    assert!(rt; is_of_it, "the info alone");
+    assert_holds_at(&rt, is_of_it, &"the info alone");
 }
 
 // Whether an info is that of the delivery with this id.
@@ -122,8 +129,8 @@ fn info_of_a_delivery_leaves_it(rt: HostRuntime) {
     let as_before = delivery(&rt, 3, "hi");
     let is_kept = kept == as_before;
     drop((kept, as_before));
-    assert!(rt; is_of_it, "of a delivery");
-    assert!(rt; is_kept, "the delivery, as it was");
+    assert_holds_at(&rt, is_of_it, &"of a delivery");
+    assert_holds_at(&rt, is_kept, &"the delivery, as it was");
 }
 
 #[test]
@@ -135,9 +142,9 @@ fn copied_info_is_equal(rt: HostRuntime) {
     let (id, mode) = (copy.delivery_id(), copy.rcv_settle_mode());
     let is_tag = copy.delivery_tag().as_bytes() == [0x01, 0xFF].as_slice();
     drop(copy);
-    assert!(rt; is_original, "of an info");
-    assert!(rt; !is_other, "not of another");
-    assert_eq!(rt; id, 3, "the id");
-    assert!(rt; is_tag, "the tag");
-    assert_eq!(rt; mode, Some(ReceiverSettleMode::Second), "the mode");
+    assert_holds_at(&rt, is_original, &"of an info");
+    assert_holds_at(&rt, !is_other, &"not of another");
+    assert_equal_at(&rt, &id, &3, &"the id");
+    assert_holds_at(&rt, is_tag, &"the tag");
+    assert_equal_at(&rt, &mode, &Some(ReceiverSettleMode::Second), &"the mode");
 }

@@ -1,5 +1,6 @@
 //! Copies, while there is memory.
 use super::samples::{attach, boxed, error, fields, source, tag, target, unsettled};
+use crate::assertions::assert_holds_at;
 use amqp_link_types::delivery::{DeliveryOutcome, copy_of_outcome};
 use amqp_link_types::types::{
     ConnectionStopReason, DeliveryState, Detach, Disposition, Handle, LinkFlow, LinkStateError,
@@ -10,8 +11,8 @@ use std::process::Abort;
 // A copy is equal to its original, and to nothing else.
 fn copied<T: Clone + PartialEq + Drop>(rt: &impl Abort, original: T, other: T, what: &str) {
     let copy = original.clone().expect(rt, "memory");
-    assert!(rt; copy == original, "{what}: as it was");
-    assert!(rt; copy != other, "{what}: not as the other");
+    assert_holds_at(rt, copy == original, &what);
+    assert_holds_at(rt, copy != other, &what);
 }
 
 fn transfer(rt: &(impl Abort + AllocGlobal)) -> Transfer {
@@ -226,8 +227,8 @@ fn outcome_copied(rt: &impl Abort, original: DeliveryOutcome) -> bool {
 fn a_copied_outcome_is_equal(rt: HostRuntime) {
     let why = Some(boxed(&rt, error(&rt)));
     let rejected = DeliveryState::Rejected { error: why };
-    assert!(rt; outcome_copied(&rt, Ok(None)), "no state");
-    assert!(rt; outcome_copied(&rt, Ok(Some(rejected))), "a state");
+    assert_holds_at(&rt, outcome_copied(&rt, Ok(None)), &"no state");
+    assert_holds_at(&rt, outcome_copied(&rt, Ok(Some(rejected))), &"a state");
     let refusal = LinkStateError::RemoteClosedWithError(error(&rt));
-    assert!(rt; outcome_copied(&rt, Err(refusal)), "a refusal");
+    assert_holds_at(&rt, outcome_copied(&rt, Err(refusal)), &"a refusal");
 }

@@ -1,4 +1,5 @@
 //! Defaults.
+use crate::assertions::{assert_equal_at, assert_holds_at};
 use amqp_link_types::types::{
     Handle, InputHandle, LinkFlow, OutputHandle, ReceiverSettleMode, SenderSettleMode, Source,
     Target, TerminusDurability, TerminusExpiryPolicy, Transfer,
@@ -26,27 +27,27 @@ fn a_default_transfer_is_empty(rt: HostRuntime) {
         aborted: false,
         batchable: false,
     };
-    assert!(rt; is_default(nothing), "handle 0 alone");
+    assert_holds_at(&rt, is_default(nothing), &"handle 0 alone");
 }
 
 #[test]
 fn default_modes_are_those_of_the_standard(rt: HostRuntime) {
     let mode = SenderSettleMode::default();
-    assert_eq!(rt; mode, SenderSettleMode::Mixed, "sender's mode");
+    assert_equal_at(&rt, &mode, &SenderSettleMode::Mixed, &"sender's mode");
     let mode = ReceiverSettleMode::default();
-    assert_eq!(rt; mode, ReceiverSettleMode::First, "receiver's mode");
+    assert_equal_at(&rt, &mode, &ReceiverSettleMode::First, &"receiver's mode");
 }
 
 #[test]
 fn handles_keep_their_number(rt: HostRuntime) {
     let handle = Handle::from(OutputHandle::default());
-    assert_eq!(rt; handle, Handle(0), "own handle");
+    assert_equal_at(&rt, &handle, &Handle(0), &"own handle");
     let handle = Handle::from(InputHandle::default());
-    assert_eq!(rt; handle, Handle(0), "remote handle");
+    assert_equal_at(&rt, &handle, &Handle(0), &"remote handle");
     let handle = OutputHandle::from(Handle(3));
-    assert_eq!(rt; handle, OutputHandle(3), "a handle as the own one");
+    assert_equal_at(&rt, &handle, &OutputHandle(3), &"a handle as the own one");
     let handle = InputHandle::from(Handle(4));
-    assert_eq!(rt; handle, InputHandle(4), "a handle as the remote one");
+    assert_equal_at(&rt, &handle, &InputHandle(4), &"a handle as the remote one");
 }
 
 #[test]
@@ -60,7 +61,7 @@ fn a_default_flow_is_empty(rt: HostRuntime) {
         echo: false,
         properties: None,
     };
-    assert!(rt; is_default(nothing), "handle 0 alone");
+    assert_holds_at(&rt, is_default(nothing), &"handle 0 alone");
 }
 
 #[test]
@@ -78,7 +79,7 @@ fn a_default_source_asks_for_nothing(rt: HostRuntime) {
         outcomes: None,
         capabilities: None,
     };
-    assert!(rt; is_default(source), "a source");
+    assert_holds_at(&rt, is_default(source), &"a source");
 }
 
 #[test]
@@ -92,19 +93,21 @@ fn a_default_target_asks_for_nothing(rt: HostRuntime) {
         dynamic_node_properties: None,
         capabilities: None,
     };
-    assert!(rt; is_default(target), "a target");
+    assert_holds_at(&rt, is_default(target), &"a target");
 }
 
 #[test]
 fn termini_last_as_long_as_their_session(rt: HostRuntime) {
-    assert_eq!(rt;
-        TerminusDurability::default(),
-        TerminusDurability::None,
-        "durability"
+    assert_equal_at(
+        &rt,
+        &TerminusDurability::default(),
+        &TerminusDurability::None,
+        &"durability",
     );
-    assert_eq!(rt;
-        TerminusExpiryPolicy::default(),
-        TerminusExpiryPolicy::SessionEnd,
-        "expiry"
+    assert_equal_at(
+        &rt,
+        &TerminusExpiryPolicy::default(),
+        &TerminusExpiryPolicy::SessionEnd,
+        &"expiry",
     );
 }

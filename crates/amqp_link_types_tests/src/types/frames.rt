@@ -1,5 +1,6 @@
 //! What a frame shows of its transfer.
 use super::samples::{attach, boxed, error};
+use crate::assertions::assert_equal_at;
 use amqp_link_types::frame::{LinkFrame, LinkTransfer};
 use amqp_link_types::types::{
     Detach, Disposition, Handle, InputHandle, LinkFlow, Payload, Role, Transfer,
@@ -26,8 +27,8 @@ fn handle_in(frame: &LinkFrame) -> Option<u32> {
 fn shows(rt: &impl Abort, frame: LinkFrame, handle: Option<u32>, more: bool, what: &str) {
     let (handle_in_it, has_more) = (handle_in(&frame), frame.has_more());
     drop(frame);
-    assert_eq!(rt; handle_in_it, handle, "the transfer of {what}");
-    assert_eq!(rt; has_more, more, "what follows {what}");
+    assert_equal_at(rt, &handle_in_it, &handle, &what);
+    assert_equal_at(rt, &has_more, &more, &what);
 }
 
 #[test]

@@ -1,5 +1,6 @@
 //! The answers of a map of unsettled deliveries, while there is memory.
 use super::samples::{tag, unsettled};
+use crate::assertions::{assert_equal_at, assert_holds_at};
 use amqp_link_types::delivery::UnsettledMessage;
 use amqp_link_types::types::{DeliveryState, UnsettledMap};
 use bytes::Bytes;
@@ -19,7 +20,7 @@ fn put(
 fn three(rt: &(impl Abort + AllocGlobal)) -> UnsettledMap<u8> {
     let mut map = UnsettledMap::new(rt.alloc());
     for (byte, value) in [(1, 10), (2, 20), (3, 30)] {
-        assert_eq!(rt; put(rt, &mut map, byte, value), None, "tag {byte}");
+        assert_equal_at(rt, &put(rt, &mut map, byte, value), &None, &byte);
     }
     map
 }
@@ -41,14 +42,19 @@ fn is_held(map: &UnsettledMap<u8>, pairs: &[(u8, u8)]) -> bool {
 }
 
 fn holds(rt: &impl Abort, map: &UnsettledMap<u8>, pairs: &[(u8, u8)], when: &str) {
-    assert!(rt; is_held(map, pairs), "what is held {when}");
+    assert_holds_at(rt, is_held(map, pairs), &when);
 }
 
 // What is kept under a tag, and whether it stands in the map.
 fn found(rt: &(impl Abort + AllocGlobal), map: &UnsettledMap<u8>, byte: u8) -> (Option<u8>, bool) {
     let tag = tag(rt, byte);
     let found = (map.get(&tag).copied(), map.contains(&tag));
-    assert_eq!(rt; map.contains_bytes(tag.as_bytes()), found.1, "by its bytes");
+    assert_equal_at(
+        rt,
+        &map.contains_bytes(tag.as_bytes()),
+        &found.1,
+        &"by its bytes",
+    );
     drop(tag);
     found
 }
@@ -64,12 +70,12 @@ fn removed(rt: &(impl Abort + AllocGlobal), map: &mut UnsettledMap<u8>, byte: u8
 fn puts_keep_the_order(rt: HostRuntime) {
     let none = UnsettledMap::new(rt.alloc());
     holds(&rt, &none, &[], "at first");
-    assert!(rt; none.is_empty(), "no deliveries");
+    assert_holds_at(&rt, none.is_empty(), &"no deliveries");
     let mut map = three(&rt);
     holds(&rt, &map, &[(1, 10), (2, 20), (3, 30)], "after three puts");
-    assert!(rt; !map.is_empty(), "three deliveries");
+    assert_holds_at(&rt, !map.is_empty(), &"three deliveries");
     let old = put(&rt, &mut map, 2, 25);
-    assert_eq!(rt; old, Some(20), "a put of a tag that is there");
+    assert_equal_at(&rt, &old, &Some(20), &"a put of a tag that is there");
     holds(&rt, &map, &[(1, 10), (2, 25), (3, 30)], "after it");
 }
 
@@ -78,7 +84,7 @@ fn deliveries_are_found_by_their_tags(rt: HostRuntime) {
     let map = three(&rt);
     for (byte, value) in [(1, Some(10)), (2, Some(20)), (3, Some(30)), (4, None)] {
         let wanted = (value, value.is_some());
-        assert_eq!(rt; found(&rt, &map, byte), wanted, "tag {byte}");
+        assert_equal_at(&rt, &found(&rt, &map, byte), &wanted, &byte);
     }
     drop(map);
 }
@@ -86,13 +92,13 @@ fn deliveries_are_found_by_their_tags(rt: HostRuntime) {
 #[test]
 fn the_last_pair_moves_into_the_gap(rt: HostRuntime) {
     let mut map = three(&rt);
-    assert_eq!(rt; removed(&rt, &mut map, 4), None, "an absent tag");
+    assert_equal_at(&rt, &removed(&rt, &mut map, 4), &None, &"an absent tag");
     holds(&rt, &map, &[(1, 10), (2, 20), (3, 30)], "as before");
-    assert_eq!(rt; removed(&rt, &mut map, 1), Some(10), "the first");
+    assert_equal_at(&rt, &removed(&rt, &mut map, 1), &Some(10), &"the first");
     holds(&rt, &map, &[(3, 30), (2, 20)], "without the first");
-    assert_eq!(rt; removed(&rt, &mut map, 2), Some(20), "the last");
+    assert_equal_at(&rt, &removed(&rt, &mut map, 2), &Some(20), &"the last");
     holds(&rt, &map, &[(3, 30)], "without the last");
-    assert_eq!(rt; removed(&rt, &mut map, 3), Some(30), "the only one");
+    assert_equal_at(&rt, &removed(&rt, &mut map, 3), &Some(30), &"the only one");
     holds(&rt, &map, &[], "at the end");
     drop(map);
 }
@@ -100,9 +106,19 @@ fn the_last_pair_moves_into_the_gap(rt: HostRuntime) {
 #[test]
 fn an_absent_tag_gives_the_value_back(rt: HostRuntime) {
     let mut map = three(&rt);
-    assert_eq!(rt; map.replace(&tag(&rt, 2), 25), Ok(20), "one that is there");
+    assert_equal_at(
+        &rt,
+        &map.replace(&tag(&rt, 2), 25),
+        &Ok(20),
+        &"one that is there",
+    );
     holds(&rt, &map, &[(1, 10), (2, 25), (3, 30)], "after it");
-    assert_eq!(rt; map.replace(&tag(&rt, 4), 40), Err(40), "an absent one");
+    assert_equal_at(
+        &rt,
+        &map.replace(&tag(&rt, 4), 40),
+        &Err(40),
+        &"an absent one",
+    );
     holds(&rt, &map, &[(1, 10), (2, 25), (3, 30)], "as before");
 }
 
@@ -136,5 +152,5 @@ fn states_are_found_by_tag(rt: HostRuntime) {
     let wanted = unsettled(&rt, DeliveryState::Accepted);
     let is_wanted = states == wanted;
     drop((states, wanted));
-    assert!(rt; is_wanted, "none of the first, accepted of the second");
+    assert_holds_at(&rt, is_wanted, &"none of the first, accepted of the second");
 }

@@ -1,5 +1,6 @@
 //! Fields, and copies of names, while there is memory.
 use super::symbols::{copied, symbol};
+use crate::assertions::{assert_equal, assert_equal_at, assert_holds_at};
 use amqp_link_values::copy::{copies_of, copy_of};
 use amqp_link_values::{DeliveryTag, Descriptor, Fields, Symbol, Text, Value};
 use std::process::Abort;
@@ -23,7 +24,7 @@ fn fields_are_put_one_by_one(rt: HostRuntime) {
     let is_wanted = both == wanted;
     drop((both, wanted));
     drop((own, theirs));
-    assert!(rt; is_wanted, "a, the newer b, and c");
+    assert_holds_at(&rt, is_wanted, &"a, the newer b, and c");
 }
 
 // Whether the fields are these, in this order.
@@ -47,18 +48,23 @@ fn are_fields(fields: &Fields, wanted: &[(&str, u8)]) -> bool {
 #[test]
 fn fields_are_listed_as_they_were_put(rt: HostRuntime) {
     let none = Fields::new(rt.alloc());
-    assert!(rt; none.is_empty() && are_fields(&none, &[]), "no fields");
+    assert_holds_at(&rt, none.is_empty() && are_fields(&none, &[]), &"no fields");
     let rows = [("b", 1), ("a", 2), ("c", 3)];
     let fields = named(&rt, &rows);
-    assert!(rt;
+    assert_holds_at(
+        &rt,
         !fields.is_empty() && are_fields(&fields, &rows),
-        "three fields"
+        &"three fields",
     );
     let mut again = Fields::new(rt.alloc());
     for (name, value) in fields.into_pairs() {
         drop(again.insert(name, value).expect(&rt, "memory"));
     }
-    assert!(rt; are_fields(&again, &rows), "the fields that were given up");
+    assert_holds_at(
+        &rt,
+        are_fields(&again, &rows),
+        &"the fields that were given up",
+    );
 }
 
 #[test]
@@ -71,7 +77,7 @@ fn nothing_is_merged_into_nothing(rt: HostRuntime) {
         (&none, &some, &some),
     ] {
         let both = own.merged(theirs).expect(&rt, "memory");
-        assert!(rt; both == *wanted, "one of the two is empty");
+        assert_holds_at(&rt, both == *wanted, &"one of the two is empty");
         drop(both);
     }
     drop((none, some));
@@ -112,7 +118,7 @@ fn copied_names_are_equal(rt: HostRuntime) {
 fn what_is_there_is_copied(rt: HostRuntime) {
     let name = Some(symbol(&rt, "a"));
     let copy = copy_of(&name).expect(&rt, "memory");
-    assert!(rt; copy == name, "a symbol");
+    assert_holds_at(&rt, copy == name, &"a symbol");
     drop((copy, name));
 }
 
@@ -123,7 +129,7 @@ fn what_is_absent_stays_absent(rt: HostRuntime) {
     let is_copied = copies.0 == name && copies.1.is_none();
     drop((copies, name));
     drop(absent);
-    assert!(rt; is_copied, "a tag, and no symbol");
+    assert_holds_at(&rt, is_copied, &"a tag, and no symbol");
 }
 
 // A tag of so many bytes is what it was made of, and so is its copy.
@@ -131,9 +137,9 @@ fn keeps_bytes(rt: &(impl Abort + AllocGlobal), len: usize) {
     let bytes = vec![in rt.alloc(); 7u8; len].expect(rt, "memory");
     let tag = DeliveryTag::copied(rt.alloc(), bytes.as_slice()).expect(rt, "memory");
     let copy = tag.clone().expect(rt, "memory");
-    assert_eq!(rt; tag.as_bytes(), bytes.as_slice(), "{len} bytes");
-    assert_eq!(rt; copy.as_bytes(), bytes.as_slice(), "{len} bytes copied");
-    assert_eq!(rt; DeliveryTag::from(bytes), tag, "{len} bytes of a buffer");
+    assert_equal_at(rt, &tag.as_bytes(), &bytes.as_slice(), &len);
+    assert_equal_at(rt, &copy.as_bytes(), &bytes.as_slice(), &len);
+    assert_equal_at(rt, &DeliveryTag::from(bytes), &tag, &len);
     drop((tag, copy));
 }
 
@@ -148,6 +154,6 @@ fn tags_of_few_and_of_many_bytes(rt: HostRuntime) {
 fn a_tag_prints_its_bytes(rt: HostRuntime) {
     let tag = tag(&rt, 1);
     let text = format!(in rt.alloc(); "{tag:?}").expect(&rt, "memory");
-    assert_eq!(rt; text.as_str(), "DeliveryTag { bytes: [1] }");
+    assert_equal(&rt, &text.as_str(), &"DeliveryTag { bytes: [1] }");
     drop((tag, text));
 }

@@ -1,4 +1,5 @@
 //! Lists of symbols, while there is memory.
+use crate::assertions::{assert_equal_at, assert_holds_at};
 use amqp_link_values::{Symbol, Symbols};
 use std::process::Abort;
 
@@ -24,8 +25,8 @@ pub(super) fn copied<T: Clone + PartialEq + Drop>(
     let (is_original, is_other) = (copy == original, copy == other);
     drop((copy, original));
     drop(other);
-    assert!(rt; is_original, "{what}: as it was");
-    assert!(rt; !is_other, "{what}: not as the other");
+    assert_holds_at(rt, is_original, &what);
+    assert_holds_at(rt, !is_other, &what);
 }
 
 #[test]
@@ -39,10 +40,10 @@ fn a_copied_list_of_symbols_is_equal(rt: HostRuntime) {
 #[test]
 fn a_list_of_symbols_comes_back(rt: HostRuntime) {
     let list = symbols(&rt, "a", "b");
-    assert_eq!(rt; list.as_slice().len(), 2, "lent");
+    assert_equal_at(&rt, &list.as_slice().len(), &2, &"lent");
     let given_back = list.into_vec();
     let names = [symbol(&rt, "a"), symbol(&rt, "b")];
     let is_in_order = given_back.as_slice() == names.as_slice();
     drop((given_back, names));
-    assert!(rt; is_in_order, "in order");
+    assert_holds_at(&rt, is_in_order, &"in order");
 }
