@@ -133,41 +133,33 @@ fn attached_and_cut<L: LinkExt>(
     (sent && came && detached, *link.local_state())
 }
 
-// The same, and then reattaches the link.
+// The same, and then reattaches the link; returns the link's states after both.
 fn attached_anew<L: LinkExt>(
     rt: &(impl Abort + AllocGlobal),
     link: &mut L,
     role: Role,
-) -> (bool, LinkState)
+) -> [(bool, LinkState); 2]
     requires { L.copies }
 {
-    let (is_cut, _) = attached_and_cut(rt, link, role);
+    let cut = attached_and_cut(rt, link, role);
     let anew = went(send_anew(link));
-    (is_cut && anew, *link.local_state())
+    [cut, (anew, *link.local_state())]
 }
 
+const CUT_AND_ATTACHED_ANEW: [(bool, LinkState); 2] = [
+    (true, LinkState::Detached),
+    (true, LinkState::AttachSent),
+];
+
 #[test]
-fn either_end_is_cut(rt: HostRuntime) {
+fn either_end_is_cut_and_attached_anew(rt: HostRuntime) {
     let mode = SenderSettleMode::Mixed;
     let sender = SenderLink::new(rt.alloc(), parts(&rt, mode, 512));
     let mut sender = sender.with_output_handle(OutputHandle(0));
-    let actual = attached_and_cut(&rt, &mut sender, Role::Receiver);
-    assert_equal(&rt, &actual, &(true, LinkState::Detached));
+    let states = attached_anew(&rt, &mut sender, Role::Receiver);
+    assert_equal(&rt, &states, &CUT_AND_ATTACHED_ANEW);
     let receiver = ReceiverLink::new(rt.alloc(), parts(&rt, mode, 512));
     let mut receiver = receiver.with_output_handle(OutputHandle(0));
-    let actual = attached_and_cut(&rt, &mut receiver, Role::Sender);
-    assert_equal(&rt, &actual, &(true, LinkState::Detached));
-}
-
-#[test]
-fn either_end_is_attached_anew(rt: HostRuntime) {
-    let mode = SenderSettleMode::Mixed;
-    let sender = SenderLink::new(rt.alloc(), parts(&rt, mode, 512));
-    let mut sender = sender.with_output_handle(OutputHandle(0));
-    let actual = attached_anew(&rt, &mut sender, Role::Receiver);
-    assert_equal(&rt, &actual, &(true, LinkState::AttachSent));
-    let receiver = ReceiverLink::new(rt.alloc(), parts(&rt, mode, 512));
-    let mut receiver = receiver.with_output_handle(OutputHandle(0));
-    let actual = attached_anew(&rt, &mut receiver, Role::Sender);
-    assert_equal(&rt, &actual, &(true, LinkState::AttachSent));
+    let states = attached_anew(&rt, &mut receiver, Role::Sender);
+    assert_equal(&rt, &states, &CUT_AND_ATTACHED_ANEW);
 }
