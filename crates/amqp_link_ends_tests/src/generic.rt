@@ -17,7 +17,7 @@ use amqp_link_tests_support::links::went;
 use amqp_link_types::delivery::Outcomes;
 use amqp_link_types::frame::LinkFrame;
 use amqp_link_types::types::{
-    Attach, Detach, Fields, Handle, OutputHandle, Role, SenderSettleMode,
+    Attach, Detach, Fields, Handle, OutputHandle, Role, SenderSettleMode, Target,
 };
 use std::mem;
 use std::process::Abort;
@@ -151,15 +151,20 @@ const CUT_AND_ATTACHED_ANEW: [(bool, LinkState); 2] = [
     (true, LinkState::AttachSent),
 ];
 
+fn sender(rt: &(impl Abort + AllocGlobal)) -> SenderLink<Target> {
+    let link = SenderLink::new(rt.alloc(), parts(rt, SenderSettleMode::Mixed, 512));
+    link.with_output_handle(OutputHandle(0))
+}
+
+fn receiver(rt: &(impl Abort + AllocGlobal)) -> ReceiverLink<Target> {
+    let link = ReceiverLink::new(rt.alloc(), parts(rt, SenderSettleMode::Mixed, 512));
+    link.with_output_handle(OutputHandle(0))
+}
+
 #[test]
 fn either_end_is_cut_and_attached_anew(rt: HostRuntime) {
-    let mode = SenderSettleMode::Mixed;
-    let sender = SenderLink::new(rt.alloc(), parts(&rt, mode, 512));
-    let mut sender = sender.with_output_handle(OutputHandle(0));
-    let states = attached_anew(&rt, &mut sender, Role::Receiver);
+    let states = attached_anew(&rt, &mut sender(&rt), Role::Receiver);
     assert_equal(&rt, &states, &CUT_AND_ATTACHED_ANEW);
-    let receiver = ReceiverLink::new(rt.alloc(), parts(&rt, mode, 512));
-    let mut receiver = receiver.with_output_handle(OutputHandle(0));
-    let states = attached_anew(&rt, &mut receiver, Role::Sender);
+    let states = attached_anew(&rt, &mut receiver(&rt), Role::Sender);
     assert_equal(&rt, &states, &CUT_AND_ATTACHED_ANEW);
 }

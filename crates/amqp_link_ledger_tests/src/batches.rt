@@ -1,6 +1,6 @@
 //! What becomes of the registrations as a sender disposes of its deliveries (2.6.12, 2.7.6).
 use crate::assertions::{assert_equal, assert_equal_at};
-use crate::calls::pending_in;
+use crate::calls::{dispose, pending_in, release_all};
 use crate::ledgers::{accepted, assert_fates, three_sent};
 use crate::samples::count_tag;
 use amqp_link_ledger::fate::Fate;
@@ -13,28 +13,29 @@ use amqp_link_types::types::{
 use std::process::Abort;
 
 // These numbers, each with the tag of a count.
-fn listed<const N: usize>(
+fn listed(
     rt: &(impl Abort + AllocGlobal),
-    pairs: [(DeliveryNumber, u8); N],
+    pairs: &[(DeliveryNumber, u8)],
 ) -> Vec<(DeliveryNumber, DeliveryTag)> {
     let mut listed = Vec::new(rt.alloc());
     for (id, count) in pairs {
-        listed.push((id, count_tag(rt, count))).expect(rt, "memory");
+        let pair = (*id, count_tag(rt, *count));
+        listed.push(pair).expect(rt, "memory");
     }
     listed
 }
 
 // The dispositions of these numbers one by one, with the state `Released`.
-fn dispositions<const N: usize>(
+fn dispositions(
     rt: &(impl Abort + AllocGlobal),
-    numbers: [DeliveryNumber; N],
+    numbers: &[DeliveryNumber],
     settled: bool,
 ) -> Vec<LinkFrame> {
     let mut frames = Vec::new(rt.alloc());
     for first in numbers {
         let frame = LinkFrame::Disposition(Disposition {
             role: Role::Sender,
-            first,
+            first: *first,
             last: None,
             settled,
             state: Some(DeliveryState::Released),
@@ -49,7 +50,7 @@ fn dispositions<const N: usize>(
 fn one_accepted(rt: &(impl Abort + AllocGlobal)) -> OutcomeLedger<Target> {
     let mut ledger = three_sent(rt, SenderSettleMode::Mixed);
     let tag = count_tag(rt, 0);
-    drop(ledger.dispose(10, &tag, false, DeliveryState::Accepted, false));
+    drop(dispose(&mut ledger, 10, &tag, false, DeliveryState::Accepted));
     drop(tag);
     assert_fates(rt, &ledger, &[Fate::Pending, Fate::Pending, Fate::Pending]);
     ledger
@@ -67,11 +68,11 @@ fn two_outcomes(rt: &(impl Abort + AllocGlobal)) -> Outcomes {
 #[test]
 fn batch_resolves_by_tag(rt: HostRuntime) {
     let mut ledger = one_accepted(&rt);
-    let pairs = listed(&rt, [(12, 2), (10, 0), (12, 2), (99, 9)]);
-    let answer = ledger.batch_dispose(&pairs, true, DeliveryState::Released, false);
+    let pairs = listed(&rt, &[(12, 2), (10, 0), (12, 2), (99, 9)]);
+    let answer = release_all(&mut ledger, &pairs, true);
     drop(pairs);
     let (frames, outcomes) = answer.expect(&rt, "memory");
-    let wanted = dispositions(&rt, [10, 12, 12, 99], true);
+    let wanted = dispositions(&rt, &[10, 12, 12, 99], true);
     assert_equal(&rt, &frames, &wanted);
     drop((frames, wanted));
     let wanted = two_outcomes(&rt);
@@ -86,11 +87,11 @@ fn batch_resolves_by_tag(rt: HostRuntime) {
 #[test]
 fn unsettled_batch_resolves_nothing(rt: HostRuntime) {
     let mut ledger = one_accepted(&rt);
-    let pairs = listed(&rt, [(12, 2), (10, 0), (12, 2), (99, 9)]);
-    let answer = ledger.batch_dispose(&pairs, false, DeliveryState::Released, false);
+    let pairs = listed(&rt, &[(12, 2), (10, 0), (12, 2), (99, 9)]);
+    let answer = release_all(&mut ledger, &pairs, false);
     drop(pairs);
     let (frames, outcomes) = answer.expect(&rt, "memory");
-    let wanted = dispositions(&rt, [10, 12, 12, 99], false);
+    let wanted = dispositions(&rt, &[10, 12, 12, 99], false);
     assert_equal(&rt, &frames, &wanted);
     drop((frames, wanted));
     assert_equal(&rt, &outcomes.len(), &0);
@@ -104,9 +105,9 @@ fn unsettled_batch_resolves_nothing(rt: HostRuntime) {
 fn settled_disposition_resolves_one(rt: HostRuntime) {
     let mut ledger = one_accepted(&rt);
     let tag = count_tag(&rt, 0);
-    let answer = ledger.dispose(10, &tag, true, DeliveryState::Released, false);
+    let answer = dispose(&mut ledger, 10, &tag, true, DeliveryState::Released);
     let (frames, outcomes) = answer.expect(&rt, "memory");
-    let wanted = dispositions(&rt, [10], true);
+    let wanted = dispositions(&rt, &[10], true);
     assert_equal(&rt, &frames, &wanted);
     drop((frames, wanted));
     let wanted = vec![in rt.alloc(); (tag, Ok(Some(DeliveryState::Accepted)))];
@@ -123,7 +124,7 @@ fn other_dispositions_resolve_nothing(rt: HostRuntime) {
     let mut ledger = one_accepted(&rt);
     for (count, settled) in [(1u8, false), (9, true)] {
         let tag = count_tag(&rt, count);
-        let answer = ledger.dispose(11, &tag, settled, DeliveryState::Released, false);
+        let answer = dispose(&mut ledger, 11, &tag, settled, DeliveryState::Released);
         let (frames, outcomes) = answer.expect(&rt, "memory");
         let lengths = (frames.len(), outcomes.len());
         drop((frames, outcomes));

@@ -1,22 +1,17 @@
-//! Calls of a ledger as functions without a contract, for tests that make several: each call in a test is proved with
-//! all that the contracts of those before it say.
-use amqp_link_core::endpoint::{LinkAttach, LinkDetach, LinkExt};
+//! Calls of a ledger as functions without a contract, for tests that make several; those of any link endpoint stand
+//! in `amqp_link_tests_support`.
+use amqp_link_core::endpoint::LinkExt;
 use amqp_link_ledger::ledger::OutcomeLedger;
-use amqp_link_sender::SenderAttachExchange;
-use amqp_link_state::state::LinkState;
+use amqp_link_sender::DispositionAnswer;
 use amqp_link_tests_support::links::went;
 use amqp_link_types::delivery::{Outcomes, UnsettledMessage};
 use amqp_link_types::frame::LinkFrame;
 use amqp_link_types::types::{
-    Attach, DeliveryTag, Detach, DetachError, InputHandle, LinkFlow, LinkRelayError,
-    LinkStateError, OutputHandle, Payload, SenderAttachError, Target, Transfer,
+    DeliveryNumber, DeliveryState, DeliveryTag, DispositionError, InputHandle, LinkFlow,
+    LinkRelayError, LinkStateError, OutputHandle, Payload, Target, Transfer,
 };
 
 type Ledger = OutcomeLedger<Target>;
-
-pub(crate) fn state_of(ledger: &Ledger) -> LinkState {
-    *ledger.local_state()
-}
 
 // How many deliveries are pending.
 pub(crate) fn pending_in(ledger: &Ledger) -> usize {
@@ -31,35 +26,8 @@ pub(crate) fn handles_of(ledger: &Ledger) -> (Option<OutputHandle>, Option<Input
     (ledger.link().output_handle(), ledger.link().input_handle())
 }
 
-pub(crate) fn set_output_handle(ledger: &mut Ledger, handle: Option<OutputHandle>) {
-    *ledger.output_handle_mut() = handle;
-}
-
 pub(crate) fn set_max_frame_size(ledger: &mut Ledger, max_frame_size: u32) {
     ledger.set_max_frame_size(max_frame_size);
-}
-
-pub(crate) fn send_attach(
-    ledger: &mut Ledger,
-    is_reattaching: bool,
-) -> Result<(LinkFrame, Outcomes), SenderAttachError> {
-    ledger.send_attach(is_reattaching)
-}
-
-pub(crate) fn take_attach(
-    ledger: &mut Ledger,
-    attach: Attach,
-) -> Result<(SenderAttachExchange, Outcomes), SenderAttachError> {
-    ledger.on_incoming_attach(attach)
-}
-
-pub(crate) fn send_detach(ledger: &mut Ledger, closed: bool) -> Result<LinkFrame, DetachError> {
-    ledger.send_detach(closed, None)
-}
-
-// Takes the peer's reply to a detach.
-pub(crate) fn take_reply(ledger: &mut Ledger, detach: Detach) -> Result<(), DetachError> {
-    ledger.on_detach_reply(detach)
 }
 
 pub(crate) fn take_flow(
@@ -76,6 +44,34 @@ pub(crate) fn put_back(ledger: &mut Ledger, tag: DeliveryTag, entry: UnsettledMe
 
 pub(crate) fn withdraw(ledger: &mut Ledger, tag: &DeliveryTag) -> Option<UnsettledMessage> {
     ledger.withdraw(tag)
+}
+
+// The sender's disposition of one delivery.
+pub(crate) fn dispose(
+    ledger: &mut Ledger,
+    id: DeliveryNumber,
+    tag: &DeliveryTag,
+    settled: bool,
+    state: DeliveryState,
+) -> Result<(Vec<LinkFrame>, Outcomes), DispositionError> {
+    ledger.dispose(id, tag, settled, state, false)
+}
+
+// The sender's dispositions of several deliveries, as released.
+pub(crate) fn release_all(
+    ledger: &mut Ledger,
+    pairs: &[(DeliveryNumber, DeliveryTag)],
+    settled: bool,
+) -> Result<(Vec<LinkFrame>, Outcomes), DispositionError> {
+    ledger.batch_dispose(pairs, settled, DeliveryState::Released, false)
+}
+
+// The receiver accepts and settles a delivery.
+pub(crate) fn take_acceptance(
+    ledger: &mut Ledger,
+    tag: &DeliveryTag,
+) -> Result<DispositionAnswer, DispositionError> {
+    ledger.on_incoming_disposition(true, Some(DeliveryState::Accepted), tag)
 }
 
 // Sends the rest of a delivery. The entry that a refused send returns is dropped.

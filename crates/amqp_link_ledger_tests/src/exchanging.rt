@@ -1,6 +1,6 @@
 //! What becomes of the registrations as a ledger is attached again, by each kind of answer (2.6.13).
 use crate::assertions::{assert_equal, assert_holds, assert_holds_at};
-use crate::calls::{pending_in, put_back, send_attach, state_of, take_attach};
+use crate::calls::{pending_in, put_back};
 use crate::ledgers::{accepted, assert_fates, new_ledger};
 use crate::samples::{attach_of, count_tag};
 use amqp_link_core::resumption::ResumingDelivery;
@@ -8,6 +8,7 @@ use amqp_link_ledger::fate::Fate;
 use amqp_link_ledger::ledger::OutcomeLedger;
 use amqp_link_sender::SenderAttachExchange;
 use amqp_link_state::state::LinkState;
+use amqp_link_tests_support::calls::{local_state, send_attach, take_attach};
 use amqp_link_tests_support::links::went;
 use amqp_link_types::delivery::{DeliveryOutcome, Outcomes, UnsettledMessage};
 use amqp_link_types::types::{
@@ -164,7 +165,7 @@ fn exchange_moves_each_fate(rt: HostRuntime) {
     let wanted = wanted_outcomes(&rt);
     assert_equal(&rt, &outcomes, &wanted);
     drop((outcomes, wanted));
-    assert_equal(&rt, &state_of(&ledger), &LinkState::Attached);
+    assert_equal(&rt, &local_state(&ledger), &LinkState::Attached);
     assert_equal(&rt, &pending_in(&ledger), &0);
     drop(ledger);
 }

@@ -1,6 +1,6 @@
 //! A ledger worked by hand: what becomes of each registration.
 use crate::assertions::{assert_equal, assert_holds_at};
-use crate::calls::{pending_in, put_back, set_max_frame_size, take_attach, withdraw};
+use crate::calls::{pending_in, put_back, set_max_frame_size, take_acceptance, withdraw};
 use crate::ledgers::{
     Sent, accepted, assert_fates, attached, entry_of, ledger_round, new_ledger, new_link, put,
     reattach, send, three_sent,
@@ -10,6 +10,7 @@ use amqp_link_core::resumption::ResumingDelivery;
 use amqp_link_ledger::fate::Fate;
 use amqp_link_ledger::ledger::OutcomeLedger;
 use amqp_link_sender::{DispositionAnswer, SenderAttachExchange};
+use amqp_link_tests_support::calls::take_attach;
 use amqp_link_tests_support::links::went;
 use amqp_link_tests_support::table::detach;
 use amqp_link_types::delivery::UnsettledMessage;
@@ -27,8 +28,7 @@ fn end_two(rt: &(impl Abort + AllocGlobal), ledger: &mut OutcomeLedger<Target>) 
     assert_equal(rt, &entry, &wanted);
     drop((entry, wanted));
     let first = count_tag(rt, 0);
-    let state = Some(DeliveryState::Accepted);
-    let answer = ledger.on_incoming_disposition(true, state, &first);
+    let answer = take_acceptance(ledger, &first);
     let DispositionAnswer { echo, outcome } = answer.expect(rt, "memory");
     let wanted = Some((count_tag(rt, 0), Ok(Some(DeliveryState::Accepted))));
     assert_equal(rt, &outcome, &wanted);

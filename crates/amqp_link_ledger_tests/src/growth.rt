@@ -2,13 +2,16 @@
 //! map as they were, and made again it returns what it would have returned. Run by hand with `rt try --test
 //! --fail-alloc N`.
 use crate::assertions::{assert_equal, assert_equal_at};
-use crate::calls::{credit_of, pending_in, send_detach, set_output_handle, state_of, take_reply};
+use crate::calls::{self, credit_of, pending_in};
 use crate::ledgers::{Sent, send, sent_as};
 use amqp_link_core::endpoint::{LinkAttach, LinkDetach, LinkExt};
 use amqp_link_ledger::fate::Fate;
 use amqp_link_ledger::ledger::OutcomeLedger;
 use amqp_link_sender::{SenderAttachExchange, SenderLink};
 use amqp_link_state::state::LinkState;
+use amqp_link_tests_support::calls::{
+    self as support, local_state, send_detach, set_output_handle, take_reply,
+};
 use amqp_link_tests_support::links::{self, count_tag, went};
 use amqp_link_tests_support::table::detach;
 use amqp_link_types::delivery::UnsettledMessage;
@@ -107,7 +110,7 @@ fn standing_of(ledger: &OutcomeLedger<Target>) -> Standing {
         fates: fates_of(ledger),
         tags,
         pending: pending_in(ledger),
-        state: state_of(ledger),
+        state: local_state(ledger),
         credit: credit_of(ledger),
     }
 }
@@ -184,7 +187,7 @@ fn attach_of(alloc: Global, accepted: Option<u8>) -> Result<Attach, AllocError> 
 }
 
 fn send_attach(ledger: &mut Ledger) -> Result<Answer, AllocError> {
-    if went(ledger.send_attach(false)) {
+    if went(support::send_attach(ledger, false)) {
         Ok(Answer::Done(true))
     } else {
         Err(AllocError)
@@ -205,7 +208,7 @@ fn take_attach(
     alloc: Global,
     accepted: Option<u8>,
 ) -> Result<Answer, AllocError> {
-    let answer = ledger.on_incoming_attach(attach_of(alloc, accepted)?);
+    let answer = support::take_attach(ledger, attach_of(alloc, accepted)?);
     let counts = match &answer {
         Ok((exchange, outcomes)) => Ok(Answer::Exchanged(resumed_in(exchange), outcomes.len())),
         Err(_) => Err(AllocError),
@@ -219,7 +222,7 @@ fn grant(ledger: &mut Ledger, credit: u32) -> Answer {
         link_credit: Some(credit),
         ..LinkFlow::default()
     };
-    Answer::Done(went(ledger.on_incoming_flow(flow)))
+    Answer::Done(went(calls::take_flow(ledger, flow)))
 }
 
 fn sent(sent: Sent) -> Result<Answer, AllocError> {
@@ -257,7 +260,7 @@ fn resume(ledger: &mut Ledger, alloc: Global, count: u8) -> Result<Answer, Alloc
 
 fn put_back(ledger: &mut Ledger, alloc: Global, count: u8) -> Result<Answer, AllocError> {
     let tag = count_tag(alloc, count)?;
-    if went(ledger.put_back(tag, new_entry(alloc)?)) {
+    if calls::put_back(ledger, tag, new_entry(alloc)?) {
         Ok(Answer::Done(true))
     } else {
         Err(AllocError)
@@ -265,7 +268,7 @@ fn put_back(ledger: &mut Ledger, alloc: Global, count: u8) -> Result<Answer, All
 }
 
 fn accept(ledger: &mut Ledger, tag: &DeliveryTag) -> Result<Answer, AllocError> {
-    let answer = ledger.on_incoming_disposition(true, Some(DeliveryState::Accepted), tag);
+    let answer = calls::take_acceptance(ledger, tag);
     let ended = match &answer {
         Ok(answer) => Ok(Answer::Done(answer.outcome.is_some())),
         Err(_) => Err(AllocError),
@@ -275,7 +278,7 @@ fn accept(ledger: &mut Ledger, tag: &DeliveryTag) -> Result<Answer, AllocError> 
 }
 
 fn dispose(ledger: &mut Ledger, tag: &DeliveryTag) -> Result<Answer, AllocError> {
-    let answer = ledger.dispose(6, tag, false, DeliveryState::Accepted, false);
+    let answer = calls::dispose(ledger, 6, tag, false, DeliveryState::Accepted);
     let counts = match &answer {
         Ok((frames, outcomes)) => Ok(Answer::Disposed(frames.len(), outcomes.len())),
         Err(_) => Err(AllocError),
@@ -288,7 +291,7 @@ fn settle_both(ledger: &mut Ledger, alloc: Global) -> Result<Answer, AllocError>
     let mut pairs = Vec::with_capacity(alloc, 2)?;
     pairs.push((7, count_tag(alloc, 1)?))?;
     pairs.push((6, count_tag(alloc, 0)?))?;
-    let answer = ledger.batch_dispose(&pairs, true, DeliveryState::Released, false);
+    let answer = calls::release_all(ledger, &pairs, true);
     let counts = match &answer {
         Ok((frames, outcomes)) => Ok(Answer::Disposed(frames.len(), outcomes.len())),
         Err(_) => Err(AllocError),
@@ -326,7 +329,7 @@ fn make(ledger: &mut Ledger, alloc: Global, call: Call) -> Result<Answer, AllocE
         Call::Resume(count) => resume(ledger, alloc, count),
         Call::PutBack(count) => put_back(ledger, alloc, count),
         Call::Withdraw(count) => {
-            let entry = ledger.withdraw(&count_tag(alloc, count)?);
+            let entry = calls::withdraw(ledger, &count_tag(alloc, count)?);
             Ok(Answer::Done(entry.is_some()))
         }
         Call::Accept(count) => accept(ledger, &count_tag(alloc, count)?),
@@ -360,12 +363,17 @@ fn new_link(alloc: Global) -> Result<SenderLink<Target>, AllocError> {
     Ok(SenderLink::new(alloc, parts).with_output_handle(OutputHandle(0)))
 }
 
+// Whether the entry is put back in a link.
+fn put_in(link: &mut SenderLink<Target>, tag: DeliveryTag, entry: UnsettledMessage) -> bool {
+    went(link.put_back(tag, entry))
+}
+
 // The same with the delivery of tag 5.
 fn link_of_one(alloc: Global) -> Result<SenderLink<Target>, AllocError> {
     let tag = count_tag(alloc, 5)?;
     let entry = new_entry(alloc)?;
     let mut link = new_link(alloc)?;
-    if went(link.put_back(tag, entry)) {
+    if put_in(&mut link, tag, entry) {
         Ok(link)
     } else {
         Err(AllocError)

@@ -1,14 +1,14 @@
 //! Ledgers that are brought to a state by public calls, and the fates that they show.
 use crate::assertions::{assert_equal, assert_equal_at, assert_holds_at};
-use crate::calls::{
-    put_back, send_attach, send_detach, set_output_handle, state_of, take_attach, take_flow,
-    take_reply,
-};
+use crate::calls::{put_back, take_flow};
 use crate::samples::{attach_of, count_tag, parts, payload_of};
 use amqp_link_ledger::fate::Fate;
 use amqp_link_ledger::ledger::OutcomeLedger;
 use amqp_link_sender::{SenderLink, Sending, Waiting};
 use amqp_link_state::state::LinkState;
+use amqp_link_tests_support::calls::{
+    local_state, send_attach, send_detach, set_output_handle, take_attach, take_reply,
+};
 use amqp_link_tests_support::links::went;
 use amqp_link_tests_support::table::detach;
 use amqp_link_types::delivery::{Settlement, UnsettledMessage};
@@ -56,7 +56,7 @@ pub(crate) fn attached(
         ..LinkFlow::default()
     };
     drop(take_flow(&mut ledger, flow));
-    assert_equal(rt, &state_of(&ledger), &LinkState::Attached);
+    assert_equal(rt, &local_state(&ledger), &LinkState::Attached);
     ledger
 }
 

@@ -1,6 +1,6 @@
 //! A ledger of ten thousand deliveries.
 use crate::assertions::{assert_equal, assert_equal_at, assert_holds_at};
-use crate::calls::pending_in;
+use crate::calls::{pending_in, take_acceptance};
 use crate::ledgers::{Sent, attached, send};
 use crate::samples::payload_of;
 use amqp_link_ledger::fate::Fate;
@@ -11,7 +11,7 @@ use std::process::Abort;
 const MANY: u32 = 10_000;
 
 fn tag_of(rt: &(impl Abort + AllocGlobal), count: u32) -> DeliveryTag {
-    DeliveryTag::from(count.to_be_bytes().to_vec(rt.alloc()).expect(rt, "memory"))
+    DeliveryTag::copied(rt.alloc(), &count.to_be_bytes()).expect(rt, "memory")
 }
 
 fn send_many(rt: &(impl Abort + AllocGlobal), ledger: &mut OutcomeLedger<Target>) {
@@ -25,8 +25,7 @@ fn send_many(rt: &(impl Abort + AllocGlobal), ledger: &mut OutcomeLedger<Target>
 // The receiver accepts and settles the delivery of this count.
 fn accept(rt: &(impl Abort + AllocGlobal), ledger: &mut OutcomeLedger<Target>, count: u32) {
     let tag = tag_of(rt, count);
-    let state = Some(DeliveryState::Accepted);
-    let answer = ledger.on_incoming_disposition(true, state, &tag);
+    let answer = take_acceptance(ledger, &tag);
     let answer = answer.expect(rt, "memory");
     let is_ended = answer.outcome.is_some();
     drop((answer, tag));

@@ -1,5 +1,5 @@
 //! Registrations worked by hand.
-ghost use Rattle.std.specs.Prelude.{◌≡◌, IfOk};
+ghost use Rattle.std.specs.Prelude.{◌≡◌};
 
 use crate::assertions::{assert_equal, assert_equal_at, assert_holds};
 use amqp_link_core::resumption::ResumingDelivery;
@@ -7,80 +7,68 @@ use amqp_link_ledger::fate::Fate;
 use amqp_link_ledger::registrations::Registrations;
 use amqp_link_types::delivery::DeliveryOutcome;
 use amqp_link_types::types::{DeliveryState, DeliveryTag, LinkStateError};
-use std::alloc::{AllocError, Global};
 use std::process::Abort;
-use std::test::Fail;
 
-fn tag_of(alloc: Global, bytes: &[u8]) -> Result<DeliveryTag, AllocError>
-    ensures { IfOk result (λ tag. tag ≡ bytes.now) }
+fn tag_of(rt: &(impl Abort + AllocGlobal), bytes: &[u8]) -> DeliveryTag
+    ensures { result ≡ bytes.now }
 {
-    Ok(DeliveryTag::from(bytes.to_vec(alloc)?))
+    DeliveryTag::copied(rt.alloc(), bytes).expect(rt, "memory")
 }
 
 // Registers a tag that is not pending.
-fn register(
-    rt: &impl Abort,
-    alloc: Global,
-    all: &mut Registrations,
-    bytes: &[u8],
-) -> Result<(), AllocError> {
-    let tag = tag_of(alloc, bytes)?;
-    let reserved = all.reserve(alloc, bytes)?;
+fn register(rt: &(impl Abort + AllocGlobal), all: &mut Registrations, bytes: &[u8]) {
+    let tag = tag_of(rt, bytes);
+    let reserved = all.reserve(rt.alloc(), bytes).expect(rt, "memory");
     assert_holds(rt, !all.is_pending(&tag));
     all.register(reserved);
-    Ok(())
 }
 
-fn withdraw(alloc: Global, all: &mut Registrations, bytes: &[u8]) -> Result<(), AllocError> {
-    all.withdraw(&tag_of(alloc, bytes)?);
-    Ok(())
+fn withdraw(rt: &(impl Abort + AllocGlobal), all: &mut Registrations, bytes: &[u8]) {
+    all.withdraw(&tag_of(rt, bytes));
 }
 
 fn resolve(
-    alloc: Global,
+    rt: &(impl Abort + AllocGlobal),
     all: &mut Registrations,
     bytes: &[u8],
     outcome: DeliveryOutcome,
-) -> Result<(), AllocError> {
-    match tag_of(alloc, bytes) {
-        Ok(tag) => {
-            all.resolve(&tag, outcome);
-            Ok(())
-        }
-        Err(error) => {
-            drop(outcome);
-            Err(error)
-        }
-    }
+) {
+    all.resolve(&tag_of(rt, bytes), outcome);
+}
+
+// What became of the registration of this number.
+fn fate(all: &Registrations, number: usize) -> Option<&Fate> {
+    all.fate(number)
+}
+
+fn is_pending(rt: &(impl Abort + AllocGlobal), all: &Registrations, bytes: &[u8]) -> bool {
+    all.is_pending(&tag_of(rt, bytes))
 }
 
 // Resolves a tag as illegal.
-fn end(alloc: Global, all: &mut Registrations, bytes: &[u8]) -> Result<(), AllocError> {
-    let mut ended = Vec::new(alloc);
-    ended.push((tag_of(alloc, bytes)?, Err(LinkStateError::IllegalState)))?;
-    all.resolve_illegal(&ended);
-    Ok(())
+fn end(rt: &(impl Abort + AllocGlobal), all: &mut Registrations, bytes: &[u8]) {
+    let outcome: DeliveryOutcome = Err(LinkStateError::IllegalState);
+    let ended = vec![in rt.alloc(); (tag_of(rt, bytes), outcome)];
+    all.resolve_illegal(&ended.expect(rt, "memory"));
 }
 
 // Resolves 3 as released, and 1 without a state.
-fn resolve_two(alloc: Global, all: &mut Registrations) -> Result<(), AllocError> {
-    let mut ended = Vec::new(alloc);
-    ended.push((tag_of(alloc, &[3])?, Ok(Some(DeliveryState::Released))))?;
-    ended.push((tag_of(alloc, &[1])?, Ok(None)))?;
-    let mut copies = Vec::new(alloc);
-    copies.push(Ok(Some(DeliveryState::Released)))?;
-    copies.push(Ok(None))?;
-    all.resolve_all(&ended, copies);
-    Ok(())
+fn resolve_two(rt: &(impl Abort + AllocGlobal), all: &mut Registrations) {
+    let released = || -> DeliveryOutcome { Ok(Some(DeliveryState::Released)) };
+    let without: DeliveryOutcome = Ok(None);
+    let ended = vec![in rt.alloc(); (tag_of(rt, &[3]), released()), (tag_of(rt, &[1]), without)];
+    let without: DeliveryOutcome = Ok(None);
+    let copies = vec![in rt.alloc(); released(), without];
+    all.resolve_all(&ended.expect(rt, "memory"), copies.expect(rt, "memory"));
 }
 
 // Hands out the tags 9 and 3.
-fn hand_out_two(alloc: Global, all: &mut Registrations) -> Result<(), AllocError> {
-    let mut list = Vec::new(alloc);
-    list.push((tag_of(alloc, &[9])?, given_up()))?;
-    list.push((tag_of(alloc, &[3])?, given_up()))?;
-    all.hand_out(&list);
-    Ok(())
+fn hand_out_two(rt: &(impl Abort + AllocGlobal), all: &mut Registrations) {
+    let list = vec![in rt.alloc();
+        (tag_of(rt, &[9]), given_up()),
+        (tag_of(rt, &[3]), given_up()),
+    ];
+    all.hand_out(&list.expect(rt, "memory"));
 }
 
 // A delivery that is given up.
@@ -92,88 +80,73 @@ fn given_up() -> ResumingDelivery {
 }
 
 // Three registrations, of the tags 1, 2 and 3.
-fn three(rt: &impl Abort, alloc: Global) -> Result<Registrations, AllocError> {
-    let mut all = Registrations::new(alloc);
-    register(rt, alloc, &mut all, &[1])?;
-    register(rt, alloc, &mut all, &[2])?;
-    register(rt, alloc, &mut all, &[3])?;
-    Ok(all)
+fn three(rt: &(impl Abort + AllocGlobal)) -> Registrations {
+    let mut all = Registrations::new(rt.alloc());
+    register(rt, &mut all, &[1]);
+    register(rt, &mut all, &[2]);
+    register(rt, &mut all, &[3]);
+    all
 }
 
 #[test]
-fn numbers_begin_at_0(rt: HostRuntime) -> Result<(), Fail> {
+fn no_registration_has_a_number(rt: HostRuntime) {
     let none = Registrations::new(rt.alloc());
     assert_holds(&rt, none.is_empty());
-    assert_equal(&rt, &none.fate(0), &None);
-    let all = three(&rt, rt.alloc())?;
+    assert_equal(&rt, &fate(&none, 0), &None);
+}
+
+#[test]
+fn numbers_begin_at_0(rt: HostRuntime) {
+    let all = three(&rt);
     assert_equal(&rt, &all.len(), &3);
-    assert_equal(&rt, &all.fate(0), &Some(&Fate::Pending));
-    assert_equal(&rt, &all.fate(2), &Some(&Fate::Pending));
-    assert_equal_at(&rt, &all.fate(3), &None, &"past the last number");
-    assert_holds(&rt, all.is_pending(&tag_of(rt.alloc(), &[3])?));
-    assert_holds(&rt, !all.is_pending(&tag_of(rt.alloc(), &[4])?));
-    Ok(())
+    assert_equal(&rt, &fate(&all, 0), &Some(&Fate::Pending));
+    assert_equal(&rt, &fate(&all, 2), &Some(&Fate::Pending));
+    assert_equal_at(&rt, &fate(&all, 3), &None, &"past the last number");
+    assert_holds(&rt, is_pending(&rt, &all, &[3]));
+    assert_holds(&rt, !is_pending(&rt, &all, &[4]));
 }
 
 #[test]
-fn each_fate_stands_at_its_number(rt: HostRuntime) -> Result<(), Fail> {
-    let mut all = three(&rt, rt.alloc())?;
-    withdraw(rt.alloc(), &mut all, &[2])?;
-    resolve(
-        rt.alloc(),
-        &mut all,
-        &[1],
-        Ok(Some(DeliveryState::Accepted)),
-    )?;
-    hand_out_two(rt.alloc(), &mut all)?;
+fn each_fate_stands_at_its_number(rt: HostRuntime) {
+    let mut all = three(&rt);
+    withdraw(&rt, &mut all, &[2]);
+    resolve(&rt, &mut all, &[1], Ok(Some(DeliveryState::Accepted)));
+    hand_out_two(&rt, &mut all);
     let accepted = Fate::Resolved(Ok(Some(DeliveryState::Accepted)));
-    assert_equal(&rt, &all.fate(0), &Some(&accepted));
-    assert_equal(&rt, &all.fate(1), &Some(&Fate::Withdrawn));
-    assert_equal(&rt, &all.fate(2), &Some(&Fate::HandedOut));
-    assert_equal_at(
-        &rt,
-        &all.fate(3),
-        &None,
-        &"an unknown tag is not registered",
-    );
-    Ok(())
+    assert_equal(&rt, &fate(&all, 0), &Some(&accepted));
+    assert_equal(&rt, &fate(&all, 1), &Some(&Fate::Withdrawn));
+    assert_equal(&rt, &fate(&all, 2), &Some(&Fate::HandedOut));
+    let unknown = fate(&all, 3);
+    assert_equal_at(&rt, &unknown, &None, &"an unknown tag is not registered");
 }
 
 #[test]
-fn a_fate_moves_once(rt: HostRuntime) -> Result<(), Fail> {
-    let mut all = three(&rt, rt.alloc())?;
-    resolve(rt.alloc(), &mut all, &[1], Ok(None))?;
-    withdraw(rt.alloc(), &mut all, &[1])?;
-    resolve(
-        rt.alloc(),
-        &mut all,
-        &[1],
-        Err(LinkStateError::RemoteClosed),
-    )?;
-    assert_equal(&rt, &all.fate(0), &Some(&Fate::Resolved(Ok(None))));
-    Ok(())
+fn a_fate_moves_once(rt: HostRuntime) {
+    let mut all = three(&rt);
+    resolve(&rt, &mut all, &[1], Ok(None));
+    withdraw(&rt, &mut all, &[1]);
+    resolve(&rt, &mut all, &[1], Err(LinkStateError::RemoteClosed));
+    assert_equal(&rt, &fate(&all, 0), &Some(&Fate::Resolved(Ok(None))));
 }
 
 #[test]
-fn a_tag_is_registered_anew(rt: HostRuntime) -> Result<(), Fail> {
-    let mut all = three(&rt, rt.alloc())?;
-    withdraw(rt.alloc(), &mut all, &[1])?;
-    register(&rt, rt.alloc(), &mut all, &[1])?;
-    end(rt.alloc(), &mut all, &[1])?;
+fn a_tag_is_registered_anew(rt: HostRuntime) {
+    let mut all = three(&rt);
+    withdraw(&rt, &mut all, &[1]);
+    register(&rt, &mut all, &[1]);
+    end(&rt, &mut all, &[1]);
     let failed = Fate::Resolved(Err(LinkStateError::IllegalState));
-    assert_equal(&rt, &all.fate(0), &Some(&Fate::Withdrawn));
-    assert_equal(&rt, &all.fate(1), &Some(&Fate::Pending));
-    assert_equal(&rt, &all.fate(3), &Some(&failed));
-    Ok(())
+    assert_equal(&rt, &fate(&all, 0), &Some(&Fate::Withdrawn));
+    assert_equal(&rt, &fate(&all, 1), &Some(&Fate::Pending));
+    assert_equal(&rt, &fate(&all, 3), &Some(&failed));
 }
 
 #[test]
-fn outcomes_go_to_their_tags(rt: HostRuntime) -> Result<(), Fail> {
-    let mut all = three(&rt, rt.alloc())?;
-    resolve_two(rt.alloc(), &mut all)?;
+fn outcomes_go_to_their_tags(rt: HostRuntime) {
+    let mut all = three(&rt);
+    resolve_two(&rt, &mut all);
     let released = Fate::Resolved(Ok(Some(DeliveryState::Released)));
-    assert_equal(&rt, &all.fate(0), &Some(&Fate::Resolved(Ok(None))));
-    assert_equal(&rt, &all.fate(1), &Some(&Fate::Pending));
-    assert_equal(&rt, &all.fate(2), &Some(&released));
-    Ok(())
+    assert_equal(&rt, &fate(&all, 0), &Some(&Fate::Resolved(Ok(None))));
+    assert_equal(&rt, &fate(&all, 1), &Some(&Fate::Pending));
+    assert_equal(&rt, &fate(&all, 2), &Some(&released));
 }

@@ -1,8 +1,6 @@
 //! What ends all registrations at once: a new attach and a detach that closes; and what ends none.
 use crate::assertions::{assert_equal, assert_equal_at, assert_holds, assert_holds_at};
-use crate::calls::{
-    pending_in, send_attach, send_detach, set_output_handle, state_of, take_attach, take_reply,
-};
+use crate::calls::pending_in;
 use crate::ledgers::{assert_fates, attached, new_ledger, put, reattach, three_sent};
 use crate::samples::{attach_of, count_tag};
 use amqp_link_core::endpoint::LinkDetach;
@@ -11,13 +9,17 @@ use amqp_link_ledger::fate::Fate;
 use amqp_link_ledger::ledger::OutcomeLedger;
 use amqp_link_sender::SenderAttachExchange;
 use amqp_link_state::state::LinkState;
+use amqp_link_tests_support::calls::{
+    local_state, send_attach, send_detach, set_output_handle, take_attach, take_reply,
+};
+use amqp_link_tests_support::links::went;
 use amqp_link_tests_support::refusals::{Asked, Refusal, asked_by, at_sender};
-use amqp_link_tests_support::table::detach;
+use amqp_link_tests_support::table::{detach, left};
 use amqp_link_types::delivery::{DeliveryOutcome, Outcomes};
 use amqp_link_types::frame::LinkFrame;
 use amqp_link_types::types::{
-    Detach, Error, Handle, LinkStateError, OutputHandle, Role, SenderAttachError, SenderSettleMode,
-    Symbol, Target,
+    Detach, DetachError, Error, Handle, LinkStateError, OutputHandle, Role, SenderAttachError,
+    SenderSettleMode, Symbol, Target,
 };
 use std::process::Abort;
 
@@ -143,7 +145,7 @@ fn closed_for_a_failed_attach_resolves_nothing(rt: HostRuntime) {
     let (error, action) = answer.expect(&rt, "memory");
     let actual = (at_sender(&error), asked_by(&action));
     drop((error, action));
-    assert_equal(&rt, &state_of(&ledger), &LinkState::CloseSent);
+    assert_equal(&rt, &local_state(&ledger), &LinkState::CloseSent);
     assert_pending(&rt, &ledger);
     drop(ledger);
     let wanted = (
@@ -186,26 +188,36 @@ fn other_detaches_resolve_nothing(rt: HostRuntime) {
     drop(ledger);
 }
 
+fn assert_sent(rt: &impl Abort, sent: Result<LinkFrame, DetachError>, wanted: &LinkFrame) {
+    let frame = sent.expect(rt, "a detach is sent");
+    assert_equal(rt, &frame, wanted);
+}
+
 // The detaches of a ledger are those of its link, and its registrations stay.
 #[test]
 fn detaches_are_those_of_the_link(rt: HostRuntime) {
     let mut ledger = three_sent(&rt, SenderSettleMode::Mixed);
-    let sent = send_detach(&mut ledger, true);
-    let frame = sent.expect(&rt, "a detach is sent");
-    assert_equal(&rt, &frame, &LinkFrame::Detach(detach(true)));
-    drop(frame);
-    assert_equal(&rt, &state_of(&ledger), &LinkState::CloseSent);
+    assert_sent(
+        &rt,
+        send_detach(&mut ledger, true),
+        &LinkFrame::Detach(detach(true)),
+    );
+    assert_equal(&rt, &local_state(&ledger), &LinkState::CloseSent);
     assert_pending(&rt, &ledger);
-    let is_taken = take_reply(&mut ledger, detach(true)).is_ok();
-    assert_holds_at(&rt, is_taken, &"the reply");
-    assert_equal(&rt, &state_of(&ledger), &LinkState::Closed);
+    assert_holds_at(
+        &rt,
+        went(take_reply(&mut ledger, detach(true))),
+        &"the reply",
+    );
+    assert_equal(&rt, &local_state(&ledger), &LinkState::Closed);
     assert_pending(&rt, &ledger);
     drop(ledger);
-    let mut ledger = attached(&rt, SenderSettleMode::Mixed, 0);
-    let is_taken = ledger.apply_remote_detach_outcome(detach(false)).is_ok();
-    assert_holds_at(&rt, is_taken, &"a detach that the peer initiates");
-    assert_equal(&rt, &state_of(&ledger), &LinkState::Detached);
-    drop(ledger);
+}
+
+#[test]
+fn detach_of_the_peer_is_taken(rt: HostRuntime) {
+    let ledger = attached(&rt, SenderSettleMode::Mixed, 0);
+    assert_equal(&rt, &left(ledger, false), &(true, LinkState::Detached));
 }
 
 // An error of the condition x:y.

@@ -1,10 +1,11 @@
 //! What a ledger shows of its link, and the flows that it takes.
 use crate::assertions::{assert_equal, assert_holds_at};
-use crate::calls::{credit_of, handles_of, pending_in, set_output_handle, take_flow};
+use crate::calls::{credit_of, handles_of, pending_in, take_flow};
 use crate::ledgers::{assert_fates, attached, new_ledger, three_sent};
 use crate::samples::fields;
 use amqp_link_core::endpoint::LinkExt;
 use amqp_link_ledger::fate::Fate;
+use amqp_link_tests_support::calls::set_output_handle;
 use amqp_link_tests_support::links::{FlowFields, reply_fields};
 use amqp_link_types::types::{
     InputHandle, LinkFlow, LinkRelayError, OutputHandle, ReceiverSettleMode, SenderSettleMode,

@@ -6,6 +6,7 @@ use crate::transfers::{begins_next, transfer_arrives};
 use amqp_link_core::endpoint::{LinkAttach, LinkExt};
 use amqp_link_receiver::{ReceiverAttachExchange, ReceiverLink, get_max_message_size};
 use amqp_link_state::state::LinkState;
+use amqp_link_tests_support::calls::{local_state, take_attach};
 use amqp_link_tests_support::nowhere::parts_to_nowhere;
 use amqp_link_tests_support::refusals::{Refusal, at_receiver};
 use amqp_link_types::types::{
@@ -39,7 +40,7 @@ fn incoming_properties_are_taken(rt: HostRuntime) {
     let mut link = ReceiverLink::new(rt.alloc(), parts(&rt, SenderSettleMode::Mixed, 512));
     let mut attach = coming(&rt, Role::Sender, false);
     attach.properties = Some(fields(&rt, "k"));
-    let answer = taken_by(link.on_incoming_attach(attach));
+    let answer = taken_by(take_attach(&mut link, attach));
     let wanted = Some(fields(&rt, "k"));
     let is_taken = *link.properties() == wanted;
     drop(wanted);
@@ -104,10 +105,10 @@ struct Left {
 // What an attach leaves of a link in this state.
 fn left_by(rt: &(impl Abort + AllocGlobal), state: LinkState, attach: Attach) -> Left {
     let mut link = link_in(rt, state);
-    let answer = taken_by(link.on_incoming_attach(attach));
+    let answer = taken_by(take_attach(&mut link, attach));
     let left = Left {
         answer,
-        state: *link.local_state(),
+        state: local_state(&link),
         input_handle: link.input_handle(),
         snd_settle_mode: link.snd_settle_mode(),
         count: link.flow_state().delivery_count(),
@@ -178,9 +179,9 @@ fn target_of_another_kind_is_refused(rt: HostRuntime) {
     let mut link = ReceiverLink::new(rt.alloc(), parts);
     assert_equal(&rt, &link.input_handle(), &None);
     let attach = attach_of(&rt, Role::Sender, SenderSettleMode::Settled);
-    let answer = taken_by(link.on_incoming_attach(attach));
+    let answer = taken_by(take_attach(&mut link, attach));
     let left = (
-        *link.local_state(),
+        local_state(&link),
         link.input_handle().is_some(),
         link.snd_settle_mode(),
     );

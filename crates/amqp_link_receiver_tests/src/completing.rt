@@ -8,6 +8,7 @@ use amqp_link_core::endpoint::LinkExt;
 use amqp_link_payloads::Message;
 use amqp_link_receiver::ReceiverLink;
 use amqp_link_state::state::{LinkFlowStateInner, LinkState};
+use amqp_link_tests_support::calls::set_output_handle;
 use amqp_link_types::delivery::{Delivery, DeliveryInfo};
 use amqp_link_types::types::{
     DataBody, DecodeError, DeliveryState, DeliveryTag, FromBody, MessageDecodeError, OutputHandle,
@@ -433,7 +434,7 @@ fn link_that_is_not_attached_takes_nothing(rt: HostRuntime) {
 // A transfer ends a delivery on a link without output handle.
 fn shown_without_handle(rt: &(impl Abort + AllocGlobal)) -> (Shown, Left) {
     let mut link = link_in(rt, ReceiverSettleMode::First, 2);
-    *link.output_handle_mut() = None;
+    set_output_handle(&mut link, None);
     shown_once(rt, link, third(rt, None))
 }
 

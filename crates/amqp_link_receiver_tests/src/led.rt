@@ -4,6 +4,9 @@ use crate::samples::{coming, count_tag};
 use amqp_link_core::endpoint::{LinkAttach, LinkDetach, LinkExt};
 use amqp_link_receiver::ReceiverLink;
 use amqp_link_state::state::LinkState;
+use amqp_link_tests_support::calls::{
+    local_state, send_attach, send_detach, take_attach, take_reply,
+};
 use amqp_link_tests_support::table::detach;
 use amqp_link_types::types::{Role, Target};
 use std::process::Abort;
@@ -17,7 +20,7 @@ fn attach_comes(
 ) {
     let mut attach = coming(rt, Role::Sender, incomplete);
     attach.initial_delivery_count = Some(count);
-    drop(link.on_incoming_attach(attach));
+    drop(take_attach(link, attach));
 }
 
 // Brings a link that is not attached to this state, or to the one from which a detach leads to it.
@@ -29,20 +32,20 @@ fn attach_up_to(
 ) {
     match state {
         LinkState::Unattached => {}
-        LinkState::AttachSent => drop(link.send_attach(false)),
+        LinkState::AttachSent => drop(send_attach(link, false)),
         LinkState::IncompleteAttachSent => {
             drop(link.on_incomplete_transfer(&count_tag(rt, 9), 0, 1));
             link.set_max_frame_size(31);
-            drop(link.send_attach(false));
+            drop(send_attach(link, false));
         }
         LinkState::AttachReceived => attach_comes(rt, link, count, false),
         LinkState::IncompleteAttachReceived => attach_comes(rt, link, count, true),
         LinkState::IncompleteAttachExchanged => {
-            drop(link.send_attach(false));
+            drop(send_attach(link, false));
             attach_comes(rt, link, count, true);
         }
         _ => {
-            drop(link.send_attach(false));
+            drop(send_attach(link, false));
             attach_comes(rt, link, count, false);
         }
     }
@@ -59,17 +62,17 @@ pub(crate) fn lead_to(
 ) {
     attach_up_to(rt, link, count, state);
     match state {
-        LinkState::DetachSent => drop(link.send_detach(false, None)),
-        LinkState::CloseSent => drop(link.send_detach(true, None)),
+        LinkState::DetachSent => drop(send_detach(link, false)),
+        LinkState::CloseSent => drop(send_detach(link, true)),
         LinkState::Detached => {
-            drop(link.send_detach(false, None));
-            drop(link.on_detach_reply(detach(false)));
+            drop(send_detach(link, false));
+            drop(take_reply(link, detach(false)));
         }
         LinkState::Closed => {
-            drop(link.send_detach(true, None));
-            drop(link.on_detach_reply(detach(true)));
+            drop(send_detach(link, true));
+            drop(take_reply(link, detach(true)));
         }
         _ => {}
     }
-    assert_equal(rt, link.local_state(), &state);
+    assert_equal(rt, &local_state(link), &state);
 }

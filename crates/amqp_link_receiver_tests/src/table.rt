@@ -7,6 +7,9 @@ use crate::samples::{coming, count_tag, parts};
 use amqp_link_core::endpoint::{LinkAttach, LinkDetach, LinkExt};
 use amqp_link_receiver::{ReceiverAttachExchange, ReceiverLink};
 use amqp_link_state::state::LinkState;
+use amqp_link_tests_support::calls::{
+    send_attach, send_detach, set_output_handle, take_attach, take_reply,
+};
 use amqp_link_tests_support::refusals::Refusal;
 use amqp_link_tests_support::table::{
     Call, STATES, answered, attached, detach, detach_by, is_illegal, is_illegal_outcome, left,
@@ -31,33 +34,15 @@ fn link_in(rt: &(impl Abort + AllocGlobal), state: LinkState, limit: u32) -> Rec
     link.with_output_handle(OutputHandle(0))
 }
 
-fn attached_in(rt: &(impl Abort + AllocGlobal), state: LinkState, limit: u32) -> (bool, LinkState) {
-    let mut link = link_in(rt, state, limit);
-    let actual = attached(&mut link);
-    drop(link);
-    actual
-}
-
 #[test]
 fn attaches_that_are_sent(rt: HostRuntime) {
     for (incomplete, limit) in [(false, 512), (true, 30)] {
         let call = Call::SendAttach(incomplete);
         for (place, state) in STATES.iter().enumerate() {
-            let actual = attached_in(&rt, *state, limit);
+            let actual = attached(link_in(&rt, *state, limit));
             assert_equal_at(&rt, &actual, &wanted(call, place), &(call, state));
         }
     }
-}
-
-fn taken_in(
-    rt: &(impl Abort + AllocGlobal),
-    state: LinkState,
-    incomplete: bool,
-) -> (bool, LinkState) {
-    let mut link = link_in(rt, state, 512);
-    let actual = taken(&mut link, coming(rt, Role::Sender, incomplete));
-    drop(link);
-    actual
 }
 
 #[test]
@@ -65,17 +50,13 @@ fn incoming_attaches(rt: HostRuntime) {
     for incomplete in [false, true] {
         let call = Call::IncomingAttach(incomplete);
         for (place, state) in STATES.iter().enumerate() {
-            let actual = taken_in(&rt, *state, incomplete);
+            let actual = taken(
+                link_in(&rt, *state, 512),
+                coming(&rt, Role::Sender, incomplete),
+            );
             assert_equal_at(&rt, &actual, &wanted(call, place), &(call, state));
         }
     }
-}
-
-fn detach_in(rt: &(impl Abort + AllocGlobal), state: LinkState, closed: bool) -> (bool, LinkState) {
-    let mut link = link_in(rt, state, 512);
-    let actual = detach_by(&mut link, closed);
-    drop(link);
-    actual
 }
 
 #[test]
@@ -83,21 +64,10 @@ fn detaches_that_are_sent(rt: HostRuntime) {
     for closed in [false, true] {
         let call = Call::SendDetach(closed);
         for (place, state) in STATES.iter().enumerate() {
-            let actual = detach_in(&rt, *state, closed);
+            let actual = detach_by(link_in(&rt, *state, 512), closed);
             assert_equal_at(&rt, &actual, &wanted(call, place), &(call, state));
         }
     }
-}
-
-fn answered_in(
-    rt: &(impl Abort + AllocGlobal),
-    state: LinkState,
-    closed: bool,
-) -> (bool, LinkState) {
-    let mut link = link_in(rt, state, 512);
-    let actual = answered(&mut link, closed);
-    drop(link);
-    actual
 }
 
 #[test]
@@ -105,17 +75,10 @@ fn detaches_that_answer(rt: HostRuntime) {
     for closed in [false, true] {
         let call = Call::DetachReply(closed);
         for (place, state) in STATES.iter().enumerate() {
-            let actual = answered_in(&rt, *state, closed);
+            let actual = answered(link_in(&rt, *state, 512), closed);
             assert_equal_at(&rt, &actual, &wanted(call, place), &(call, state));
         }
     }
-}
-
-fn left_in(rt: &(impl Abort + AllocGlobal), state: LinkState, closed: bool) -> (bool, LinkState) {
-    let mut link = link_in(rt, state, 512);
-    let actual = left(&mut link, closed);
-    drop(link);
-    actual
 }
 
 #[test]
@@ -123,7 +86,7 @@ fn detaches_of_the_other_end(rt: HostRuntime) {
     for closed in [false, true] {
         let call = Call::RemoteDetach(closed);
         for (place, state) in STATES.iter().enumerate() {
-            let actual = left_in(&rt, *state, closed);
+            let actual = left(link_in(&rt, *state, 512), closed);
             assert_equal_at(&rt, &actual, &wanted(call, place), &(call, state));
         }
     }
@@ -132,9 +95,9 @@ fn detaches_of_the_other_end(rt: HostRuntime) {
 // Whether a detach without output handle, and then a closing reply, are refused with `IllegalState`.
 fn refused_without_handle(rt: &(impl Abort + AllocGlobal)) -> (bool, bool) {
     let mut link = link_in(rt, LinkState::Attached, 512);
-    *link.output_handle_mut() = None;
-    let sent = is_illegal(link.send_detach(false, None));
-    let replied = is_illegal(link.on_detach_reply(detach(true)));
+    set_output_handle(&mut link, None);
+    let sent = is_illegal(send_detach(&mut link, false));
+    let replied = is_illegal(take_reply(&mut link, detach(true)));
     drop(link);
     (sent, replied)
 }
@@ -158,7 +121,7 @@ fn refused_detaches_name_the_state(rt: HostRuntime) {
 #[test]
 fn attach_that_fits_no_frame_is_refused(rt: HostRuntime) {
     for (limit, fits) in [(29u32, false), (30, true)] {
-        let actual = attached_in(&rt, LinkState::Detached, limit);
+        let actual = attached(link_in(&rt, LinkState::Detached, limit));
         let state = if fits {
             LinkState::IncompleteAttachSent
         } else {
@@ -168,7 +131,7 @@ fn attach_that_fits_no_frame_is_refused(rt: HostRuntime) {
     }
     let mut link = link_in(&rt, LinkState::Detached, 29);
     let is_too_large = matches!(
-        link.send_attach(false),
+        send_attach(&mut link, false),
         Err(ReceiverAttachError::AttachTooLarge)
     );
     drop(link);
@@ -186,7 +149,7 @@ fn exchanged(
     let mut attach = coming(rt, Role::Sender, incomplete);
     attach.unsettled = Some(entries);
     let mut link = link_in(rt, state, 512);
-    let actual = taken_by(link.on_incoming_attach(attach));
+    let actual = taken_by(take_attach(&mut link, attach));
     drop(link);
     actual
 }
@@ -252,7 +215,7 @@ fn fields_after_a_detach(
     is_reattaching: bool,
 ) -> (Option<(Option<u64>, bool)>, usize) {
     let mut link = link_in(rt, LinkState::Detached, 512);
-    let fields = fields_in(link.send_attach(is_reattaching));
+    let fields = fields_in(send_attach(&mut link, is_reattaching));
     let left = link.unsettled().len();
     drop(link);
     (fields, left)

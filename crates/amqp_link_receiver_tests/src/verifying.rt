@@ -5,6 +5,7 @@ use crate::samples::{attach_of, fields, parts};
 use amqp_link_core::endpoint::{LinkAttach, LinkExt};
 use amqp_link_receiver::{ReceiverAttachExchange, ReceiverLink};
 use amqp_link_state::state::LinkState;
+use amqp_link_tests_support::calls::{local_state, send_attach, take_attach};
 use amqp_link_tests_support::links::text;
 use amqp_link_tests_support::refusals::{Asked, Refusal, asked_by, at_receiver};
 use amqp_link_types::types::{
@@ -123,7 +124,7 @@ fn attaching(rt: &(impl Abort + AllocGlobal), verifies: bool) -> ReceiverLink<Ta
     source.filter = Some(filters(rt, &["f"], None));
     parts.source = Some(source);
     let mut link = ReceiverLink::new(rt.alloc(), parts).with_output_handle(OutputHandle(0));
-    drop(link.send_attach(false));
+    drop(send_attach(&mut link, false));
     link
 }
 
@@ -138,8 +139,8 @@ fn left_by(
     SenderSettleMode,
 ) {
     let mut link = attaching(rt, verifies);
-    let answer = taken_by(link.on_incoming_attach(attach_with(rt, fault)));
-    let left = (answer, *link.local_state(), link.snd_settle_mode());
+    let answer = taken_by(take_attach(&mut link, attach_with(rt, fault)));
+    let left = (answer, local_state(&link), link.snd_settle_mode());
     drop(link);
     left
 }
@@ -199,9 +200,9 @@ fn handled(
     error: ReceiverAttachError,
 ) -> (Refusal, Asked, LinkState) {
     let mut link = attaching(rt, false);
-    drop(link.on_incoming_attach(attach_with(rt, Fault::Nothing)));
+    drop(take_attach(&mut link, attach_with(rt, Fault::Nothing)));
     let (error, action) = link.handle_attach_error(error).expect(rt, "memory");
-    let actual = (at_receiver(&error), asked_by(&action), *link.local_state());
+    let actual = (at_receiver(&error), asked_by(&action), local_state(&link));
     drop((error, action));
     drop(link);
     actual

@@ -1,5 +1,6 @@
 //! Worked values of a sender's attaches.
 use crate::assertions::{assert_equal, assert_equal_at, assert_holds_at};
+use crate::calls::pending_in;
 use crate::samples::{attach_of, count_tag, fields, parts, payload_of};
 use crate::sending::{
     SendAnswer, answered_by, answered_by_error, attached, new_link, send_flagged,
@@ -8,6 +9,9 @@ use amqp_link_core::endpoint::target::LinkTarget;
 use amqp_link_core::endpoint::{LinkAttach, LinkDetach, LinkExt};
 use amqp_link_sender::{SenderAttachExchange, SenderLink};
 use amqp_link_state::state::LinkState;
+use amqp_link_tests_support::calls::{
+    local_state, send_attach, send_detach, set_output_handle, take_attach, take_reply,
+};
 use amqp_link_tests_support::nowhere::parts_to_nowhere;
 use amqp_link_tests_support::refusals::{Refusal, at_sender};
 use amqp_link_types::delivery::{Outcomes, UnsettledMessage};
@@ -67,7 +71,7 @@ fn sent_at(
 ) -> Result<Option<Shown>, Refusal> {
     let mut link = detached_after(rt, pending, 0u32.wrapping_sub(u32::from(pending)), false);
     link.set_max_frame_size(limit);
-    let shown = shown_in(link.send_attach(false));
+    let shown = shown_in(send_attach(&mut link, false));
     drop(link);
     shown
 }
@@ -167,9 +171,9 @@ fn detached_after(
         let actual = answered_by(send_flagged(&mut link, &payload_of(rt, &[7]), None));
         assert_equal(rt, &actual, &SendAnswer::Unsettled);
     }
-    drop(link.send_detach(closed, None));
-    drop(link.on_detach_reply(reply(closed)));
-    *link.output_handle_mut() = Some(OutputHandle(0));
+    drop(send_detach(&mut link, closed));
+    drop(take_reply(&mut link, reply(closed)));
+    set_output_handle(&mut link, Some(OutputHandle(0)));
     link
 }
 
@@ -177,11 +181,11 @@ fn detached_after(
 #[test]
 fn reattach_gives_pending_deliveries_up(rt: HostRuntime) {
     let mut link = detached_after(&rt, 3, 0, false);
-    let sent = link.send_attach(true);
+    let sent = send_attach(&mut link, true);
     let ends = ends_in(&sent);
     let shown = shown_in(sent);
-    let pending = link.unsettled().len();
-    let state = *link.local_state();
+    let pending = pending_in(&link);
+    let state = local_state(&link);
     drop(link);
     let wanted = Shown {
         len: Some(25),
@@ -203,7 +207,7 @@ fn reattach_resolves_in_the_order_of_the_map(rt: HostRuntime) {
     let mut link = detached_after(&rt, 4, 0, false);
     let second = count_tag(&rt, 1);
     drop(link.withdraw(&second));
-    let sent = link.send_attach(true);
+    let sent = send_attach(&mut link, true);
     let ends = ends_in(&sent);
     drop((second, sent));
     drop(link);
@@ -216,10 +220,10 @@ fn reattach_resolves_in_the_order_of_the_map(rt: HostRuntime) {
 #[test]
 fn refused_reattach_keeps_what_is_pending(rt: HostRuntime) {
     let mut link = detached_after(&rt, 3, 0, true);
-    assert_equal(&rt, link.local_state(), &LinkState::Closed);
-    let refused = shown_in(link.send_attach(true));
+    assert_equal(&rt, &local_state(&link), &LinkState::Closed);
+    let refused = shown_in(send_attach(&mut link, true));
     assert_equal(&rt, &refused, &Err(Refusal::IllegalState));
-    assert_equal(&rt, &link.unsettled().len(), &3);
+    assert_equal(&rt, &pending_in(&link), &3);
     drop(link);
 }
 
@@ -251,10 +255,10 @@ pub(crate) fn refused_by(
 
 // What an attach leaves of a link in this mode, with a largest message of 7 bytes.
 fn left_by<T: LinkTarget>(mut link: SenderLink<T>, attach: Attach) -> Left {
-    let refused = refused_by(link.on_incoming_attach(attach));
+    let refused = refused_by(take_attach(&mut link, attach));
     let left = Left {
         refused,
-        state: *link.local_state(),
+        state: local_state(&link),
         rcv_settle_mode: *link.rcv_settle_mode(),
         max_message_size: link.max_message_size(),
     };
@@ -329,7 +333,7 @@ fn incoming_properties_are_taken(rt: HostRuntime) {
     let mut link = settling(&rt, SenderSettleMode::Mixed);
     let mut attach = coming(&rt, SenderSettleMode::Mixed);
     attach.properties = Some(fields(&rt, "k"));
-    let answer = link.on_incoming_attach(attach);
+    let answer = take_attach(&mut link, attach);
     let is_complete = is_complete(&answer);
     let wanted = Some(fields(&rt, "k"));
     let is_taken = *link.properties() == wanted;

@@ -1,6 +1,7 @@
 //! Worked values of the exchange of unsettled maps, as a sender is attached again (2.6.13).
 use crate::assertions::{assert_equal, assert_equal_at, assert_holds_at};
 use crate::attaching::{refused_by, reply};
+use crate::calls::{pending_in, put_back};
 use crate::samples::{attach_of, count_tag, payload_of};
 use crate::sending::{SendAnswer, answered_by, attached, new_link, send_flagged};
 use amqp_link_core::endpoint::target::LinkTarget;
@@ -9,6 +10,9 @@ use amqp_link_core::resumption::ResumingDelivery;
 use amqp_link_sender::sender_link::incoming::{commit_incoming_attach, plan_incoming_attach};
 use amqp_link_sender::{SenderAttachExchange, SenderLink};
 use amqp_link_state::state::LinkState;
+use amqp_link_tests_support::calls::{
+    local_state, send_attach, send_detach, set_output_handle, take_attach, take_reply,
+};
 use amqp_link_tests_support::links::went;
 use amqp_link_tests_support::nowhere::{Nowhere, parts_to_nowhere};
 use amqp_link_tests_support::refusals::Refusal;
@@ -59,7 +63,7 @@ fn entry_of(known: Known) -> UnsettledMessage {
 fn link_with(rt: &(impl Abort + AllocGlobal), entries: &[(u8, Known)]) -> SenderLink<Target> {
     let mut link = new_link(rt, SenderSettleMode::Mixed);
     for (count, known) in entries {
-        let put = went(link.put_back(count_tag(rt, *count), entry_of(*known)));
+        let put = put_back(&mut link, count_tag(rt, *count), entry_of(*known));
         assert_holds_at(rt, put, &"a free tag");
     }
     link
@@ -68,7 +72,7 @@ fn link_with(rt: &(impl Abort + AllocGlobal), entries: &[(u8, Known)]) -> Sender
 // The same once it has sent its attach.
 fn attaching_with(rt: &(impl Abort + AllocGlobal), entries: &[(u8, Known)]) -> SenderLink<Target> {
     let mut link = link_with(rt, entries);
-    let sent = went(link.send_attach(false));
+    let sent = went(send_attach(&mut link, false));
     assert_holds_at(rt, sent, &"an attach is sent");
     link
 }
@@ -126,7 +130,7 @@ fn exchange_on(
     link: &mut SenderLink<Target>,
     attach: Attach,
 ) -> Exchanged {
-    let answer = link.on_incoming_attach(attach);
+    let answer = take_attach(link, attach);
     let (exchange, outcomes) = answer.expect(rt, "an attach that is accepted");
     exchanged_by(rt, exchange, outcomes)
 }
@@ -144,10 +148,10 @@ fn reattaching(rt: &(impl Abort + AllocGlobal)) -> SenderLink<Target> {
     let second = count_tag(rt, 1);
     drop(link.dispose(1, &second, false, DeliveryState::Accepted, false));
     drop((payload, second));
-    drop(link.send_detach(false, None));
-    drop(link.on_detach_reply(reply(false)));
-    *link.output_handle_mut() = Some(OutputHandle(0));
-    let sent = went(link.send_attach(false));
+    drop(send_detach(&mut link, false));
+    drop(take_reply(&mut link, reply(false)));
+    set_output_handle(&mut link, Some(OutputHandle(0)));
+    let sent = went(send_attach(&mut link, false));
     assert_holds_at(rt, sent, &"the attach is sent again");
     link
 }
@@ -191,8 +195,8 @@ fn sent_deliveries_are_resolved_in_order(rt: HostRuntime) {
     let wanted = wanted_of_three(&rt);
     assert_equal(&rt, &exchanged, &wanted);
     drop((exchanged, wanted));
-    assert_equal(&rt, link.local_state(), &LinkState::Attached);
-    assert_equal(&rt, &link.unsettled().len(), &0);
+    assert_equal(&rt, &local_state(&link), &LinkState::Attached);
+    assert_equal(&rt, &pending_in(&link), &0);
     drop(link);
 }
 
@@ -230,10 +234,10 @@ fn incomplete_map_is_answered_in_full(rt: HostRuntime) {
     drop((exchanged, wanted));
     assert_equal(
         &rt,
-        link.local_state(),
+        &local_state(&link),
         &LinkState::IncompleteAttachExchanged,
     );
-    assert_equal(&rt, &link.unsettled().len(), &0);
+    assert_equal(&rt, &pending_in(&link), &0);
     drop(link);
 }
 
@@ -302,7 +306,7 @@ fn assert_row(rt: &(impl Abort + AllocGlobal), own: Known, remote: Known, answer
         _ => attach_with(rt, &[(0, remote)]),
     };
     let exchanged = exchange_on(rt, &mut link, attach);
-    let left = link.unsettled().len();
+    let left = pending_in(&link);
     let wanted = wanted_of(rt, own, answer);
     assert_equal_at(rt, &exchanged, &wanted, &(own, remote));
     assert_equal_at(rt, &left, &0, &(own, remote));
@@ -420,7 +424,7 @@ fn next_at(
     attach.incomplete_unsettled = incomplete;
     let exchanged = exchange_on(rt, &mut link, attach);
     let next = exchanged.next;
-    let state = *link.local_state();
+    let state = local_state(&link);
     drop(exchanged);
     drop(link);
     (state, next)
@@ -437,9 +441,9 @@ const FOUR: [(u8, Known); 4] = [
 fn attaching_with_half(rt: &(impl Abort + AllocGlobal)) -> SenderLink<Target> {
     let mut link = link_with(rt, &FOUR);
     link.set_max_frame_size(57);
-    let sent = went(link.send_attach(false));
+    let sent = went(send_attach(&mut link, false));
     assert_holds_at(rt, sent, &"the attach is sent");
-    assert_equal(rt, link.local_state(), &LinkState::IncompleteAttachSent);
+    assert_equal(rt, &local_state(&link), &LinkState::IncompleteAttachSent);
     link
 }
 
@@ -493,10 +497,10 @@ fn attaching_with_numbers(rt: &(impl Abort + AllocGlobal), numbers: &[u16]) -> S
     let mut link = new_link(rt, SenderSettleMode::Mixed);
     link.set_max_frame_size(65536);
     for number in numbers {
-        let put = went(link.put_back(wide_tag(rt, *number), short_entry(rt, *number)));
+        let put = put_back(&mut link, wide_tag(rt, *number), short_entry(rt, *number));
         assert_holds_at(rt, put, &"a free tag");
     }
-    let sent = went(link.send_attach(false));
+    let sent = went(send_attach(&mut link, false));
     assert_holds_at(rt, sent, &"an attach is sent");
     link
 }
@@ -554,7 +558,7 @@ fn exchange_of_numbers(
     let mut link = attaching_with_numbers(rt, own);
     let exchanged = exchange_on(rt, &mut link, attach_with_numbers(rt, remote));
     assert_equal(rt, &exchanged.outcomes.len(), &0);
-    assert_equal(rt, &link.unsettled().len(), &0);
+    assert_equal(rt, &pending_in(&link), &0);
     let numbers = numbers_sent(rt, &exchanged);
     drop(exchanged);
     drop(link);
@@ -640,9 +644,9 @@ fn last_of<T: LinkTarget>(link: &SenderLink<T>, index: usize) -> Option<u8> {
 }
 
 fn left_by<T: LinkTarget>(mut link: SenderLink<T>, attach: Attach) -> Refused {
-    let refused = refused_by(link.on_incoming_attach(attach));
+    let refused = refused_by(take_attach(&mut link, attach));
     let tags = [last_of(&link, 0), last_of(&link, 1)];
-    let pending = link.unsettled().len();
+    let pending = pending_in(&link);
     drop(link);
     (refused, tags, pending)
 }
@@ -658,7 +662,7 @@ fn nowhere_with_two(rt: &(impl Abort + AllocGlobal)) -> SenderLink<Nowhere> {
     let parts = parts_to_nowhere(rt.alloc(), SenderSettleMode::Mixed).expect(rt, "memory");
     let mut link = SenderLink::new(rt.alloc(), parts);
     for (count, known) in TWO {
-        let put = went(link.put_back(count_tag(rt, count), entry_of(known)));
+        let put = put_back(&mut link, count_tag(rt, count), entry_of(known));
         assert_holds_at(rt, put, &"a free tag");
     }
     link
@@ -673,9 +677,9 @@ fn rejecting(rt: &(impl Abort + AllocGlobal)) -> Attach {
 #[test]
 fn refused_attaches_resolve_nothing(rt: HostRuntime) {
     let mut link = attaching_with(&rt, &[]);
-    drop(link.on_incoming_attach(rejecting(&rt)));
+    drop(take_attach(&mut link, rejecting(&rt)));
     for (count, known) in TWO {
-        let put = went(link.put_back(count_tag(&rt, count), entry_of(known)));
+        let put = put_back(&mut link, count_tag(&rt, count), entry_of(known));
         assert_holds_at(&rt, put, &"a free tag");
     }
     let illegal = keeps_both(Refusal::IllegalState);
@@ -697,7 +701,7 @@ fn refused_attaches_resolve_nothing(rt: HostRuntime) {
 fn attach_of_another_settle_mode_resolves_nothing(rt: HostRuntime) {
     let mut link = new_link(&rt, SenderSettleMode::Unsettled);
     for (count, known) in TWO {
-        let put = went(link.put_back(count_tag(&rt, count), entry_of(known)));
+        let put = put_back(&mut link, count_tag(&rt, count), entry_of(known));
         assert_holds_at(&rt, put, &"a free tag");
     }
     let mut attach = rejecting(&rt);
@@ -715,7 +719,7 @@ fn complete_or_seven(
     let mut link = attaching_with(rt, own);
     let mut attach = attach_with(rt, &[]);
     attach.incomplete_unsettled = incomplete;
-    let answer = link.on_incoming_attach(attach);
+    let answer = take_attach(&mut link, attach);
     let (exchange, outcomes) = answer.expect(rt, "an attach that is accepted");
     drop(outcomes);
     drop(link);
@@ -738,11 +742,7 @@ fn only_a_complete_exchange_is_no_error(rt: HostRuntime) {
 type Shown = (LinkState, Option<u64>, usize);
 
 fn shown(link: &SenderLink<Target>) -> Shown {
-    (
-        *link.local_state(),
-        link.max_message_size(),
-        link.unsettled().len(),
-    )
+    (local_state(link), link.max_message_size(), pending_in(link))
 }
 
 // What a link shows once this attach is planned and once it is taken, and how many outcomes are returned, if

@@ -1,5 +1,6 @@
 //! Worked values of flows that arrive at a sender (2.6.7).
 use crate::assertions::{assert_equal, assert_equal_at, assert_holds};
+use crate::calls::take_flow;
 use crate::samples::{fields, parts, payload_of};
 use amqp_link_core::endpoint::LinkExt;
 use amqp_link_sender::SenderLink;
@@ -39,7 +40,7 @@ struct Left {
 }
 
 fn left_of(link: &mut SenderLink<Target>, flow: LinkFlow) -> Left {
-    let reply = reply_fields(link.on_incoming_flow(flow));
+    let reply = reply_fields(take_flow(link, flow));
     Left {
         reply,
         count: link.flow_state().delivery_count(),

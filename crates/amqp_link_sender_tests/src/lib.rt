@@ -6,6 +6,8 @@ mod assertions;
 #[cfg(test)]
 mod attaching;
 #[cfg(test)]
+mod calls;
+#[cfg(test)]
 mod exchanging;
 #[cfg(test)]
 mod flows;

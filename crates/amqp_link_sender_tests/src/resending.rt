@@ -1,10 +1,10 @@
 //! Worked values of deliveries that are resumed, put back or withdrawn (2.6.13).
 use crate::assertions::{assert_equal, assert_equal_at, assert_holds_at};
+use crate::calls::{pending_in, put_back};
 use crate::samples::{count_tag, parts, payload_of};
 use crate::sending::{SendAnswer, answered_by_error, link, new_link};
 use amqp_link_core::endpoint::LinkExt;
 use amqp_link_sender::SenderLink;
-use amqp_link_tests_support::links::went;
 use amqp_link_types::delivery::UnsettledMessage;
 use amqp_link_types::frame::LinkFrame;
 use amqp_link_types::types::{DeliveryState, LinkStateError, SenderSettleMode, Target, Transfer};
@@ -178,7 +178,7 @@ fn rest_of_a_delivery_is_sent(rt: HostRuntime) {
         is_whole(&rt, &link, 7),
         &"the whole entry is registered",
     );
-    assert_equal(&rt, &link.unsettled().len(), &1);
+    assert_equal(&rt, &pending_in(&link), &1);
     assert_equal(&rt, &link.flow_state().link_credit(), &1);
     assert_equal(&rt, &link.flow_state().delivery_count(), &0);
     drop(link);
@@ -191,7 +191,7 @@ fn entry_is_registered_under_the_given_tag(rt: HostRuntime) {
     let mut link = link(&rt, SenderSettleMode::Mixed, 30, 0);
     assert_holds_at(
         &rt,
-        went(link.put_back(count_tag(&rt, 7), entry(&rt))),
+        put_back(&mut link, count_tag(&rt, 7), entry(&rt)),
         &"a free tag",
     );
     let made = link.generate_non_resuming_transfer_performative(
@@ -216,7 +216,7 @@ fn entry_is_registered_under_the_given_tag(rt: HostRuntime) {
         is_whole(&rt, &link, 8),
         &"the whole entry is registered",
     );
-    assert_equal(&rt, &link.unsettled().len(), &2);
+    assert_equal(&rt, &pending_in(&link), &2);
     drop(link);
 }
 
@@ -226,11 +226,11 @@ fn told_at_24(
     mut link: SenderLink<Target>,
     count: u8,
 ) -> (Option<(SendAnswer, bool)>, usize) {
-    let put = went(link.put_back(count_tag(rt, 7), entry(rt)));
+    let put = put_back(&mut link, count_tag(rt, 7), entry(rt));
     assert_holds_at(rt, put, &"a free tag");
     link.set_max_frame_size(24);
     let actual = resume(rt, &mut link, count).err();
-    let pending = link.unsettled().len();
+    let pending = pending_in(&link);
     drop(link);
     (actual, pending)
 }
@@ -257,13 +257,13 @@ fn pending_entry_is_not_replaced(rt: HostRuntime) {
     let mut link = new_link(&rt, SenderSettleMode::Mixed);
     assert_holds_at(
         &rt,
-        went(link.put_back(count_tag(&rt, 6), entry(&rt))),
+        put_back(&mut link, count_tag(&rt, 6), entry(&rt)),
         &"a free tag",
     );
     let other = UnsettledMessage::new(payload_of(&rt, &[7]), None, 0);
     assert_holds_at(
         &rt,
-        went(link.put_back(count_tag(&rt, 7), other)),
+        put_back(&mut link, count_tag(&rt, 7), other),
         &"a free tag",
     );
     let refused = link.put_back(count_tag(&rt, 7), entry(&rt));
@@ -274,7 +274,7 @@ fn pending_entry_is_not_replaced(rt: HostRuntime) {
     drop(refused);
     let first = is_whole(&rt, &link, 6);
     let second = is_whole(&rt, &link, 7);
-    let pending = link.unsettled().len();
+    let pending = pending_in(&link);
     drop(link);
     assert_equal(&rt, &actual, &Some((SendAnswer::TagPending, true)));
     assert_equal(&rt, &(first, second, pending), &(true, false, 2));
@@ -305,7 +305,7 @@ fn withdrawn(
 fn delivery_is_withdrawn_once(rt: HostRuntime) {
     let mut link = new_link(&rt, SenderSettleMode::Mixed);
     for count in 0..4u8 {
-        let put = went(link.put_back(count_tag(&rt, count), entry(&rt)));
+        let put = put_back(&mut link, count_tag(&rt, count), entry(&rt));
         assert_holds_at(&rt, put, &"a free tag");
     }
     let first = withdrawn(&rt, &mut link, 1);

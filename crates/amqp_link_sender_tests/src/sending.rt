@@ -1,8 +1,10 @@
 //! Worked values of a sender's sends.
 use crate::assertions::{assert_equal, assert_equal_at};
+use crate::calls::{pending_in, take_flow};
 use crate::samples::{attach_of, count_tag, parts, payload_of};
 use amqp_link_core::endpoint::{LinkAttach, LinkExt};
 use amqp_link_sender::{SenderLink, Sending, Waiting};
+use amqp_link_tests_support::calls::{send_attach, take_attach};
 use amqp_link_types::delivery::Settlement;
 use amqp_link_types::frame::LinkFrame;
 use amqp_link_types::types::{
@@ -39,12 +41,15 @@ pub(crate) fn attached(
     mode: SenderSettleMode,
     credit: u32,
 ) -> SenderLink<Target> {
-    drop(link.send_attach(false));
-    drop(link.on_incoming_attach(attach_of(rt, Role::Receiver, mode)));
-    drop(link.on_incoming_flow(LinkFlow {
-        link_credit: Some(credit),
-        ..LinkFlow::default()
-    }));
+    drop(send_attach(&mut link, false));
+    drop(take_attach(&mut link, attach_of(rt, Role::Receiver, mode)));
+    drop(take_flow(
+        &mut link,
+        LinkFlow {
+            link_credit: Some(credit),
+            ..LinkFlow::default()
+        },
+    ));
     link
 }
 
@@ -242,7 +247,7 @@ fn after(link: &SenderLink<Target>, answer: SendAnswer) -> Standing {
         answer,
         credit: link.flow_state().link_credit(),
         count: link.flow_state().delivery_count(),
-        pending: link.unsettled().len(),
+        pending: pending_in(link),
     }
 }
 
@@ -429,7 +434,7 @@ fn sent_thrice(rt: &(impl Abort + AllocGlobal)) -> ([SendAnswer; 3], bool, usize
     let is_plain = is_plainly_kept(rt, &link);
     let again = send_with(rt, &mut link, transfer(rt, 1, false));
     let settled = send_with(rt, &mut link, transfer(rt, 1, true));
-    let pending = link.unsettled().len();
+    let pending = pending_in(&link);
     drop(link);
     ([first, again, settled], is_plain, pending)
 }

@@ -5,6 +5,7 @@ use crate::samples::{coming, parts};
 use amqp_link_core::endpoint::{LinkDetach, LinkExt};
 use amqp_link_sender::SenderLink;
 use amqp_link_state::state::LinkState;
+use amqp_link_tests_support::calls::{send_detach, set_output_handle, take_attach, take_reply};
 use amqp_link_tests_support::table::{
     Call, STATES, answered, attached, detach, detach_by, is_illegal, is_illegal_outcome, left,
     taken, wanted,
@@ -23,33 +24,15 @@ fn link_in(rt: &(impl Abort + AllocGlobal), state: LinkState, limit: u32) -> Sen
     link.with_output_handle(OutputHandle(0))
 }
 
-fn attached_in(rt: &(impl Abort + AllocGlobal), state: LinkState, limit: u32) -> (bool, LinkState) {
-    let mut link = link_in(rt, state, limit);
-    let actual = attached(&mut link);
-    drop(link);
-    actual
-}
-
 #[test]
 fn attaches_that_are_sent(rt: HostRuntime) {
     for (incomplete, limit) in [(false, 512), (true, 30)] {
         let call = Call::SendAttach(incomplete);
         for (place, state) in STATES.iter().enumerate() {
-            let actual = attached_in(&rt, *state, limit);
+            let actual = attached(link_in(&rt, *state, limit));
             assert_equal_at(&rt, &actual, &wanted(call, place), &(call, state));
         }
     }
-}
-
-fn taken_in(
-    rt: &(impl Abort + AllocGlobal),
-    state: LinkState,
-    incomplete: bool,
-) -> (bool, LinkState) {
-    let mut link = link_in(rt, state, 512);
-    let actual = taken(&mut link, coming(rt, Role::Receiver, incomplete));
-    drop(link);
-    actual
 }
 
 #[test]
@@ -57,17 +40,13 @@ fn incoming_attaches(rt: HostRuntime) {
     for incomplete in [false, true] {
         let call = Call::IncomingAttach(incomplete);
         for (place, state) in STATES.iter().enumerate() {
-            let actual = taken_in(&rt, *state, incomplete);
+            let actual = taken(
+                link_in(&rt, *state, 512),
+                coming(&rt, Role::Receiver, incomplete),
+            );
             assert_equal_at(&rt, &actual, &wanted(call, place), &(call, state));
         }
     }
-}
-
-fn detach_in(rt: &(impl Abort + AllocGlobal), state: LinkState, closed: bool) -> (bool, LinkState) {
-    let mut link = link_in(rt, state, 512);
-    let actual = detach_by(&mut link, closed);
-    drop(link);
-    actual
 }
 
 #[test]
@@ -75,21 +54,10 @@ fn detaches_that_are_sent(rt: HostRuntime) {
     for closed in [false, true] {
         let call = Call::SendDetach(closed);
         for (place, state) in STATES.iter().enumerate() {
-            let actual = detach_in(&rt, *state, closed);
+            let actual = detach_by(link_in(&rt, *state, 512), closed);
             assert_equal_at(&rt, &actual, &wanted(call, place), &(call, state));
         }
     }
-}
-
-fn answered_in(
-    rt: &(impl Abort + AllocGlobal),
-    state: LinkState,
-    closed: bool,
-) -> (bool, LinkState) {
-    let mut link = link_in(rt, state, 512);
-    let actual = answered(&mut link, closed);
-    drop(link);
-    actual
 }
 
 #[test]
@@ -97,17 +65,10 @@ fn detaches_that_answer(rt: HostRuntime) {
     for closed in [false, true] {
         let call = Call::DetachReply(closed);
         for (place, state) in STATES.iter().enumerate() {
-            let actual = answered_in(&rt, *state, closed);
+            let actual = answered(link_in(&rt, *state, 512), closed);
             assert_equal_at(&rt, &actual, &wanted(call, place), &(call, state));
         }
     }
-}
-
-fn left_in(rt: &(impl Abort + AllocGlobal), state: LinkState, closed: bool) -> (bool, LinkState) {
-    let mut link = link_in(rt, state, 512);
-    let actual = left(&mut link, closed);
-    drop(link);
-    actual
 }
 
 #[test]
@@ -115,7 +76,7 @@ fn detaches_of_the_peer(rt: HostRuntime) {
     for closed in [false, true] {
         let call = Call::RemoteDetach(closed);
         for (place, state) in STATES.iter().enumerate() {
-            let actual = left_in(&rt, *state, closed);
+            let actual = left(link_in(&rt, *state, 512), closed);
             assert_equal_at(&rt, &actual, &wanted(call, place), &(call, state));
         }
     }
@@ -124,10 +85,8 @@ fn detaches_of_the_peer(rt: HostRuntime) {
 // Whether a link without output handle detaches, and its state then.
 fn detach_without_handle(rt: &(impl Abort + AllocGlobal)) -> (bool, LinkState) {
     let mut link = link_in(rt, LinkState::Attached, 512);
-    *link.output_handle_mut() = None;
-    let actual = detach_by(&mut link, false);
-    drop(link);
-    actual
+    set_output_handle(&mut link, None);
+    detach_by(link, false)
 }
 
 #[test]
@@ -142,9 +101,9 @@ fn detach_without_handle_moves_the_state(rt: HostRuntime) {
 // Whether a detach without output handle, and then a closing reply, are refused with `IllegalState`.
 fn refused_without_handle(rt: &(impl Abort + AllocGlobal)) -> (bool, bool) {
     let mut link = link_in(rt, LinkState::Attached, 512);
-    *link.output_handle_mut() = None;
-    let sent = is_illegal(link.send_detach(false, None));
-    let replied = is_illegal(link.on_detach_reply(detach(true)));
+    set_output_handle(&mut link, None);
+    let sent = is_illegal(send_detach(&mut link, false));
+    let replied = is_illegal(take_reply(&mut link, detach(true)));
     drop(link);
     (sent, replied)
 }
@@ -166,10 +125,8 @@ fn refused_detaches_name_the_state(rt: HostRuntime) {
 // The state of a detached link after an incomplete attach has arrived and its own is sent.
 fn attached_after_an_incomplete_one(rt: &(impl Abort + AllocGlobal)) -> (bool, LinkState) {
     let mut link = link_in(rt, LinkState::Detached, 512);
-    let _ = taken(&mut link, coming(rt, Role::Receiver, true));
-    let actual = attached(&mut link);
-    drop(link);
-    actual
+    drop(take_attach(&mut link, coming(rt, Role::Receiver, true)));
+    attached(link)
 }
 
 #[test]

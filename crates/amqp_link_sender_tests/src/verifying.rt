@@ -5,6 +5,7 @@ use crate::samples::{attach_of, fields, parts, text};
 use amqp_link_core::endpoint::{LinkAttach, LinkExt};
 use amqp_link_sender::SenderLink;
 use amqp_link_state::state::LinkState;
+use amqp_link_tests_support::calls::{local_state, send_attach, take_attach};
 use amqp_link_tests_support::refusals::{Asked, Refusal, asked_by, at_sender};
 use amqp_link_types::types::{
     Attach, OutputHandle, ReceiverSettleMode, Role, SenderAttachError, SenderSettleMode, Source,
@@ -60,7 +61,7 @@ fn attaching(rt: &(impl Abort + AllocGlobal), verifies: bool) -> SenderLink<Targ
     parts.verify_incoming_source = verifies;
     parts.verify_incoming_target = verifies;
     let mut link = SenderLink::new(rt.alloc(), parts).with_output_handle(OutputHandle(0));
-    drop(link.send_attach(false));
+    drop(send_attach(&mut link, false));
     link
 }
 
@@ -71,8 +72,8 @@ fn left_by(
     fault: Fault,
 ) -> (Option<Refusal>, LinkState, ReceiverSettleMode) {
     let mut link = attaching(rt, verifies);
-    let refused = refused_by(link.on_incoming_attach(attach_with(rt, fault)));
-    let left = (refused, *link.local_state(), *link.rcv_settle_mode());
+    let refused = refused_by(take_attach(&mut link, attach_with(rt, fault)));
+    let left = (refused, local_state(&link), *link.rcv_settle_mode());
     drop(link);
     left
 }
@@ -105,7 +106,7 @@ pub(crate) fn handled(
     error: SenderAttachError,
 ) -> (Refusal, Asked, LinkState) {
     let (error, action) = link.handle_attach_error(error).expect(rt, "memory");
-    let actual = (at_sender(&error), asked_by(&action), *link.local_state());
+    let actual = (at_sender(&error), asked_by(&action), local_state(link));
     drop((error, action));
     actual
 }
@@ -117,7 +118,7 @@ fn refused_link_is_closed_once(rt: HostRuntime) {
     let attach = attach_with(&rt, Fault::TargetWithoutAddress);
     assert_equal(
         &rt,
-        &refused_by(link.on_incoming_attach(attach)),
+        &refused_by(take_attach(&mut link, attach)),
         &Some(Refusal::TargetAddress),
     );
     let first = handled(
@@ -147,7 +148,7 @@ fn handled_attached(
     error: SenderAttachError,
 ) -> (Refusal, Asked, LinkState) {
     let mut link = attaching(rt, false);
-    drop(link.on_incoming_attach(attach_with(rt, Fault::Nothing)));
+    drop(take_attach(&mut link, attach_with(rt, Fault::Nothing)));
     let actual = handled(rt, &mut link, error);
     drop(link);
     actual

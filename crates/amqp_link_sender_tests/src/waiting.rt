@@ -6,6 +6,7 @@ use amqp_link_core::endpoint::LinkExt;
 use amqp_link_core::endpoint::dividing::attach_frame;
 use amqp_link_sender::Waiting;
 use amqp_link_state::state::LinkState;
+use amqp_link_tests_support::calls::local_state;
 use amqp_link_types::frame::LinkFrame;
 use amqp_link_types::types::{
     Detach, Error, Handle, Role, SenderSettleMode, SessionStopReason, Symbol,
@@ -27,7 +28,7 @@ fn left_by(rt: &(impl Abort + AllocGlobal), waiting: Waiting) -> Left {
     let sending = link.send_payload(waiting, &payload, 0, None, None, false);
     let left = Left {
         answer: answered_by(sending),
-        state: *link.local_state(),
+        state: local_state(&link),
         has_handle: link.output_handle_mut().is_some(),
         credit: link.flow_state().link_credit(),
     };

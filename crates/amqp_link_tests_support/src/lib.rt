@@ -2,6 +2,7 @@
 //! table of link states of the standard (OASIS AMQP 1.0 core, 2.6.3 to 2.6.6). Only tests call it.
 #![tactic(auto)]
 
+pub mod calls;
 pub mod links;
 pub mod nowhere;
 pub mod refusals;

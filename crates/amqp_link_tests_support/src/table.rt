@@ -80,33 +80,39 @@ pub fn detach(closed: bool) -> Detach {
     }
 }
 
-/// Whether an attach is sent, and the state of the link afterwards; the functions below do the same for the
-/// other calls.
-pub fn attached<L: LinkExt>(link: &mut L) -> (bool, LinkState)
+/// Whether a link sends an attach, and its state afterwards; the functions below do the same for the other calls.
+/// The link is dropped.
+pub fn attached<L: LinkExt + Drop>(mut link: L) -> (bool, LinkState)
     requires { L.copies }
 {
     let goes = went(link.send_attach(false));
-    (goes, *link.local_state())
+    ended(link, goes)
 }
 
-pub fn taken<L: LinkExt>(link: &mut L, attach: Attach) -> (bool, LinkState) {
+pub fn taken<L: LinkExt + Drop>(mut link: L, attach: Attach) -> (bool, LinkState) {
     let goes = went(link.on_incoming_attach(attach));
-    (goes, *link.local_state())
+    ended(link, goes)
 }
 
-pub fn detach_by<L: LinkExt>(link: &mut L, closed: bool) -> (bool, LinkState) {
+pub fn detach_by<L: LinkExt + Drop>(mut link: L, closed: bool) -> (bool, LinkState) {
     let goes = went(link.send_detach(closed, None));
-    (goes, *link.local_state())
+    ended(link, goes)
 }
 
-pub fn answered<L: LinkExt>(link: &mut L, closed: bool) -> (bool, LinkState) {
+pub fn answered<L: LinkExt + Drop>(mut link: L, closed: bool) -> (bool, LinkState) {
     let goes = went(link.on_detach_reply(detach(closed)));
-    (goes, *link.local_state())
+    ended(link, goes)
 }
 
-pub fn left<L: LinkExt>(link: &mut L, closed: bool) -> (bool, LinkState) {
+pub fn left<L: LinkExt + Drop>(mut link: L, closed: bool) -> (bool, LinkState) {
     let goes = went(link.apply_remote_detach_outcome(detach(closed)));
-    (goes, *link.local_state())
+    ended(link, goes)
+}
+
+fn ended<L: LinkExt + Drop>(link: L, goes: bool) -> (bool, LinkState) {
+    let state = *link.local_state();
+    drop(link);
+    (goes, state)
 }
 
 /// Whether a detach is refused for its state.

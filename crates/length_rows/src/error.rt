@@ -1,5 +1,6 @@
 //! Why a row cannot be read.
 use std::alloc::{AllocError, AllocFailed};
+use std::num::TryFromIntError;
 
 /// Why a row cannot be read.
 #[derive(Clone, Copy)]
@@ -29,5 +30,16 @@ impl<T: Drop> From<AllocFailed<T>> for RowError {
 
     fn from(_error: AllocFailed<T>) -> RowError {
         RowError::OutOfMemory
+    }
+}
+
+impl From<TryFromIntError> for RowError {
+    ghost use Rattle.std.specs.Prelude.{◌≡◌};
+    ghost use Rattle.length_rows.specs.declared.error.RowError.TheVariants.{NotARow};
+
+    ghost from_gives = { λ _ error. error ≡ NotARow };
+
+    fn from(_error: TryFromIntError) -> RowError {
+        RowError::NotARow
     }
 }

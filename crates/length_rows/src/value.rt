@@ -200,25 +200,25 @@ fn read_names(reader: &mut Reader) -> Result<Vec<Symbol>, RowError> {
 // ---- numbers of fewer bits
 
 pub(crate) fn read_u8(reader: &mut Reader) -> Result<u8, RowError> {
-    u8::try_from(reader.unsigned()?).map_err(|_| RowError::NotARow)
+    Ok(u8::try_from(reader.unsigned()?)?)
 }
 
 fn read_u16(reader: &mut Reader) -> Result<u16, RowError> {
-    u16::try_from(reader.unsigned()?).map_err(|_| RowError::NotARow)
+    Ok(u16::try_from(reader.unsigned()?)?)
 }
 
 fn read_u32(reader: &mut Reader) -> Result<u32, RowError> {
-    u32::try_from(reader.unsigned()?).map_err(|_| RowError::NotARow)
+    Ok(u32::try_from(reader.unsigned()?)?)
 }
 
 fn read_i8(reader: &mut Reader) -> Result<i8, RowError> {
-    i8::try_from(reader.signed()?).map_err(|_| RowError::NotARow)
+    Ok(i8::try_from(reader.signed()?)?)
 }
 
 fn read_i16(reader: &mut Reader) -> Result<i16, RowError> {
-    i16::try_from(reader.signed()?).map_err(|_| RowError::NotARow)
+    Ok(i16::try_from(reader.signed()?)?)
 }
 
 fn read_i32(reader: &mut Reader) -> Result<i32, RowError> {
-    i32::try_from(reader.signed()?).map_err(|_| RowError::NotARow)
+    Ok(i32::try_from(reader.signed()?)?)
 }

@@ -74,20 +74,24 @@ pub struct Exchanging {
 impl Exchanging {
     /// So many deliveries.
     pub fn ready(alloc: Global, count: u32) -> Result<Exchanging, Refused> {
-        let mut work = Exchanging {
-            ends: interrupted(alloc, count)?,
-            theirs: None,
-        };
-        let answer = work.attach();
-        completed(work, answer)
+        let mut ends = interrupted(alloc, count)?;
+        match attach_both(&mut ends) {
+            Ok(theirs) => Ok(Exchanging {
+                ends,
+                theirs: Some(theirs),
+            }),
+            Err(refused) => {
+                drop(ends);
+                Err(refused)
+            }
+        }
     }
+}
 
-    // Both endpoints send their attach, of which the receiver's is kept.
-    fn attach(&mut self) -> Result<(), Refused> {
-        drop(attach_of_sender(&mut self.ends.sender)?);
-        self.theirs = Some(attach_of_receiver(&mut self.ends.receiver)?);
-        Ok(())
-    }
+// Both endpoints send their attach; returns the receiver's.
+fn attach_both(ends: &mut Endpoints) -> Result<Attach, Refused> {
+    drop(attach_of_sender(&mut ends.sender)?);
+    attach_of_receiver(&mut ends.receiver)
 }
 
 impl Work for Exchanging {

@@ -44,6 +44,10 @@ fn arrive(
 ) -> Result<LinkTransfer, Refused> {
     let (frame, entry) = done(receiver.on_incoming_transfer(transfer, payload))?;
     drop(entry);
+    arrived_in(frame)
+}
+
+fn arrived_in(frame: LinkFrame) -> Result<LinkTransfer, Refused> {
     match frame {
         LinkFrame::RemoteTransfer(arrived) => Ok(arrived),
         other => {

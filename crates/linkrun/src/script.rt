@@ -4,7 +4,7 @@ ghost use Rattle.std.specs.Prelude.{◌≤◌, IfOk};
 use crate::answer::perform;
 use crate::event::{Event, parse_event};
 use crate::fault::Fault;
-use amqp_link::Pair;
+use amqp_link::{Pair, PairError};
 use line_text::line::read_line;
 use std::alloc::Global;
 use std::io;
@@ -87,6 +87,10 @@ fn run_lines<R: BufRead, O: Write>(
 fn answer_to<O: Write>(pair: &mut Pair, event: &Event, output: &mut O) -> io::Result<()> {
     match perform(pair, event) {
         Ok(answer) => writeln!(output, "{answer}"),
-        Err(refusal) => writeln!(output, "refused {refusal:?}"),
+        Err(refusal) => write_refusal(output, &refusal),
     }
+}
+
+fn write_refusal<O: Write>(output: &mut O, refusal: &PairError) -> io::Result<()> {
+    writeln!(output, "refused {refusal:?}")
 }

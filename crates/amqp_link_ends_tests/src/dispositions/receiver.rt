@@ -26,13 +26,10 @@ pub(super) fn link(rt: &(impl Abort + AllocGlobal), kept: u8) -> ReceiverLink<Ta
 
 pub(super) type Listed = (u32, u8, Option<ReceiverSettleMode>);
 
-pub(super) fn listed<const N: usize>(
-    rt: &(impl Abort + AllocGlobal),
-    listed: [Listed; N],
-) -> Vec<DeliveryInfo> {
+pub(super) fn listed(rt: &(impl Abort + AllocGlobal), listed: &[Listed]) -> Vec<DeliveryInfo> {
     let mut infos = Vec::new(rt.alloc());
     for (id, count, mode) in listed {
-        let info = DeliveryInfo::new(id, count_tag(rt, count), mode);
+        let info = DeliveryInfo::new(*id, count_tag(rt, *count), *mode);
         infos.push(info).expect(rt, "memory");
     }
     infos
@@ -54,7 +51,7 @@ pub(super) fn known(
 }
 
 // The fields of the frames of a call that succeeded.
-pub(super) fn frames_of<E: Drop>(
+fn frames_of<E: Drop>(
     answer: Result<Vec<LinkFrame>, E>,
 ) -> Option<(usize, [DispositionFields; 4])> {
     let Ok(frames) = answer else {
@@ -65,6 +62,15 @@ pub(super) fn frames_of<E: Drop>(
     Some(actual)
 }
 
+// A call as a function without a contract: what follows a call is proved with all that its contract says.
+pub(super) fn accept(
+    link: &mut ReceiverLink<Target>,
+    infos: &[DeliveryInfo],
+    settled: Option<bool>,
+) -> Option<(usize, [DispositionFields; 4])> {
+    frames_of(link.dispose_all(infos, settled, DeliveryState::Accepted, false))
+}
+
 // The dispositions of these deliveries, accepted; which tags are kept then, up to three, in order; and what
 // is known of the first three.
 type Answer = (
@@ -73,15 +79,15 @@ type Answer = (
     [Shown; 3],
 );
 
-fn all_accepted<const N: usize>(
+fn all_accepted(
     rt: &(impl Abort + AllocGlobal),
     kept: u8,
     settled: Option<bool>,
-    infos: [Listed; N],
+    infos: &[Listed],
 ) -> Answer {
     let mut link = link(rt, kept);
     let infos = listed(rt, infos);
-    let fields = frames_of(link.dispose_all(&infos, settled, DeliveryState::Accepted, false));
+    let fields = accept(&mut link, &infos, settled);
     let tags = [tag_at(&link, 0), tag_at(&link, 1), tag_at(&link, 2)];
     let actual = [
         known(rt, &link, 0),
@@ -104,7 +110,7 @@ pub(super) const SECOND: Option<ReceiverSettleMode> = Some(ReceiverSettleMode::S
 #[test]
 fn dispositions_break_where_modes_differ(rt: HostRuntime) {
     let infos = [(0, 0, None), (1, 1, SECOND), (2, 2, SECOND)];
-    let (fields, tags, actual) = all_accepted(&rt, 3, None, infos);
+    let (fields, tags, actual) = all_accepted(&rt, 3, None, &infos);
     let frames = [
         Some((0, Some(0), true)),
         Some((1, Some(2), false)),
@@ -139,7 +145,7 @@ fn dispositions_name_runs(rt: HostRuntime) {
         (8, 6, mode),
         (9, 7, mode),
     ];
-    let (fields, tags, _) = all_accepted(&rt, 9, Some(true), infos);
+    let (fields, tags, _) = all_accepted(&rt, 9, Some(true), &infos);
     let frames = [
         Some((0, Some(3), true)),
         Some((5, Some(6), true)),
@@ -180,7 +186,7 @@ fn long_batch_is_named_in_order(rt: HostRuntime) {
         (1, 24, None),
         (13, 25, None),
     ];
-    let (fields, tags, _) = all_accepted(&rt, 26, Some(true), infos);
+    let (fields, tags, _) = all_accepted(&rt, 26, Some(true), &infos);
     let frames = [
         Some((1, Some(13), true)),
         Some((13, Some(25), true)),
@@ -200,7 +206,7 @@ fn long_batch_is_named_in_order(rt: HostRuntime) {
 fn ends_of_the_numbers_are_no_run(rt: HostRuntime) {
     let last = u32::MAX;
     let infos = [(last, 0, None), (0, 1, None), (last - 1, 2, None)];
-    let (fields, _, _) = all_accepted(&rt, 3, Some(false), infos);
+    let (fields, _, _) = all_accepted(&rt, 3, Some(false), &infos);
     let frames = [
         Some((0, Some(0), false)),
         Some((last - 1, Some(last), false)),
@@ -212,7 +218,7 @@ fn ends_of_the_numbers_are_no_run(rt: HostRuntime) {
 
 #[test]
 fn no_disposition_for_what_is_not_kept(rt: HostRuntime) {
-    let (fields, tags, actual) = all_accepted(&rt, 1, None, [(4, 9, None), (4, 0, SECOND)]);
+    let (fields, tags, actual) = all_accepted(&rt, 1, None, &[(4, 9, None), (4, 0, SECOND)]);
     assert_equal(
         &rt,
         &fields,
@@ -224,7 +230,7 @@ fn no_disposition_for_what_is_not_kept(rt: HostRuntime) {
         &actual,
         &[Shown::Accepted, Shown::Absent, Shown::Absent],
     );
-    let (fields, tags, _) = all_accepted(&rt, 1, None, []);
+    let (fields, tags, _) = all_accepted(&rt, 1, None, &[]);
     assert_equal_at(
         &rt,
         &fields,
@@ -237,7 +243,7 @@ fn no_disposition_for_what_is_not_kept(rt: HostRuntime) {
 #[test]
 fn settled_delivery_does_not_come_back(rt: HostRuntime) {
     let infos = [(1, 0, None), (2, 0, SECOND), (2, 0, SECOND)];
-    let (fields, tags, _) = all_accepted(&rt, 1, None, infos);
+    let (fields, tags, _) = all_accepted(&rt, 1, None, &infos);
     let frames = [
         Some((1, Some(1), true)),
         Some((2, Some(2), false)),
@@ -253,42 +259,53 @@ fn settled_delivery_does_not_come_back(rt: HostRuntime) {
     assert_equal(&rt, &tags, &[None, None, None]);
 }
 
+fn release(
+    link: &mut ReceiverLink<Target>,
+    info: &DeliveryInfo,
+    settled: Option<bool>,
+) -> Option<DispositionFields> {
+    let frame = link
+        .dispose(info, settled, DeliveryState::Released, false)
+        .ok()?;
+    let shown = fields(frame.as_ref());
+    drop(frame);
+    Some(shown)
+}
+
 // The disposition of one delivery, released, and what is known of it then.
 fn released(
     rt: &(impl Abort + AllocGlobal),
     settled: Option<bool>,
-    infos: [Listed; 1],
+    count: u8,
+    mode: Option<ReceiverSettleMode>,
 ) -> (Option<DispositionFields>, Shown) {
     let mut link = link(rt, 1);
-    let infos = listed(rt, infos);
-    let actual = infos.first().map(|info| {
-        let answer = link.dispose(info, settled, DeliveryState::Released, false);
-        answer.ok().map(|frame| fields(frame.as_ref()))
-    });
+    let info = DeliveryInfo::new(7, count_tag(rt, count), mode);
+    let actual = release(&mut link, &info, settled);
     let after = known(rt, &link, 0);
-    drop(infos);
+    drop(info);
     drop(link);
-    (actual.flatten(), after)
+    (actual, after)
 }
 
 #[test]
 fn one_is_settled_by_flag_or_mode(rt: HostRuntime) {
-    let actual = released(&rt, None, [(7, 0, None)]);
+    let actual = released(&rt, None, 0, None);
     assert_equal_at(
         &rt,
         &actual,
         &(Some(Some((7, None, true))), Shown::Absent),
         &"the link's mode",
     );
-    let actual = released(&rt, None, [(7, 0, SECOND)]);
+    let actual = released(&rt, None, 0, SECOND);
     assert_equal(
         &rt,
         &actual,
         &(Some(Some((7, None, false))), Shown::Released),
     );
-    let actual = released(&rt, Some(true), [(7, 0, SECOND)]);
+    let actual = released(&rt, Some(true), 0, SECOND);
     assert_equal(&rt, &actual, &(Some(Some((7, None, true))), Shown::Absent));
-    let actual = released(&rt, None, [(7, 5, None)]);
+    let actual = released(&rt, None, 5, None);
     assert_equal_at(
         &rt,
         &actual,

@@ -7,7 +7,7 @@ use crate::assertions::assert_equal;
 use amqp_link_core::endpoint::LinkExt;
 use amqp_link_receiver::receiver_link::ReceiverLink;
 use amqp_link_sender::sender_link::SenderLink;
-use amqp_link_types::types::{DeliveryState, Target};
+use amqp_link_types::types::Target;
 use std::process::Abort;
 
 // What is known of a sender's three deliveries.
@@ -22,17 +22,17 @@ fn kept(rt: &(impl Abort + AllocGlobal), link: &SenderLink<Target>) -> [(usize, 
 #[test]
 fn sender_loses_nothing(rt: HostRuntime) {
     let mut link = sender::mixed(&rt, 3);
-    let pairs = sender::listed(&rt, [(6, 0), (9, 2), (7, 1)]);
+    let pairs = sender::listed(&rt, &[(6, 0), (9, 2), (7, 1)]);
     let before = kept(&rt, &link);
     if before[0].0 < 3 {
         // the growth was refused on the way here
         return;
     }
-    let first = sender::shown_of(link.batch_dispose(&pairs, true, DeliveryState::Accepted, false));
+    let first = sender::accept(&mut link, &pairs, true);
     let between = kept(&rt, &link);
     let actual = match first {
         Some(actual) => Some(actual),
-        None => sender::shown_of(link.batch_dispose(&pairs, true, DeliveryState::Accepted, false)),
+        None => sender::accept(&mut link, &pairs, true),
     };
     let after = kept(&rt, &link);
     drop(pairs);
@@ -97,25 +97,24 @@ fn tags(
     rt: &(impl Abort + AllocGlobal),
     link: &ReceiverLink<Target>,
 ) -> ([Option<u8>; 2], [Shown; 2]) {
-    (
-        [receiver::tag_at(link, 0), receiver::tag_at(link, 1)],
-        [receiver::known(rt, link, 0), receiver::known(rt, link, 1)],
-    )
+    let tags = [receiver::tag_at(link, 0), receiver::tag_at(link, 1)];
+    let known = [receiver::known(rt, link, 0), receiver::known(rt, link, 1)];
+    (tags, known)
 }
 
 #[test]
 fn receiver_loses_nothing(rt: HostRuntime) {
     let mut link = receiver::link(&rt, 2);
-    let infos = receiver::listed(&rt, [(5, 1, None), (4, 0, SECOND)]);
+    let infos = receiver::listed(&rt, &[(5, 1, None), (4, 0, SECOND)]);
     let before = tags(&rt, &link);
     if link.unsettled().len() < 2 {
         return;
     }
-    let first = receiver::frames_of(link.dispose_all(&infos, None, DeliveryState::Accepted, false));
+    let first = receiver::accept(&mut link, &infos, None);
     let between = tags(&rt, &link);
     let actual = match first {
         Some(actual) => Some(actual),
-        None => receiver::frames_of(link.dispose_all(&infos, None, DeliveryState::Accepted, false)),
+        None => receiver::accept(&mut link, &infos, None),
     };
     let after = tags(&rt, &link);
     drop(infos);

@@ -48,15 +48,47 @@ pub(super) fn mixed(rt: &(impl Abort + AllocGlobal), pending: u32) -> SenderLink
 }
 
 // These numbers, each with the tag of a count.
-pub(super) fn listed<const N: usize>(
+pub(super) fn listed(
     rt: &(impl Abort + AllocGlobal),
-    pairs: [(DeliveryNumber, u8); N],
+    pairs: &[(DeliveryNumber, u8)],
 ) -> Vec<(DeliveryNumber, DeliveryTag)> {
     let mut listed = Vec::new(rt.alloc());
     for (id, count) in pairs {
-        listed.push((id, count_tag(rt, count))).expect(rt, "memory");
+        listed
+            .push((*id, count_tag(rt, *count)))
+            .expect(rt, "memory");
     }
     listed
+}
+
+// The calls as functions without a contract: what follows a call is proved with all that its contract says.
+fn dispose(
+    link: &mut SenderLink<Target>,
+    id: DeliveryNumber,
+    tag: &DeliveryTag,
+    settled: bool,
+    state: DeliveryState,
+) -> Option<Answer> {
+    shown_of(link.dispose(id, tag, settled, state, false))
+}
+
+pub(super) fn accept(
+    link: &mut SenderLink<Target>,
+    pairs: &[(DeliveryNumber, DeliveryTag)],
+    settled: bool,
+) -> Option<Answer> {
+    shown_of(link.batch_dispose(pairs, settled, DeliveryState::Accepted, false))
+}
+
+fn fail_all(link: &mut SenderLink<Target>, detach: &Detach) -> Option<Outcomes> {
+    match link.fail_pending_unsettled(detach) {
+        Ok(outcomes) => Some(outcomes),
+        Err(_) => None,
+    }
+}
+
+fn pending_in(link: &SenderLink<Target>) -> usize {
+    link.unsettled().len()
 }
 
 // Frames and outcomes: the frames, how many outcomes there are, and the first three.
@@ -98,17 +130,17 @@ pub(super) fn known(
         None => Shown::Absent,
     };
     drop(tag);
-    (link.unsettled().len(), actual)
+    (pending_in(link), actual)
 }
 
 #[test]
 fn stored_state_is_the_outcome(rt: HostRuntime) {
     let mut link = mixed(&rt, 1);
     let tag = count_tag(&rt, 0);
-    let set = shown_of(link.dispose(9, &tag, false, DeliveryState::Accepted, false));
+    let set = dispose(&mut link, 9, &tag, false, DeliveryState::Accepted);
     let between = known(&rt, &link, 0);
-    let settled = shown_of(link.dispose(9, &tag, true, DeliveryState::Released, false));
-    let unknown = shown_of(link.dispose(9, &tag, true, DeliveryState::Released, false));
+    let settled = dispose(&mut link, 9, &tag, true, DeliveryState::Released);
+    let unknown = dispose(&mut link, 9, &tag, true, DeliveryState::Released);
     let after = known(&rt, &link, 0);
     drop(tag);
     drop(link);
@@ -141,7 +173,7 @@ fn long_batch_ends_in_order(rt: HostRuntime) {
     let mut link = mixed(&rt, 26);
     let pairs = listed(
         &rt,
-        [
+        &[
             (25, 0),
             (24, 1),
             (23, 2),
@@ -174,7 +206,7 @@ fn long_batch_ends_in_order(rt: HostRuntime) {
     let (frames, outcomes) = answer.expect(&rt, "memory");
     let (count, fields) = all_fields(frames.as_slice());
     let tags = tags_of(&rt, &outcomes);
-    assert_equal(&rt, &link.unsettled().len(), &0);
+    assert_equal(&rt, &pending_in(&link), &0);
     drop(pairs);
     drop(link);
     drop(frames);
@@ -202,9 +234,15 @@ fn long_batch_ends_in_order(rt: HostRuntime) {
 #[test]
 fn mode_settled_sends_no_disposition(rt: HostRuntime) {
     let mut link = link(&rt, SenderSettleMode::Settled, ReceiverSettleMode::First, 2);
-    let pairs = listed(&rt, [(1, 0), (2, 1)]);
-    let batch = shown_of(link.batch_dispose(&pairs, true, DeliveryState::Accepted, false));
-    let one = shown_of(link.dispose(1, &count_tag(&rt, 0), true, DeliveryState::Accepted, false));
+    let pairs = listed(&rt, &[(1, 0), (2, 1)]);
+    let batch = accept(&mut link, &pairs, true);
+    let one = dispose(
+        &mut link,
+        1,
+        &count_tag(&rt, 0),
+        true,
+        DeliveryState::Accepted,
+    );
     drop(pairs);
     drop(link);
     let nothing = Some((0, [None, None, None, None], 0, NONE));
@@ -213,13 +251,13 @@ fn mode_settled_sends_no_disposition(rt: HostRuntime) {
 }
 
 // The dispositions of a sender without pending deliveries for these ids.
-fn batch<const N: usize>(
+fn batch(
     rt: &(impl Abort + AllocGlobal),
-    pairs: [(DeliveryNumber, u8); N],
+    pairs: &[(DeliveryNumber, u8)],
 ) -> Option<(usize, [DispositionFields; 4])> {
     let mut link = mixed(rt, 0);
     let pairs = listed(rt, pairs);
-    let actual = shown_of(link.batch_dispose(&pairs, true, DeliveryState::Accepted, false));
+    let actual = accept(&mut link, &pairs, true);
     drop(pairs);
     drop(link);
     let (count, fields, _, _) = actual?;
@@ -228,18 +266,18 @@ fn batch<const N: usize>(
 
 #[test]
 fn dispositions_name_runs(rt: HostRuntime) {
-    let runs = batch(&rt, [(1, 0), (2, 1), (3, 2), (5, 3)]);
+    let runs = batch(&rt, &[(1, 0), (2, 1), (3, 2), (5, 3)]);
     let one_to_three = Some((1, Some(3), true));
     assert_equal(
         &rt,
         &runs,
         &Some((2, [one_to_three, Some((5, None, true)), None, None])),
     );
-    let runs = batch(&rt, [(1, 0), (1, 1), (2, 2)]);
+    let runs = batch(&rt, &[(1, 0), (1, 1), (2, 2)]);
     let fields = [Some((1, None, true)), Some((1, Some(2), true)), None, None];
     assert_equal_at(&rt, &runs, &Some((2, fields)), &"equal ids");
     let last = u32::MAX;
-    let runs = batch(&rt, [(last, 0), (0, 1), (last - 1, 2)]);
+    let runs = batch(&rt, &[(last, 0), (0, 1), (last - 1, 2)]);
     let fields = [
         Some((0, None, true)),
         Some((last - 1, Some(last), true)),
@@ -247,18 +285,18 @@ fn dispositions_name_runs(rt: HostRuntime) {
         None,
     ];
     assert_equal_at(&rt, &runs, &Some((2, fields)), &"the ends of the numbers");
-    assert_equal(&rt, &batch(&rt, []), &Some((0, [None, None, None, None])));
+    assert_equal(&rt, &batch(&rt, &[]), &Some((0, [None, None, None, None])));
 }
 
 #[test]
 fn outcomes_are_by_number_and_once(rt: HostRuntime) {
     let mut link = mixed(&rt, 3);
     let tag = count_tag(&rt, 2);
-    drop(link.dispose(8, &tag, false, DeliveryState::Released, false));
+    drop(dispose(&mut link, 8, &tag, false, DeliveryState::Released));
     drop(tag);
     // the third by the smallest id, the first twice, and one that is not pending
-    let pairs = listed(&rt, [(6, 0), (5, 2), (7, 0), (8, 9)]);
-    let actual = shown_of(link.batch_dispose(&pairs, true, DeliveryState::Accepted, false));
+    let pairs = listed(&rt, &[(6, 0), (5, 2), (7, 0), (8, 9)]);
+    let actual = accept(&mut link, &pairs, true);
     let left = known(&rt, &link, 1);
     drop(pairs);
     drop(link);
@@ -274,8 +312,8 @@ fn outcomes_are_by_number_and_once(rt: HostRuntime) {
 #[test]
 fn states_are_set_of_those_that_are_kept(rt: HostRuntime) {
     let mut link = mixed(&rt, 2);
-    let pairs = listed(&rt, [(1, 1), (2, 9), (3, 1)]);
-    let actual = shown_of(link.batch_dispose(&pairs, false, DeliveryState::Accepted, false));
+    let pairs = listed(&rt, &[(1, 1), (2, 9), (3, 1)]);
+    let actual = accept(&mut link, &pairs, false);
     let set = known(&rt, &link, 1);
     let other = known(&rt, &link, 0);
     drop(pairs);
@@ -337,7 +375,7 @@ fn disposition_of_an_unknown_tag_ends_nothing(rt: HostRuntime) {
     let state = Some(DeliveryState::Accepted);
     let DispositionAnswer { echo, outcome } = link.on_incoming_disposition(false, state, &tag);
     let actual = shown_by(outcome.as_ref());
-    let pending = link.unsettled().len();
+    let pending = pending_in(&link);
     drop((tag, outcome));
     drop(link);
     assert_equal(&rt, &(echo, actual, pending), &(true, Shown::Absent, 1));
@@ -433,12 +471,10 @@ pub(super) fn failed(
     link: &mut SenderLink<Target>,
 ) -> Option<(Ends, usize)> {
     let detach = detach(true, Some(error(rt)));
-    let answer = link.fail_pending_unsettled(&detach);
+    let answer = fail_all(link, &detach);
     drop(detach);
-    let Ok(outcomes) = answer else {
-        return None;
-    };
-    let actual = (ends_in(&outcomes), link.unsettled().len());
+    let outcomes = answer?;
+    let actual = (ends_in(&outcomes), pending_in(link));
     drop(outcomes);
     Some(actual)
 }

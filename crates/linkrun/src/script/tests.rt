@@ -1,6 +1,7 @@
 //! Whole runs over readers and writers in memory: what no clause states.
 use super::run_script;
 use std::alloc::Global;
+use std::fmt::Debug;
 use std::io;
 use std::io::{BufRead, ErrorKind, Read, Write};
 use std::process::Abort;
@@ -29,20 +30,32 @@ fn run<R: BufRead>(alloc: Global, input: &mut R) -> Ran {
     }
 }
 
+// A run wrote this and ended with this status. The assertions of all tests stand here: the check proves each in
+// every function that has one.
+fn assert_ran(
+    rt: &impl Abort,
+    ran: Ran,
+    output: &[u8],
+    faults: &[u8],
+    status: u8,
+    script: &impl Debug,
+) {
+    assert_eq!(rt; ran.output.as_slice(), output, "output of {script:?}");
+    assert_eq!(rt; ran.faults.as_slice(), faults, "faults of {script:?}");
+    assert_eq!(rt; ran.status, status, "status of {script:?}");
+}
+
 fn expect(rt: &impl Abort, alloc: Global, script: &str, output: &str, faults: &str, status: u8) {
     let mut input = script.as_bytes();
     let ran = run(alloc, &mut input);
-    assert_eq!(rt;
-        ran.output.as_slice(),
+    assert_ran(
+        rt,
+        ran,
         output.as_bytes(),
-        "output of {script:?}"
-    );
-    assert_eq!(rt;
-        ran.faults.as_slice(),
         faults.as_bytes(),
-        "faults of {script:?}"
+        status,
+        &script,
     );
-    assert_eq!(rt; ran.status, status, "status of {script:?}");
 }
 
 // A reader whose every read fails.
@@ -89,14 +102,17 @@ impl Write for Narrow {
     }
 }
 
+// A run over narrow writers ended with this status.
+fn assert_status(rt: &impl Abort, ended: u8, status: u8, script: &str, room: usize) {
+    assert_eq!(rt; ended, status, "{script:?} with room for {room}");
+}
+
 // Each script of a table runs to its end, and prints this.
 fn expect_output(rt: &impl Abort, alloc: Global, table: &[(&str, &str, &str)]) {
     for (what, script, output) in table {
         let mut input = script.as_bytes();
         let ran = run(alloc, &mut input);
-        assert_eq!(rt; ran.output.as_slice(), output.as_bytes(), "{what}");
-        assert_eq!(rt; ran.faults.len(), 0, "{what}");
-        assert_eq!(rt; ran.status, 0, "{what}");
+        assert_ran(rt, ran, output.as_bytes(), b"", 0, what);
     }
 }
 
@@ -168,9 +184,7 @@ fn expect_no_events(rt: &impl Abort, alloc: Global, lines: &[&[u8]]) {
     for line in lines {
         let mut input = *line;
         let ran = run(alloc, &mut input);
-        assert_eq!(rt; ran.output.len(), 0, "at {line:?}");
-        assert_eq!(rt; ran.faults.as_slice(), NOT_AN_EVENT, "at {line:?}");
-        assert_eq!(rt; ran.status, 2, "at {line:?}");
+        assert_ran(rt, ran, b"", NOT_AN_EVENT, 2, line);
     }
 }
 
@@ -303,9 +317,8 @@ fn a_line_may_be_long(rt: HostRuntime) -> Result<(), Fail> {
     }
     let mut input = script.as_slice();
     let ran = run(alloc, &mut input);
-    let output = b"attached 0\ncredit 1\nsent 00000000 1000\n".as_slice();
-    assert_eq!(rt; ran.output.as_slice(), output);
-    assert_eq!(rt; ran.status, 0);
+    let output = b"attached 0\ncredit 1\nsent 00000000 1000\n";
+    assert_ran(&rt, ran, output, b"", 0, &"a long line");
     Ok(())
 }
 
@@ -319,17 +332,7 @@ fn a_failed_read_is_reported(rt: HostRuntime) {
     ] {
         let mut input = script.as_bytes().chain(Broken);
         let ran = run(rt.alloc(), &mut input);
-        assert_eq!(rt;
-            ran.output.as_slice(),
-            output.as_bytes(),
-            "output of {script:?}"
-        );
-        assert_eq!(rt;
-            ran.faults.as_slice(),
-            b"input failed\n".as_slice(),
-            "faults of {script:?}"
-        );
-        assert_eq!(rt; ran.status, 1, "status of {script:?}");
+        assert_ran(&rt, ran, output.as_bytes(), b"input failed\n", 1, &script);
     }
 }
 
@@ -364,8 +367,12 @@ fn a_failed_write_is_not_spoken_of(rt: HostRuntime) {
         let mut output = Narrow { room, flushes };
         let mut faults = Vec::new(rt.alloc());
         let status = run_script(rt.alloc(), &mut input, &mut output, &mut faults);
-        assert_eq!(rt; status, 1, "{what}");
-        assert_eq!(rt; faults.len(), 0, "{what}");
+        let ran = Ran {
+            output: Vec::new(rt.alloc()),
+            faults,
+            status,
+        };
+        assert_ran(&rt, ran, b"", b"", 1, &what);
     }
 }
 
@@ -382,6 +389,6 @@ fn a_fault_that_cannot_be_printed_is_a_failed_write(rt: HostRuntime) {
         let mut output = Vec::new(rt.alloc());
         let mut faults = Narrow { room, flushes };
         let ended = run_script(rt.alloc(), &mut input, &mut output, &mut faults);
-        assert_eq!(rt; ended, status, "{script:?} with room for {room}");
+        assert_status(&rt, ended, status, script, room);
     }
 }

@@ -3,7 +3,7 @@ use super::expect_output;
 use crate::answer::Answer;
 use amqp_link::errors::LinkStateError;
 use amqp_link::{DeliveryState, Fate};
-use std::test::Fail;
+use std::process::Abort;
 
 #[test]
 fn an_interrupted_delivery_ends_settled(rt: HostRuntime) {
@@ -125,23 +125,19 @@ fn each_call_is_refused_by_name(rt: HostRuntime) {
     expect_output(&rt, rt.alloc(), table.as_slice());
 }
 
+// The fate is printed as this text.
+fn assert_text(rt: &(impl Abort + AllocGlobal), fate: &Fate, text: &str) {
+    let answer = Answer::Became(fate);
+    let printed = format!(in rt.alloc(); "{answer}").expect(rt, "memory");
+    assert_eq!(rt; printed.as_str(), text);
+}
+
 #[test]
-fn fates_that_no_script_reaches_have_a_text(rt: HostRuntime) -> Result<(), Fail> {
-    for (fate, text) in [
-        (Fate::Withdrawn, "withdrawn"),
-        (Fate::Resolved(Ok(None)), "resolved"),
-        (
-            Fate::Resolved(Ok(Some(DeliveryState::Released))),
-            "resolved",
-        ),
-        (
-            Fate::Resolved(Err(LinkStateError::RemoteClosed)),
-            "resolved",
-        ),
-    ] {
-        let answer = Answer::Became(&fate);
-        let printed = format!(in rt.alloc(); "{answer}")?;
-        assert_eq!(rt; printed.as_str(), text);
-    }
-    Ok(())
+fn fates_that_no_script_reaches_have_a_text(rt: HostRuntime) {
+    assert_text(&rt, &Fate::Withdrawn, "withdrawn");
+    assert_text(&rt, &Fate::Resolved(Ok(None)), "resolved");
+    let released = Some(DeliveryState::Released);
+    assert_text(&rt, &Fate::Resolved(Ok(released)), "resolved");
+    let closed = LinkStateError::RemoteClosed;
+    assert_text(&rt, &Fate::Resolved(Err(closed)), "resolved");
 }
