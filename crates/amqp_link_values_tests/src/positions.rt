@@ -5,6 +5,9 @@ use bytes::Bytes;
 use std::alloc::{AllocError, Global};
 use std::test::Fail;
 
+// Two headers, the first at 0, and a byte after each.
+const EIGHT: &[u8] = b"\x00\x53\x70\xc0\x00\x53\x77\x41";
+
 // The position of a payload in one piece.
 fn position_in_one(payload: &'static [u8]) -> Option<(u32, u64)> {
     let pieces = [Bytes::from_static(payload)];
@@ -23,7 +26,7 @@ fn placed_in_one(payload: &'static [u8], at: (u32, u64)) -> Option<usize> {
 
 #[test]
 fn headers_are_counted(rt: HostRuntime) {
-    let rows: [(&'static [u8], (u32, u64), &str); 13] = [
+    let rows: &[(&'static [u8], (u32, u64), &str)] = &[
         (b"", (0, 0), "no bytes"),
         (
             b"\x00\x53\x70\xc0\x00\x53\x77\x41",
@@ -51,7 +54,7 @@ fn headers_are_counted(rt: HostRuntime) {
         (b"\x41\x00\x54\x70", (0, 4), "neither 53 nor 80"),
     ];
     for (bytes, want, message) in rows {
-        assert_equal_at(&rt, &position_in_one(bytes), &Some(want), &message);
+        assert_equal_at(&rt, &position_in_one(bytes), &Some(*want), message);
     }
 }
 
@@ -103,24 +106,23 @@ fn begun_header_begins_anew(rt: HostRuntime) -> Result<(), Fail> {
 
 #[test]
 fn rests_are_placed(rt: HostRuntime) {
-    let eight: &'static [u8] = b"\x00\x53\x70\xc0\x00\x53\x77\x41";
-    let rows: [(&'static [u8], (u32, u64), Option<usize>, &str); 13] = [
-        (eight, (0, 0), Some(0), "the start of all"),
-        (eight, (0, 5), Some(5), "within the next header"),
-        (eight, (0, 6), Some(6), "two bytes past the next start"),
-        (eight, (0, 7), None, "three bytes past it"),
-        (eight, (1, 0), Some(4), "the second start"),
-        (eight, (1, 4), Some(8), "the end"),
-        (eight, (1, 5), None, "past the end"),
-        (eight, (2, 0), None, "no such section"),
-        (eight, (u32::MAX, u64::MAX), None, "the greatest of both"),
-        (eight, (1, u64::MAX), None, "more than can be added"),
+    let rows: &[(&'static [u8], (u32, u64), Option<usize>, &str)] = &[
+        (EIGHT, (0, 0), Some(0), "the start of all"),
+        (EIGHT, (0, 5), Some(5), "within the next header"),
+        (EIGHT, (0, 6), Some(6), "two bytes past the next start"),
+        (EIGHT, (0, 7), None, "three bytes past it"),
+        (EIGHT, (1, 0), Some(4), "the second start"),
+        (EIGHT, (1, 4), Some(8), "the end"),
+        (EIGHT, (1, 5), None, "past the end"),
+        (EIGHT, (2, 0), None, "no such section"),
+        (EIGHT, (u32::MAX, u64::MAX), None, "the greatest of both"),
+        (EIGHT, (1, u64::MAX), None, "more than can be added"),
         (b"", (0, 0), Some(0), "no bytes"),
         (b"", (0, 1), None, "past no bytes"),
         (b"", (1, 0), None, "no second section"),
     ];
     for (payload, at, want, message) in rows {
-        assert_equal_at(&rt, &placed_in_one(payload, at), &want, &message);
+        assert_equal_at(&rt, &placed_in_one(payload, *at), want, message);
     }
 }
 

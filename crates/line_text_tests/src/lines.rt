@@ -6,7 +6,7 @@ use std::test::Fail;
 
 #[test]
 fn numbers_are_read(rt: HostRuntime) {
-    for (text, number) in [
+    for (text, number) in &[
         ("0", Some(0)),
         ("007", Some(7)),
         ("18446744073709551615", Some(18446744073709551615)),
@@ -17,13 +17,13 @@ fn numbers_are_read(rt: HostRuntime) {
         ("1 ", None),
         ("0x1e", None),
     ] {
-        assert_eq!(rt; parse_unsigned(text.as_bytes()), number, "at {text:?}");
+        assert_eq!(rt; parse_unsigned(text.as_bytes()), *number, "at {text:?}");
     }
 }
 
 #[test]
 fn signed_numbers_are_read(rt: HostRuntime) {
-    for (text, number) in [
+    for (text, number) in &[
         ("128", Some(128)),
         ("-128", Some(-128)),
         ("-0", Some(0)),
@@ -35,13 +35,13 @@ fn signed_numbers_are_read(rt: HostRuntime) {
         ("--1", None),
         ("+1", None),
     ] {
-        assert_eq!(rt; parse_signed(text.as_bytes()), number, "at {text:?}");
+        assert_eq!(rt; parse_signed(text.as_bytes()), *number, "at {text:?}");
     }
 }
 
 #[test]
 fn bytes_are_read(rt: HostRuntime) -> Result<(), Fail> {
-    for (text, wanted) in [
+    for (text, wanted) in &[
         ("-", Some(b"".as_slice())),
         ("00", Some(b"\x00")),
         ("0a0B", Some(b"\x0a\x0b")),
@@ -54,7 +54,7 @@ fn bytes_are_read(rt: HostRuntime) -> Result<(), Fail> {
         ("00 11", None),
     ] {
         let read = parse_bytes(rt.alloc(), text.as_bytes())?;
-        assert_eq!(rt; read.as_deref(), wanted, "at {text:?}");
+        assert_eq!(rt; read.as_deref(), *wanted, "at {text:?}");
     }
     Ok(())
 }
