@@ -161,10 +161,22 @@ fn receiver(rt: &(impl Abort + AllocGlobal)) -> ReceiverLink<Target> {
     link.with_output_handle(OutputHandle(0))
 }
 
+fn states_of_sender(rt: &(impl Abort + AllocGlobal)) -> [(bool, LinkState); 2] {
+    let mut link = sender(rt);
+    let states = attached_anew(rt, &mut link, Role::Receiver);
+    drop(link);
+    states
+}
+
+fn states_of_receiver(rt: &(impl Abort + AllocGlobal)) -> [(bool, LinkState); 2] {
+    let mut link = receiver(rt);
+    let states = attached_anew(rt, &mut link, Role::Sender);
+    drop(link);
+    states
+}
+
 #[test]
 fn either_end_is_cut_and_attached_anew(rt: HostRuntime) {
-    let states = attached_anew(&rt, &mut sender(&rt), Role::Receiver);
-    assert_equal(&rt, &states, &CUT_AND_ATTACHED_ANEW);
-    let states = attached_anew(&rt, &mut receiver(&rt), Role::Sender);
-    assert_equal(&rt, &states, &CUT_AND_ATTACHED_ANEW);
+    assert_equal(&rt, &states_of_sender(&rt), &CUT_AND_ATTACHED_ANEW);
+    assert_equal(&rt, &states_of_receiver(&rt), &CUT_AND_ATTACHED_ANEW);
 }

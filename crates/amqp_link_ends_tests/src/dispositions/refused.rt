@@ -2,12 +2,13 @@
 //! as it was, and the same call made again returns what it would have returned. Run by hand with `rt try
 //! --test --fail-alloc N`.
 use super::receiver::{self, SECOND};
-use super::{Shown, sender};
+use super::{DispositionFields, Shown, sender};
 use crate::assertions::assert_equal;
 use amqp_link_core::endpoint::LinkExt;
 use amqp_link_receiver::receiver_link::ReceiverLink;
 use amqp_link_sender::sender_link::SenderLink;
-use amqp_link_types::types::Target;
+use amqp_link_types::delivery::DeliveryInfo;
+use amqp_link_types::types::{DeliveryNumber, DeliveryTag, Target};
 use std::process::Abort;
 
 // What is known of a sender's three deliveries.
@@ -19,77 +20,96 @@ fn kept(rt: &(impl Abort + AllocGlobal), link: &SenderLink<Target>) -> [(usize, 
     ]
 }
 
+// A sender with three deliveries. If a growth was refused on the way here, it has fewer.
+fn three(rt: &(impl Abort + AllocGlobal)) -> Option<SenderLink<Target>> {
+    let link = sender::mixed(rt, 3);
+    if sender::pending_in(&link) == 3 {
+        Some(link)
+    } else {
+        drop(link);
+        None
+    }
+}
+
+// Accepts these deliveries. What is refused has changed nothing, and is done again.
+fn accepted(
+    rt: &(impl Abort + AllocGlobal),
+    link: &mut SenderLink<Target>,
+    pairs: &[(DeliveryNumber, DeliveryTag)],
+) -> Option<sender::Answer> {
+    let before = kept(rt, link);
+    let first = sender::accept(link, pairs, true);
+    if first.is_some() {
+        return first;
+    }
+    assert_equal(rt, &kept(rt, link), &before);
+    sender::accept(link, pairs, true)
+}
+
 #[test]
 fn sender_loses_nothing(rt: HostRuntime) {
-    let mut link = sender::mixed(&rt, 3);
-    let pairs = sender::listed(&rt, &[(6, 0), (9, 2), (7, 1)]);
-    let before = kept(&rt, &link);
-    if before[0].0 < 3 {
-        // the growth was refused on the way here
+    let Some(mut link) = three(&rt) else {
         return;
-    }
-    let first = sender::accept(&mut link, &pairs, true);
-    let between = kept(&rt, &link);
-    let actual = match first {
-        Some(actual) => Some(actual),
-        None => sender::accept(&mut link, &pairs, true),
     };
+    let pairs = sender::listed(&rt, &[(6, 0), (9, 2), (7, 1)]);
+    let actual = accepted(&rt, &mut link, &pairs);
     let after = kept(&rt, &link);
     drop(pairs);
     drop(link);
-    if first.is_none() {
-        assert_equal(&rt, &between, &before);
-    }
     let frames = [Some((6, Some(7), true)), Some((9, None, true)), None, None];
     let ended = [Shown::NoState, Shown::NoState, Shown::NoState];
     assert_equal(&rt, &actual, &Some((2, frames, 3, ended)));
-    assert_equal(
-        &rt,
-        &after,
-        &[(0, Shown::Absent), (0, Shown::Absent), (0, Shown::Absent)],
-    );
+    assert_equal(&rt, &after, &[(0, Shown::Absent); 3]);
+}
+
+// Fails all deliveries. What is refused has changed nothing, and is done again.
+fn failed(
+    rt: &(impl Abort + AllocGlobal),
+    link: &mut SenderLink<Target>,
+) -> Option<(sender::Ends, usize)> {
+    let before = kept(rt, link);
+    let first = sender::failed(rt, link);
+    if first.is_some() {
+        return first;
+    }
+    assert_equal(rt, &kept(rt, link), &before);
+    sender::failed(rt, link)
 }
 
 #[test]
 fn failed_deliveries_are_not_lost(rt: HostRuntime) {
-    let mut link = sender::mixed(&rt, 3);
-    let before = kept(&rt, &link);
-    if before[0].0 < 3 {
+    let Some(mut link) = three(&rt) else {
         return;
-    }
-    let first = sender::failed(&rt, &mut link);
-    let between = kept(&rt, &link);
-    let actual = match first {
-        Some(actual) => Some(actual),
-        None => sender::failed(&rt, &mut link),
     };
+    let actual = failed(&rt, &mut link);
     drop(link);
-    if first.is_none() {
-        assert_equal(&rt, &between, &before);
-    }
     let closed = sender::all_ended(Shown::RemoteClosedWithError);
     assert_equal(&rt, &actual, &Some((closed, 0)));
 }
 
+// Takes a detach that closes the link. What is refused has changed nothing, and is done again.
+fn closed(
+    rt: &(impl Abort + AllocGlobal),
+    link: &mut SenderLink<Target>,
+) -> Option<sender::Detached> {
+    let before = kept(rt, link);
+    let first = sender::detached(link, sender::detach(true, None), true);
+    if let Ok(detached) = first {
+        return Some(detached);
+    }
+    assert_equal(rt, &kept(rt, link), &before);
+    sender::detached(link, sender::detach(true, None), true).ok()
+}
+
 #[test]
 fn closing_detach_loses_nothing(rt: HostRuntime) {
-    let mut link = sender::mixed(&rt, 3);
-    let before = kept(&rt, &link);
-    if before[0].0 < 3 {
+    let Some(mut link) = three(&rt) else {
         return;
-    }
-    let first = sender::detached(&mut link, sender::detach(true, None), true).ok();
-    let between = kept(&rt, &link);
-    let actual = match first {
-        Some(actual) => Some(actual),
-        None => sender::detached(&mut link, sender::detach(true, None), true).ok(),
     };
+    let actual = closed(&rt, &mut link);
     drop(link);
-    if first.is_none() {
-        assert_equal(&rt, &between, &before);
-    }
-    let closed = sender::all_ended(Shown::RemoteClosed);
-    assert_equal(&rt, &actual, &Some((Some((0, true, false)), closed, 0)));
+    let all = sender::all_ended(Shown::RemoteClosed);
+    assert_equal(&rt, &actual, &Some((Some((0, true, false)), all, 0)));
 }
 
 // The tags that a receiver keeps, and what is known of two.
@@ -102,26 +122,42 @@ fn tags(
     (tags, known)
 }
 
+// A receiver that keeps two deliveries. If a growth was refused on the way here, it keeps fewer.
+fn two(rt: &(impl Abort + AllocGlobal)) -> Option<ReceiverLink<Target>> {
+    let link = receiver::link(rt, 2);
+    if link.unsettled().len() == 2 {
+        Some(link)
+    } else {
+        drop(link);
+        None
+    }
+}
+
+// Accepts these deliveries. What is refused has changed nothing, and is done again.
+fn accepted_at_receiver(
+    rt: &(impl Abort + AllocGlobal),
+    link: &mut ReceiverLink<Target>,
+    infos: &[DeliveryInfo],
+) -> Option<(usize, [DispositionFields; 4])> {
+    let before = tags(rt, link);
+    let first = receiver::accept(link, infos, None);
+    if first.is_some() {
+        return first;
+    }
+    assert_equal(rt, &tags(rt, link), &before);
+    receiver::accept(link, infos, None)
+}
+
 #[test]
 fn receiver_loses_nothing(rt: HostRuntime) {
-    let mut link = receiver::link(&rt, 2);
-    let infos = receiver::listed(&rt, &[(5, 1, None), (4, 0, SECOND)]);
-    let before = tags(&rt, &link);
-    if link.unsettled().len() < 2 {
+    let Some(mut link) = two(&rt) else {
         return;
-    }
-    let first = receiver::accept(&mut link, &infos, None);
-    let between = tags(&rt, &link);
-    let actual = match first {
-        Some(actual) => Some(actual),
-        None => receiver::accept(&mut link, &infos, None),
     };
+    let infos = receiver::listed(&rt, &[(5, 1, None), (4, 0, SECOND)]);
+    let actual = accepted_at_receiver(&rt, &mut link, &infos);
     let after = tags(&rt, &link);
     drop(infos);
     drop(link);
-    if first.is_none() {
-        assert_equal(&rt, &between, &before);
-    }
     let frames = [
         Some((4, Some(4), false)),
         Some((5, Some(5), true)),

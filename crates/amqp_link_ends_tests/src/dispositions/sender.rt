@@ -87,7 +87,7 @@ fn fail_all(link: &mut SenderLink<Target>, detach: &Detach) -> Option<Outcomes> 
     }
 }
 
-fn pending_in(link: &SenderLink<Target>) -> usize {
+pub(super) fn pending_in(link: &SenderLink<Target>) -> usize {
     link.unsettled().len()
 }
 
