@@ -20,15 +20,21 @@ fn kept(rt: &(impl Abort + AllocGlobal), link: &SenderLink<Target>) -> [(usize, 
     ]
 }
 
-// A sender with three deliveries. If a growth was refused on the way here, it has fewer.
-fn three(rt: &(impl Abort + AllocGlobal)) -> Option<SenderLink<Target>> {
-    let link = sender::mixed(rt, 3);
-    if sender::pending_in(&link) == 3 {
+// The link, unless a growth was refused on the way here, so that it lacks a delivery.
+fn unless_refused<L: Drop>(link: L, has_all: bool) -> Option<L> {
+    if has_all {
         Some(link)
     } else {
         drop(link);
         None
     }
+}
+
+// A sender with three deliveries.
+fn three(rt: &(impl Abort + AllocGlobal)) -> Option<SenderLink<Target>> {
+    let link = sender::mixed(rt, 3);
+    let pending = sender::pending_in(&link);
+    unless_refused(link, pending == 3)
 }
 
 // Accepts these deliveries. What is refused has changed nothing, and is done again.
@@ -122,15 +128,11 @@ fn tags(
     (tags, known)
 }
 
-// A receiver that keeps two deliveries. If a growth was refused on the way here, it keeps fewer.
+// A receiver that keeps two deliveries.
 fn two(rt: &(impl Abort + AllocGlobal)) -> Option<ReceiverLink<Target>> {
     let link = receiver::link(rt, 2);
-    if link.unsettled().len() == 2 {
-        Some(link)
-    } else {
-        drop(link);
-        None
-    }
+    let kept = link.unsettled().len();
+    unless_refused(link, kept == 2)
 }
 
 // Accepts these deliveries. What is refused has changed nothing, and is done again.
