@@ -148,6 +148,9 @@ pub trait LinkAttach: LinkDetach {
     /// Refused in this order, with nothing changed: illegal state without output handle, then if there is no
     /// transition from this state; too large if even an empty unsettled map does not fit. Out of memory may
     /// come before the last, since the attach is made before it is measured.
+    ///
+    /// Its cost grows with the number of unsettled deliveries: what the attach states of them is copied once,
+    /// and measured anew after each halving.
     fn send_attach(
         &mut self,
         is_reattaching: bool,
@@ -199,6 +202,9 @@ pub trait LinkAttach: LinkDetach {
     /// the state moves, also if the attach is refused; what else a refusal changes is stated at each
     /// endpoint. Out of memory, with nothing changed, comes after all refusals, or in place of one whose
     /// error carries a list.
+    ///
+    /// A sender's cost grows with the number of deliveries that are unsettled at either side, and with the
+    /// bytes of the payloads in which a reported position is looked for; a receiver's grows with neither.
     fn on_incoming_attach(
         &mut self,
         attach: Attach,

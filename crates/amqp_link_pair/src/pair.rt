@@ -190,8 +190,8 @@ impl Pair {
     /// Refused in this order, with nothing changed: `NotAttached`; `ResumeFirst`, while deliveries are still
     /// to be resumed; `PayloadTooLong` (2^32 bytes or more); `CreditMissing`; `TagPending`; `OutOfMemory`.
     ///
-    /// Its cost grows with the number of its transfers, and with the number of the sender's pending
-    /// deliveries, whose tags are compared.
+    /// Its cost grows with the number of its transfers, and not with the number of deliveries, of which each
+    /// is found by a hash of its tag.
     pub fn send(&mut self, payload: &Payload) -> Result<Sent, PairError>
         ensures done { IfOk result (λ sent. Sends self.old payload.now sent.tag sent.frames self.new) }
         ensures refused { AnswersThenOutOfMemory PairError.OutOfMemory
@@ -283,8 +283,8 @@ impl Pair {
     /// Refused in this order, with nothing changed, so that the transfer stays on the wire: `NotAttached`,
     /// `WireEmpty`, `OutOfMemory`.
     ///
-    /// Its cost grows with the bytes of the transfer, which are read for the position, and with the number of
-    /// deliveries that the receiver reports, whose tags are compared.
+    /// Its cost grows with the bytes of the transfer, which are read for the position, and not with the number
+    /// of deliveries.
     pub fn arrive(&mut self, id: DeliveryNumber) -> Result<Arrived, PairError>
         ensures done { IfOk result (λ came. Arrives self.old id came.tag
             (came.section_number, came.section_offset) came.whole self.new) }
@@ -385,7 +385,7 @@ impl Pair {
     ///
     /// Refused in this order, with nothing changed: `NotAttached`, `NothingToResume`, `OutOfMemory`.
     ///
-    /// Its cost grows with the number of the sender's pending deliveries, whose tags are compared.
+    /// Its cost does not grow with the number of deliveries.
     pub fn put_back_next(&mut self) -> Result<DeliveryTag, PairError>
         ensures done { IfOk result (λ tag. PutsBack self.old tag self.new) }
         ensures refused { AnswersThenOutOfMemory PairError.OutOfMemory result (next_tests self.old) }
@@ -417,8 +417,8 @@ impl Pair {
     /// which comes after all of these. With the credit spent: `Decode`, if the message cannot be decoded; the
     /// delivery counts as handed out then.
     ///
-    /// Its cost grows with the bytes that are held of the delivery, and with the number of deliveries that
-    /// the receiver reports, whose tags are compared.
+    /// Its cost grows with what the body reads of the bytes that are held, and not with the number of
+    /// deliveries.
     pub fn hand_out<B: FromBody>(&mut self, tag: &DeliveryTag) -> Result<Delivery<B>, PairError>
         ensures done { IfOk result (λ delivery.
             HandsOutDelivery B.decoded self.old tag.now delivery self.new) }
@@ -443,7 +443,8 @@ impl Pair {
     /// `NotWhole`; `ResumeFirst`, while any delivery is still to be resumed; `OnWire`, if a transfer of it is
     /// under way; `OutOfMemory`.
     ///
-    /// Its cost grows with the number of entries in both unsettled maps, whose tags are compared.
+    /// Its cost grows with the number of pieces that are held of the delivery, which are dropped, and not with
+    /// the number of deliveries.
     pub fn settle(&mut self, tag: &DeliveryTag) -> Result<(), PairError>
         ensures done { OnOk result (Settles self.old tag.now self.new) }
         ensures refused { AnswersThenOutOfMemory PairError.OutOfMemory result (settle_tests self.old tag.now) }

@@ -308,8 +308,8 @@ impl<T: LinkTarget> SenderLink<T> {
     /// and not an error; `TagPending` for an unsettled delivery; `NoRoom`; `OutOfMemory`, only if none of
     /// these holds.
     ///
-    /// Its cost grows with the number of frames. For an unsettled delivery it also grows with the number of
-    /// pending deliveries, whose tags are compared once for the test and once as the delivery is registered.
+    /// Its cost grows with the number of frames, and not with the number of pending deliveries: the tag of an
+    /// unsettled one is looked up by a hash, once for the test and once as it is registered.
     pub fn send_payload(
         &mut self,
         waiting: Waiting,

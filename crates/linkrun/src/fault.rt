@@ -1,6 +1,7 @@
 //! What ends a run before the end of its script, as it is printed.
 ghost use Rattle.std.specs.Prelude.{◌≡◌};
 
+use crate::status::Status;
 use std::fmt;
 
 /// Why a run ended early.
@@ -15,13 +16,13 @@ pub enum Fault {
 impl Fault {
     ghost use Rattle.linkrun.specs.Fault.{status_of};
 
-    /// The exit status.
-    pub fn status(self) -> u8
+    /// How the run ends.
+    pub fn status(self) -> Status
         ensures { result ≡ status_of self }
     {
         match self {
-            Fault::NotAnEvent(_) => 2,
-            Fault::InputFailed => 1,
+            Fault::NotAnEvent(_) => Status::Stopped,
+            Fault::InputFailed => Status::Failed,
         }
     }
 }

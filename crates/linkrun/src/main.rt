@@ -11,9 +11,11 @@ mod fault;
 mod hex;
 mod number;
 mod script;
+mod status;
 
 use line_text::streams::buffered;
 pub use script::run_script;
+pub use status::Status;
 use std::io::Lock;
 use std::process::ExitCode;
 
@@ -23,5 +25,6 @@ fn main(rt: HostRuntime) -> ExitCode {
         return ExitCode::FAILURE;
     };
     let mut faults = rt.stderr().lock();
-    ExitCode::from(run_script(alloc, &mut input, &mut output, &mut faults))
+    let status = run_script(alloc, &mut input, &mut output, &mut faults);
+    ExitCode::from(status.code())
 }

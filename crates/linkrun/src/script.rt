@@ -1,9 +1,8 @@
 //! A run of a script: its lines in order, an answer a line.
-ghost use Rattle.std.specs.Prelude.{◌≤◌, IfOk};
-
 use crate::answer::perform;
 use crate::event::{Event, parse_event};
 use crate::fault::Fault;
+use crate::status::Status;
 use amqp_link::{Pair, PairError};
 use line_text::line::read_line;
 use std::alloc::Global;
@@ -16,40 +15,36 @@ mod tests;
 /// Runs the script in `input` on a new pair: writes an answer a line to `output`, and what ends the run early
 /// to `faults`; flushes both. A refusal of the pair is an answer too, and the run continues.
 ///
-/// Returns 0 at the end of the script; 2 at a line that is no event, after which nothing is read; 1 if a read
-/// fails or it is out of memory for a line; and 1, with nothing written to `faults`, if a write fails or it
-/// is out of memory for the pair.
+/// `Complete` at the end of the script; `Stopped` at a line that is no event, after which nothing is read;
+/// `Failed` if a read fails or it is out of memory for a line; and `Failed`, with nothing written to `faults`,
+/// if a write fails or it is out of memory for the pair.
 pub fn run_script<R: BufRead, O: Write, F: Write>(
     alloc: Global,
     input: &mut R,
     output: &mut O,
     faults: &mut F,
-) -> u8
-    ensures { result ≤ 2 }
-{
+) -> Status {
     let Ok(mut pair) = Pair::new(alloc, 0) else {
-        return 1;
+        return Status::Failed;
     };
-    let status = run_to_end(alloc, &mut pair, input, output, faults).unwrap_or(1);
+    let status = run_to_end(alloc, &mut pair, input, output, faults).unwrap_or(Status::Failed);
     drop(pair);
     status
 }
 
-// Runs the script, and returns its exit status. The error is a failed write.
+// Runs the script. The error is a failed write.
 fn run_to_end<R: BufRead, O: Write, F: Write>(
     alloc: Global,
     pair: &mut Pair,
     input: &mut R,
     output: &mut O,
     faults: &mut F,
-) -> io::Result<u8>
-    ensures { IfOk result (λ status. status ≤ 2) }
-{
+) -> io::Result<Status> {
     let ended = run_lines(alloc, pair, input, output)?;
     // All answers are written before the fault that ended the run.
     output.flush()?;
     let Some(fault) = ended else {
-        return Ok(0);
+        return Ok(Status::Complete);
     };
     writeln!(faults, "{fault}")?;
     faults.flush()?;

@@ -52,6 +52,8 @@ impl<T: LinkTarget> OutcomeLedger<T> {
     /// returned.
     ///
     /// Refused only if it is out of memory, with nothing changed.
+    ///
+    /// Its cost grows with the number of pending deliveries.
     pub fn fail_pending_unsettled(&mut self, detach: &Detach) -> Result<Outcomes, AllocError>
         ensures ended { IfOk result (λ outcomes.
             outcomes.items ≡ all_closed detach.now.error self.old.link.unsettled) }
@@ -81,6 +83,8 @@ impl<T: LinkTarget> OutcomeLedger<T> {
     /// Refused in this order, with nothing changed, and only if the peer initiated the detach:
     /// `UnattachedHandle` without output handle; `OutOfMemory`, only if the detach closes the link or carries
     /// an error.
+    ///
+    /// If the detach closes the link, its cost grows with the number of pending deliveries.
     pub fn on_incoming_detach(
         &mut self,
         detach: &Detach,

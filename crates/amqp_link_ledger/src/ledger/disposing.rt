@@ -79,8 +79,8 @@ impl<T: LinkTarget> OutcomeLedger<T> {
     ///
     /// Refused only if it is out of memory, with nothing changed; in mode `Settled` it does not allocate.
     ///
-    /// A delivery that is settled is looked up in the unsettled map twice: once for the copy of its outcome,
-    /// and once to remove it.
+    /// Its cost grows with the number of the listed deliveries, whose ids are sorted. One that is settled is
+    /// looked up in the unsettled map twice: once for the copy of its outcome, and once to remove it.
     pub fn batch_dispose(
         &mut self,
         ids_and_tags: &[(DeliveryNumber, DeliveryTag)],

@@ -113,6 +113,8 @@ impl<T: LinkTarget> ReceiverLink<T> {
     /// size (a header of four bytes, and the body). Without an output handle it is measured with handle 0.
     ///
     /// Refused only if it is out of memory.
+    ///
+    /// Its cost grows with the number of entries in the unsettled map, which are copied and measured once.
     pub fn complete_attach_fits(
         &self,
         max_frame_size: u32,

@@ -39,9 +39,9 @@ impl<T: LinkTarget> ReceiverLink<T> {
     /// `MessageDecode` if the body refuses the bytes; `IllegalState` without output handle. `OutOfMemory`,
     /// with nothing changed, comes only if none of the first five holds.
     ///
-    /// Its cost grows with the bytes of the pieces, which the body reads, and for an unsettled delivery with
-    /// the number of entries in the unsettled map, whose tags are compared. The tag is copied into the
-    /// result, and into the map only if it has no entry there.
+    /// Its cost grows with what the body reads of the pieces, and not with the number of entries in the
+    /// unsettled map, where the tag is found by a hash. The tag is copied into the result, and into the map
+    /// only if it has no entry there.
     pub fn on_complete_transfer<B: FromBody>(
         &mut self,
         transfer: &Transfer,

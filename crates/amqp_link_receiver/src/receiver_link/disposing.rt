@@ -59,6 +59,8 @@ impl<T: LinkTarget> ReceiverLink<T> {
     /// again, even if it is listed twice.
     ///
     /// Refused only if it is out of memory, with nothing changed.
+    ///
+    /// Its cost grows with the number of the listed deliveries, whose ids are sorted.
     pub fn dispose_all(
         &mut self,
         delivery_infos: &[DeliveryInfo],

@@ -65,6 +65,8 @@ impl<T: LinkTarget> SenderLink<T> {
     /// listed, in the longest runs; a run of one id has no `last`.
     ///
     /// Refused only if it is out of memory, with nothing changed; in mode `Settled` it does not allocate.
+    ///
+    /// Its cost grows with the number of the listed deliveries, whose ids are sorted.
     pub fn batch_dispose(
         &mut self,
         ids_and_tags: &[(DeliveryNumber, DeliveryTag)],
@@ -141,6 +143,8 @@ impl<T: LinkTarget> SenderLink<T> {
     /// empty afterwards.
     ///
     /// Refused only if it is out of memory, with nothing changed.
+    ///
+    /// Its cost grows with the number of pending deliveries.
     pub fn fail_pending_unsettled(&mut self, detach: &Detach) -> Result<Outcomes, AllocError>
         ensures ended { IfOk result (λ outcomes.
             outcomes.items ≡ all_closed_for detach.now.error self.old.unsettled) }
@@ -160,6 +164,8 @@ impl<T: LinkTarget> SenderLink<T> {
     /// Refused in this order, with nothing changed, and only if the peer initiated the detach:
     /// `UnattachedHandle` without output handle; `OutOfMemory`, only if the detach closes the link or carries
     /// an error.
+    ///
+    /// If the detach closes the link, its cost grows with the number of pending deliveries.
     pub fn on_incoming_detach(
         &mut self,
         detach: &Detach,

@@ -58,8 +58,8 @@ impl<T: LinkTarget> SenderLink<T> {
     /// Refused in this order, with nothing changed and the entry returned: `IllegalState` without input
     /// handle; `TagPending`, by the tag given here; `NoRoom`; `OutOfMemory`, only if none of these holds.
     ///
-    /// Its cost grows with the number of frames and of pending deliveries: their tags are compared once for
-    /// the test and once as the entry is registered.
+    /// Its cost grows with the number of frames, and not with the number of pending deliveries: the tag is
+    /// looked up by a hash, once for the test and once as the entry is registered.
     pub fn send_unsettled_transfer(
         &mut self,
         mut transfer: Transfer,

@@ -1,5 +1,6 @@
 //! Whole runs over readers and writers in memory: what no clause states.
 use super::run_script;
+use crate::status::Status;
 use std::alloc::Global;
 use std::fmt::Debug;
 use std::io;
@@ -16,7 +17,7 @@ const NOT_AN_EVENT: &[u8] = b"line 1: not an event\n";
 struct Ran {
     output: Vec<u8>,
     faults: Vec<u8>,
-    status: u8,
+    status: Status,
 }
 
 fn run<R: BufRead>(alloc: Global, input: &mut R) -> Ran {
@@ -37,7 +38,7 @@ fn assert_ran(
     ran: Ran,
     output: &[u8],
     faults: &[u8],
-    status: u8,
+    status: Status,
     script: &impl Debug,
 ) {
     assert_eq!(rt; ran.output.as_slice(), output, "output of {script:?}");
@@ -45,7 +46,14 @@ fn assert_ran(
     assert_eq!(rt; ran.status, status, "status of {script:?}");
 }
 
-fn expect(rt: &impl Abort, alloc: Global, script: &str, output: &str, faults: &str, status: u8) {
+fn expect(
+    rt: &impl Abort,
+    alloc: Global,
+    script: &str,
+    output: &str,
+    faults: &str,
+    status: Status,
+) {
     let mut input = script.as_bytes();
     let ran = run(alloc, &mut input);
     assert_ran(
@@ -103,7 +111,7 @@ impl Write for Narrow {
 }
 
 // A run over narrow writers ended with this status.
-fn assert_status(rt: &impl Abort, ended: u8, status: u8, script: &str, room: usize) {
+fn assert_status(rt: &impl Abort, ended: Status, status: Status, script: &str, room: usize) {
     assert_eq!(rt; ended, status, "{script:?} with room for {room}");
 }
 
@@ -112,7 +120,7 @@ fn expect_output(rt: &impl Abort, alloc: Global, table: &[(&str, &str, &str)]) {
     for (what, script, output) in table {
         let mut input = script.as_bytes();
         let ran = run(alloc, &mut input);
-        assert_ran(rt, ran, output.as_bytes(), b"", 0, what);
+        assert_ran(rt, ran, output.as_bytes(), b"", Status::Complete, what);
     }
 }
 
@@ -176,7 +184,7 @@ fn refusals_are_answered_and_the_run_goes_on(rt: HostRuntime) {
     let output = "refused NotAttached\nrefused NotAttached\nrefused NotAttached\nunknown\n\
         refused LimitTooSmall\nattached 0\nrefused AlreadyAttached\nrefused AlreadyAttached\n\
         refused CreditMissing\nrefused WireEmpty\ncredit 1\nsent 00000000 1\n";
-    expect(&rt, rt.alloc(), script, output, "", 0);
+    expect(&rt, rt.alloc(), script, output, "", Status::Complete);
 }
 
 // Each line ends its run at once.
@@ -184,7 +192,7 @@ fn expect_no_events(rt: &impl Abort, alloc: Global, lines: &[&[u8]]) {
     for line in lines {
         let mut input = *line;
         let ran = run(alloc, &mut input);
-        assert_ran(rt, ran, b"", NOT_AN_EVENT, 2, line);
+        assert_ran(rt, ran, b"", NOT_AN_EVENT, Status::Stopped, line);
     }
 }
 
@@ -304,7 +312,7 @@ fn a_line_that_is_no_event_ends_the_run(rt: HostRuntime) {
             "line 5: not an event\n",
         ),
     ] {
-        expect(&rt, rt.alloc(), script, output, faults, 2);
+        expect(&rt, rt.alloc(), script, output, faults, Status::Stopped);
     }
 }
 
@@ -318,7 +326,7 @@ fn a_line_may_be_long(rt: HostRuntime) -> Result<(), Fail> {
     let mut input = script.as_slice();
     let ran = run(alloc, &mut input);
     let output = b"attached 0\ncredit 1\nsent 00000000 1000\n";
-    assert_ran(&rt, ran, output, b"", 0, &"a long line");
+    assert_ran(&rt, ran, output, b"", Status::Complete, &"a long line");
     Ok(())
 }
 
@@ -332,7 +340,14 @@ fn a_failed_read_is_reported(rt: HostRuntime) {
     ] {
         let mut input = script.as_bytes().chain(Broken);
         let ran = run(rt.alloc(), &mut input);
-        assert_ran(&rt, ran, output.as_bytes(), b"input failed\n", 1, &script);
+        assert_ran(
+            &rt,
+            ran,
+            output.as_bytes(),
+            b"input failed\n",
+            Status::Failed,
+            &script,
+        );
     }
 }
 
@@ -372,18 +387,18 @@ fn a_failed_write_is_not_spoken_of(rt: HostRuntime) {
             faults,
             status,
         };
-        assert_ran(&rt, ran, b"", b"", 1, &what);
+        assert_ran(&rt, ran, b"", b"", Status::Failed, &what);
     }
 }
 
 #[test]
 fn a_fault_that_cannot_be_printed_is_a_failed_write(rt: HostRuntime) {
     for (script, room, flushes, status) in [
-        ("stop\n", 0, true, 1),
-        ("stop\n", 20, true, 1),
-        ("stop\n", 21, false, 1),
-        ("stop\n", 21, true, 2),
-        ("attach 30\n", 0, false, 0),
+        ("stop\n", 0, true, Status::Failed),
+        ("stop\n", 20, true, Status::Failed),
+        ("stop\n", 21, false, Status::Failed),
+        ("stop\n", 21, true, Status::Stopped),
+        ("attach 30\n", 0, false, Status::Complete),
     ] {
         let mut input = script.as_bytes();
         let mut output = Vec::new(rt.alloc());
