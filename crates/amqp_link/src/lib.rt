@@ -2,7 +2,8 @@
 //!
 //! Payloads and incoming frames go in; outgoing frames, deliveries and resolved outcomes come out; no call
 //! waits. Names follow fe2o3-amqp 0.18.4. A call that allocates returns a `Result`; if it is out of memory,
-//! it has changed nothing. `Pair::attach` alone has steps, which its doc describes.
+//! it has changed nothing. Only `Pair::attach`, which has steps, and `Pair::run`, which stops between two calls,
+//! do otherwise, as their docs describe.
 //!
 //! Where to look:
 //!

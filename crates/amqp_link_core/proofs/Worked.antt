@@ -21,6 +21,8 @@ use Rattle.amqp_link_types.specs.declared.types.errors.DetachError.TheVariants.{
 use Rattle.amqp_link_types.specs.declared.types.definitions.Error.{Error}
 use Rattle.amqp_link_core.specs.AttachFields.{merged_properties}
 use Rattle.amqp_link_core.specs.Detaching.{detach_frame, recorded, reply_error}
+use Rattle.amqp_link_core.specs.Shown.{decided_by_receiver, decided_by_sender}
+use Rattle.amqp_link_types.specs.declared.types.definitions.Role.TheVariants as role
 
 -- a transfer at handle 0 that carries nothing else
 abbrev bare : Transfer
@@ -148,3 +150,11 @@ properties_are_joined = refl
 
 properties_take_the_place_of_none : merged_properties (Some []) (Some ((codes "b", uint 3) ∷ [])) ≡ Some ((codes "b", uint 3) ∷ [])
 properties_take_the_place_of_none = refl
+
+-- ---- what is taken of an attach
+
+of_the_sender : decided_by_sender {A = ℕ} role.Receiver 1 2 ≡ 2
+of_the_sender = refl
+
+of_the_receiver : decided_by_receiver {A = ℕ} role.Receiver 1 2 ≡ 1
+of_the_receiver = refl

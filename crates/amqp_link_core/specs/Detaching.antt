@@ -1,4 +1,4 @@
--- The results of the calls that take a detach (OASIS AMQP 1.0 core, 2.6.5 and 2.7.7).
+-- The results of the calls that take a detach (OASIS AMQP 1.0 core, 2.6.4 to 2.6.6 and 2.7.7).
 use Rattle.std.specs.Prelude.{Bool, true, false, Option, Some, None, Result, Ok, Err}
 use Rattle.amqp_link_types.specs.declared.frame.LinkFrame.{LinkFrame}
 use Rattle.amqp_link_types.specs.declared.frame.LinkFrame.TheVariants as frame

@@ -1,4 +1,5 @@
--- What to do after an attach has failed (OASIS AMQP 1.0 core, 2.6.3, 2.5.8 and 2.8.15).
+-- What to do after an attach has failed (OASIS AMQP 1.0 core, 2.6.3, 2.5.4, 2.8.14, 2.8.15 and
+-- 2.8.17).
 use Rattle.std.specs.Prelude.{ℕ, Bool, true, ◌&&◌, List, Option, Some, None, is_some, if◌then◌else◌, codes}
 use Rattle.amqp_link_state.specs.declared.state.LinkState.{LinkState}
 use Rattle.amqp_link_types.specs.declared.types.definitions.Error.{Error}

@@ -42,7 +42,8 @@ state_by states = option_or (find is_terminal states) (last states)
 
 -- The merged fields of all transfers of a delivery, in the order in which they arrived. Each is a statement
 -- about the whole list: the id is that of the last transfer which began or resumed the delivery, the format
--- the first that is there; all other fields, the tag too, are the first transfer's.
+-- the first that is there, the settled flag true if one is, the state the first terminal one or else the last;
+-- all other fields, the tag too, are the first transfer's.
 pub record Merged (came : List Came) (merged : Transfer) : Type 0 where
   pub id : merged.delivery_id ≡ option_and_then (λ c. c.transfer.delivery_id) (last (filter (λ c. c.opens) came))
   pub format : merged.message_format ≡ first (present (map (λ c. c.transfer.message_format) came))

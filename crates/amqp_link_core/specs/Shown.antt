@@ -39,8 +39,8 @@ pub record Shown (D : Type 0) : Type 0 where
   pub entries : Entries (Option DeliveryState)
   pub ended : List Ended
 
--- The delivery-count that an attach states: a receiver's initial one; a sender's initial one in its first
--- attach, and its present one in each later attach.
+-- The delivery-count that an attach states: a receiver's initial one; a sender's initial one while it is
+-- unattached, and its present one in each other state.
 abbrev pub stated_count : Role → LinkState → LinkFlowStateInner → ℕ
 stated_count role.Sender Unattached flow = flow.initial_delivery_count
 stated_count role.Sender _ flow = flow.delivery_count

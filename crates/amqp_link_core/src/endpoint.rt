@@ -39,7 +39,7 @@ use amqp_link_types::types::{
     ApplyRemoteDetachError, Attach, Detach, Error, Fields, OutputHandle, ReceiverSettleMode,
 };
 
-/// A link endpoint that can be detached (2.6.5, 2.6.6). Nothing here allocates.
+/// A link endpoint that can be detached (2.6.4 to 2.6.6). Nothing here allocates.
 pub trait LinkDetach {
     /// Why a detach is refused, or the error that the peer's detach carries.
     type DetachError: Drop;
@@ -204,7 +204,8 @@ pub trait LinkAttach: LinkDetach {
     /// error carries a list.
     ///
     /// A sender's cost grows with the number of deliveries that are unsettled at either side, and with the
-    /// bytes of the payloads in which a reported position is looked for; a receiver's grows with neither.
+    /// bytes of the payloads in which a reported position is looked for; a receiver's only with the entries of
+    /// the attach, which are dropped.
     fn on_incoming_attach(
         &mut self,
         attach: Attach,

@@ -164,8 +164,9 @@ fn copy_of_state(state: &Option<DeliveryState>) -> Result<Option<DeliveryState>,
 /// unsettled map has at its tag: no entry, a null state, or a state (2.6.13). A null state counts as received
 /// up to section 0, offset 0.
 ///
-/// Allocates only for a delivery that is resumed: the bytes that are still to be sent, which are those after
-/// the receiver's position, or the whole payload if that position has no place in it.
+/// May be out of memory only for a delivery that is resumed: the bytes that are still to be sent share the
+/// buffer of its payload. They are those after the receiver's position, or the whole payload if that position
+/// has no place in it.
 pub fn plan_resumption(
     local: &UnsettledMessage,
     remote: Option<Option<DeliveryState>>,
@@ -192,7 +193,7 @@ pub fn plan_resumption(
 /// receiver's unsettled map has at the tag, by `plan_resumption` (2.6.13). An entry that is sent again or
 /// resumed keeps its whole payload.
 ///
-/// Allocates only for a delivery that is resumed; out of memory returns the entry.
+/// May be out of memory only for a delivery that is resumed; the entry is returned then.
 pub fn resume_delivery(
     tag: DeliveryTag,
     local: UnsettledMessage,

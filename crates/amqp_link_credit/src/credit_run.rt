@@ -171,8 +171,7 @@ impl CreditRun {
     /// `OutOfMemory`.
     ///
     /// The cost of a transfer grows with its bytes, which are read for the position; that of a last one also
-    /// with the bytes and the number of transfers of its delivery, which are joined, and for an unsettled
-    /// delivery with the number of those that the receiver has pending.
+    /// with the bytes and the number of transfers of its delivery, which are joined.
     pub fn forward_arrives(&mut self, id: DeliveryNumber) -> Result<Arrival, CreditRunError>
         ensures done { IfOk result (λ came. ArrivesForward self.old id came self.new) }
         ensures refused { AnswersThenOutOfMemory CreditRunError.OutOfMemory result (forward_tests self.old) }

@@ -1,5 +1,5 @@
-//! Changes of several entries of an unsettled map, one after the other. None allocates: what they need is
-//! made before.
+//! Changes of several entries of an unsettled map, one after the other. No change allocates: `changes_to`
+//! makes what `set_each` needs before.
 ghost use Rattle.std.specs.Prelude.{◌≡◌, ◌+◌, ◌≤◌, ◌++◌, IfOk, length, map, min, vec_len, vec_capacity};
 ghost use Rattle.amqp_link_types.specs.Entries.{without_entries, IsMap};
 ghost use Rattle.amqp_link_dispositions.specs.Changes.{StateChange, with_states};

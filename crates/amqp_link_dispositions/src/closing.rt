@@ -1,5 +1,5 @@
-//! The outcomes of a sender's deliveries when a detach closes the link, and the reply to a detach (2.6.5,
-//! 2.6.6 and 2.7.7).
+//! The outcomes of a sender's deliveries when a detach closes the link, and the reply to a detach (2.6.4
+//! to 2.6.6 and 2.7.7).
 ghost use Rattle.std.specs.Prelude.{◌≡◌, ◌+◌, ◌≤◌, ◌++◌, [], true, is_some, length, vec_len, vec_capacity, All, IfOk, OnOk, OnErr};
 ghost use Rattle.amqp_link_dispositions.specs.Ending.{closed_for as why_closed, all_closed as all_closed_for, reply_of};
 

@@ -86,7 +86,8 @@ fn in_order<'a>(
     Ok((ids, tags))
 }
 
-// The same for deliveries with sorted ids, whose tags have the same order.
+// The dispositions of deliveries with sorted ids, whose tags have the same order, and the outcomes of those that
+// they settle; the map changes with them.
 fn dispose_sorted(
     alloc: Global,
     unsettled: &mut UnsettledMap<UnsettledMessage>,

@@ -123,8 +123,9 @@ fn read_report(
 /// Decides how each delivery of the sender's map is resolved, by the receiver's map as its attach has stated
 /// it (2.6.13). The sender's map stays as it is.
 ///
-/// Allocates all that the exchange needs: the bytes that are still to be sent of a resumed delivery, and room
-/// for the lists that `exchange` returns. Each entry of the receiver's map is looked up once in the sender's.
+/// Allocates all that the exchange needs: the plan, and room for the lists that `exchange` returns. The bytes
+/// that are still to be sent of a resumed delivery share the buffer of its payload, which may be out of memory
+/// too. Each entry of the receiver's map is looked up once in the sender's.
 pub fn plan_exchange(
     alloc: Global,
     own: &UnsettledMap<UnsettledMessage>,

@@ -1,9 +1,9 @@
 //! A sender's link endpoint that keeps what became of each of its registrations (2.6.12, 2.6.13).
 //!
 //! Each pair that enters the unsettled map is a registration, numbered from 0. A call has the name and the
-//! results of the endpoint's call; one that changes the map changes the registrations with it. What the
-//! registrations need is allocated before the endpoint is called: a refused call makes no registration and
-//! resolves none.
+//! results of the endpoint's call (`on_incoming_disposition` may be out of memory besides); one that changes the
+//! map changes the registrations with it. What the registrations need is allocated before the endpoint is
+//! called: a refused call makes no registration and resolves none.
 ghost use Rattle.std.specs.Prelude.{◌≡◌, map, slice_get, IfOk, IfErr};
 ghost use Rattle.std.specs.Option.{option_map, option_copied};
 ghost use Rattle.amqp_link_types.specs.Entries.{Entries, IsMap};
@@ -37,7 +37,7 @@ use std::marker::Model;
 /// registrations are distinct, and are exactly the keys of the endpoint's unsettled map.
 ///
 /// The registrations are kept for good, so their memory grows with their number. The one of a tag is found
-/// by a hash: what a call costs for the registrations does not grow with that number.
+/// by a hash, whatever that number is; room for one more is made as a `Vec` makes it: most often there is some.
 #[derive(Drop)]
 pub struct OutcomeLedger<T: LinkTarget> {
     alloc: Global,

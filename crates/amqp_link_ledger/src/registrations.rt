@@ -37,7 +37,7 @@ impl Model for Reserved {
 ///
 /// A contract sees the list of the tags with their fates, and whether there is room for the next
 /// registration. The memory grows with the number of all registrations. A call finds the pending
-/// registration of a tag by a hash, so its cost does not grow with that number.
+/// registration of a tag by a hash, whatever that number is; room is made as a `Vec` makes it.
 #[derive(Drop)]
 pub struct Registrations {
     records: Vec<(DeliveryTag, Fate)>,

@@ -128,7 +128,8 @@ impl Pair {
     /// endpoints stay in the states that they have reached; the caller calls `attach` again with the same
     /// limit.
     ///
-    /// Its cost grows with the number of pending deliveries.
+    /// Its cost grows with the number of pending deliveries, and with the bytes of the payloads in which a
+    /// position that the receiver reports is looked for.
     pub fn attach(&mut self, limit: u32) -> Result<usize, PairError>
         ensures done { IfOk result (λ count. Attaches self.old limit count self.new) }
         ensures listed { OnOk result (keys_of self.new.resuming ≡ keys_of self.old.ledger.link.unsettled) }

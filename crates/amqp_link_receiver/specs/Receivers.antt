@@ -30,5 +30,5 @@ pub record Receiver (T : Type 0) : Type 0 where
   pub verify_incoming_target : Bool
   -- the entries of the unsettled deliveries: the state of each, if one is known
   pub unsettled : Entries (Option DeliveryState)
-  -- whether the last transfer that arrived had more = true
+  -- whether the last transfer that has arrived since the peer's attach had more = true
   pub more : Bool

@@ -31,9 +31,10 @@ use std::marker::Model;
 /// - **Build**: `new`, then `with_output_handle` with the handle that the session gives; `set_max_frame_size`
 ///   as soon as the peer's limit is known.
 /// - **Attach**: `send_attach` makes the attach to send, `on_incoming_attach` takes the peer's, in either order.
-///   It returns `Resume` if the sender resumes deliveries that this receiver holds in part, and
-///   `IncompleteUnsettled` if an attach did not state all of them: the sender resumes those that were stated;
-///   then detach and attach again. If the attach is refused, `handle_attach_error` makes the detach to send.
+///   It returns `Complete` if the sender's attach states no unsettled delivery. Otherwise it returns `Resume`:
+///   the sender resumes deliveries; or `IncompleteUnsettled`, if an attach did not state all of them: the sender
+///   resumes those that were stated; then detach and attach again. If the attach is refused,
+///   `handle_attach_error` makes the detach to send.
 /// - **Grant credit**: `send_flow` sets the link-credit and makes the flow to send. `on_incoming_flow` takes the
 ///   sender's, and returns the flow to send back, if there is one.
 /// - **Take in**: `on_incoming_transfer` takes a transfer from the session and returns the frame for the
@@ -47,10 +48,12 @@ use std::marker::Model;
 ///   peer's reply. To attach again, set the handle that the session gives by `output_handle_mut`, and call
 ///   `send_attach`.
 /// - **Look**: `local_state`, `name`, `flow_state`, `unsettled`, `output_handle`, `input_handle`, the modes,
-///   `max_message_size`, `properties`, and `complete_attach_fits`, which measures an attach.
+///   `max_message_size`, `properties` (which `properties_mut` changes), and `complete_attach_fits`, which
+///   measures an attach.
 ///
 /// A contract sees its state, name, modes, termini, limits, capabilities, handles, flow state, the list of
-/// its unsettled deliveries, and whether the last transfer that arrived had `more` set.
+/// its unsettled deliveries, whether it verifies the peer's termini, and whether the last transfer that has
+/// arrived since the peer's attach had `more` set.
 #[derive(Drop)]
 pub struct ReceiverLink<T: LinkTarget> {
     alloc: Global,

@@ -1,5 +1,5 @@
--- What is pending at a sender when a payload is to be sent (OASIS AMQP 1.0 core, 2.6.5): the error that the
--- send returns, and the sender afterwards.
+-- What is pending at a sender when a payload is to be sent (OASIS AMQP 1.0 core, 2.6.4 to 2.6.6): the error
+-- that the send returns, and the sender afterwards.
 use Rattle.std.specs.Prelude.{Bool, true, false, Option, Some, None}
 use Rattle.amqp_link_types.specs.declared.frame.LinkFrame.{LinkFrame}
 use Rattle.amqp_link_types.specs.declared.frame.LinkFrame.TheVariants as frame

@@ -87,16 +87,18 @@ pub struct DispositionAnswer {
 /// - **Send**: `send_payload` sends a new delivery for one credit. `CreditMissing`: wait for a flow, and call
 ///   again. `send_payload_with_transfer` and `send_transfer_without_modifying_unsettled_map` send with a
 ///   transfer that the caller has, as `generate_non_resuming_transfer_performative` makes it.
+///   `can_send_payload`, `can_send_with_transfer` and `can_send_unsettled` say whether a send would be refused.
 /// - **Settle**: `dispose` and `batch_dispose` make dispositions; `withdraw` removes a delivery from the
 ///   unsettled map before it has an outcome; `fail_pending_unsettled` resolves all, as a detach that closes
 ///   the link does.
 /// - **Detach**: `send_detach` makes the detach to send, `on_detach_reply` takes the peer's reply. To attach
 ///   again, set the handle that the session gives by `output_handle_mut`, and call `send_attach`.
-/// - **Look**: `local_state`, `name`, `flow_state`, `unsettled`, `output_handle`, `input_handle`, the modes,
-///   `max_message_size`, `properties`, `is_settled_on_send`, and `complete_attach_fits`, which measures an attach.
+/// - **Look**: `local_state`, `name`, `flow_state`, `unsettled`, `unsettled_map`, `output_handle`,
+///   `input_handle`, the modes, `max_message_size`, `properties` (which `properties_mut` changes),
+///   `is_settled_on_send`, and `complete_attach_fits`, which measures an attach.
 ///
-/// A contract sees its state, name, modes, termini, limits, capabilities, handles, flow state and the
-/// list of its unsettled deliveries.
+/// A contract sees its state, name, modes, termini, limits, capabilities, handles, flow state, the list of its
+/// unsettled deliveries, and whether it verifies the peer's termini.
 #[derive(Drop)]
 pub struct SenderLink<T: LinkTarget> {
     alloc: Global,
@@ -380,7 +382,8 @@ impl<T: LinkTarget> SenderLink<T> {
     }
 
     /// Whether `send_payload` would send this payload now if nothing is pending; false if there is no credit.
-    /// Its refusals are the same, in the same order. Does not allocate, and changes nothing.
+    /// Its refusals are the same, in the same order, without `OutOfMemory`. Does not allocate, and changes
+    /// nothing.
     pub fn can_send_payload(
         &self,
         payload: &Payload,

@@ -1,4 +1,4 @@
-//! The types that performatives are made of (2.7, 2.8 and 3.4).
+//! The types that performatives are made of (2.6.13, 2.7, 2.8, 3.4 and 3.5).
 //!
 //! A type that holds a buffer or a map has a model of plain data: contracts see a tag as its bytes
 //! and a map as its pairs, so `≡` on every struct and enum above them is the equality that a reader

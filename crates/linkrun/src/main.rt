@@ -1,8 +1,9 @@
 //! Runs a script of link events, one a line, on a pair of link endpoints over one wire.
 //!
 //! The script is read from standard input, the answers are written to standard output, and what ends a run
-//! early is written to standard error. The exit status is 0 at the end of the script, 2 at a line that is no
-//! event, and 1 if reading or writing fails, or if it is out of memory.
+//! early is written to standard error. Empty lines are skipped. The exit status is 0 at the end of the script, 2
+//! at a line that is no event, and 1 if reading or writing fails, or if it is out of memory for the pair or for a
+//! line; an event that is out of memory is answered as refused.
 #![tactic(auto)]
 
 mod answer;

@@ -12,12 +12,13 @@ use std::io::{BufRead, Write};
 #[cfg(test)]
 mod tests;
 
-/// Runs the script in `input` on a new pair: writes an answer a line to `output`, and what ends the run early
-/// to `faults`; flushes both. A refusal of the pair is an answer too, and the run continues.
+/// Runs the script in `input` on a new pair: writes an answer to each line to `output`, and what ends the run
+/// early to `faults`; flushes both. An empty line is counted and has no answer. A refusal of the pair is an
+/// answer too, also if a call is out of memory, and the run continues.
 ///
 /// `Complete` at the end of the script; `Stopped` at a line that is no event, after which nothing is read;
-/// `Failed` if a read fails or it is out of memory for a line; and `Failed`, with nothing written to `faults`,
-/// if a write fails or it is out of memory for the pair.
+/// `Failed` if a read fails, if it is out of memory for a line, or if the fault cannot be written; and `Failed`,
+/// with nothing written to `faults`, if a write to `output` fails or it is out of memory for the pair.
 pub fn run_script<R: BufRead, O: Write, F: Write>(
     alloc: Global,
     input: &mut R,

@@ -6,7 +6,7 @@ ghost use Rattle.std.specs.Prelude.{◌≡◌};
 pub enum Status {
     /// At the end of the script.
     Complete,
-    /// A read or a write failed, or it is out of memory.
+    /// A read or a write failed, or it is out of memory for the pair or for a line.
     Failed,
     /// At a line that is no event.
     Stopped,

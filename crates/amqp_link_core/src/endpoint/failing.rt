@@ -39,7 +39,7 @@ pub enum Remedy {
     Nothing,
     /// Close the link, without an error or with an error of this condition.
     Close(Option<Condition>),
-    /// End the session, since the name of the link is in use (2.5.8).
+    /// End the session, since the name of the link is in use (2.5.4, 2.8.17).
     EndSession,
 }
 

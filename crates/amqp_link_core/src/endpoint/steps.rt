@@ -6,7 +6,7 @@ ghost use Rattle.amqp_link_core.specs.LinkStates.{Call, next_state};
 use amqp_link_state::state::LinkState;
 use amqp_link_types::types::OutputHandle;
 
-/// The output handle, or 0 if there is none yet (2.6.1). Does not allocate.
+/// The output handle, or 0 if there is none (2.6.2). Does not allocate.
 pub fn handle_or_zero(handle: Option<OutputHandle>) -> OutputHandle
     ensures { result ≡ unwrap_or handle (record { 0 = 0 }) }
 {

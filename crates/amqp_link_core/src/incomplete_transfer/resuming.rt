@@ -73,8 +73,8 @@ impl IncompleteTransfer {
     /// the front that is kept. If the bytes have no such place nothing changes. Reads all bytes to find the
     /// place, then those that are kept, and copies none.
     ///
-    /// Refused if it is out of memory, with nothing changed. Allocates for the piece in which the front ends,
-    /// and nothing if there is no such place.
+    /// Refused if it is out of memory, with nothing changed: for the part that is kept of the piece in which the
+    /// front ends, which shares the piece's buffer; never if there is no such place.
     pub fn keep_buffer_till_section_number_and_offset( // up to a position (3.4.1)
         &mut self,
         number: u32,

@@ -84,7 +84,7 @@ impl<T: LinkTarget> OutcomeLedger<T> {
     /// `UnattachedHandle` without output handle; `OutOfMemory`, only if the detach closes the link or carries
     /// an error.
     ///
-    /// If the detach closes the link, its cost grows with the number of pending deliveries.
+    /// If the peer closes the link by it, its cost grows with the number of pending deliveries.
     pub fn on_incoming_detach(
         &mut self,
         detach: &Detach,

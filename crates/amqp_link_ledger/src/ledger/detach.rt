@@ -1,4 +1,4 @@
-//! How a ledger is detached (2.6.5, 2.6.6). Its unsettled deliveries stay, and so do the registrations.
+//! How a ledger is detached (2.6.4 to 2.6.6). Its unsettled deliveries stay, and so do the registrations.
 use crate::ledger::OutcomeLedger;
 use amqp_link_core::endpoint::LinkDetach;
 use amqp_link_core::endpoint::target::LinkTarget;

@@ -1,4 +1,4 @@
-//! Flows, detaches and dispositions between attached endpoints, which do not go over the wire (2.6.5, 2.6.7,
+//! Flows, detaches and dispositions between attached endpoints, which do not go over the wire (2.6.4, 2.6.7,
 //! 2.6.12).
 ghost use Rattle.std.specs.Prelude.{◌≡◌, ◌∷◌, [], false, None, Some, Ok, IsSome, OnOk, OnErr};
 ghost use Rattle.amqp_link_types.specs.Entries.{entry_at, without_entry};

@@ -19,8 +19,8 @@ use std::alloc::AllocError;
 impl<T: LinkTarget> ReceiverLink<T> {
     /// Takes a transfer from the session, and returns the frame to hand to the link's user. Beside it stand
     /// the transfer's delivery id and tag, if the link is in mode `Second`, the transfer is not settled, and
-    /// the transfer before it was the last of its delivery. A disposition of the sender names the id: the
-    /// session passes it on with this tag (2.7.6).
+    /// no delivery is under way: the transfer before it had no `more`, or none has arrived since the peer's
+    /// attach. A disposition of the sender names the id: the session passes it on with this tag (2.7.6).
     ///
     /// Refused with `OutOfMemory`, and nothing changed; only a tag that is returned is allocated.
     pub fn on_incoming_transfer(

@@ -1,4 +1,5 @@
-//! Dispositions that a receiver sends and takes (2.6.12, 2.7.6), and its reply to a detach (2.6.5, 2.6.6).
+//! Dispositions that a receiver sends and takes (2.6.12, 2.7.6), and its reply to a detach (2.6.4 to
+//! 2.6.6).
 ghost use Rattle.std.specs.Prelude.{◌≡◌, ◌↔◌, ◌⊎◌, true, false, None, IsSome, is_some};
 ghost use Rattle.std.specs.Prelude.{IfOk, IfErr, IsErrOf, OnOk, OnErr, if◌then◌else◌};
 ghost use Rattle.std.specs.Option.{option_map};

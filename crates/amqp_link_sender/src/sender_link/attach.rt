@@ -28,8 +28,8 @@ use amqp_link_types::types::{
 use amqp_link_values::copy::copies_of;
 use std::alloc::{AllocError, Global};
 
-// The delivery-count that an attach states: the first attach of a link the initial one, each later one
-// the present one, as the deliveries before it are not sent again (2.6.4).
+// The delivery-count that an attach states: the initial one of a link that is unattached, and the present one
+// in each other state, as the deliveries before it are not sent again (2.6.4).
 fn count_to_state(state: LinkState, initial: SequenceNo, present: SequenceNo) -> SequenceNo
     ensures { (flow : Flow) → flow.initial_delivery_count ≡ initial → flow.delivery_count ≡ present
         → result ≡ stated_count role.Sender state flow }

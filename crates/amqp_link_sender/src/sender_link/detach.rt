@@ -1,4 +1,4 @@
-//! How a sender's link endpoint is detached (2.6.5, 2.6.6).
+//! How a sender's link endpoint is detached (2.6.4 to 2.6.6).
 ghost use Rattle.std.specs.Prelude.{◌≡◌, None};
 
 use crate::sender_link::SenderLink;

@@ -1,7 +1,7 @@
 //! The attach that arrives at a sender (2.6.3, 2.6.4), and the exchange of unsettled deliveries (2.6.13).
 //!
 //! It is taken in two halves: a plan, which tests and allocates, and the change itself, which does neither.
-//! A caller that keeps records of outcomes makes room for them between the two.
+//! A caller that keeps records of outcomes copies them between the two.
 ghost use Rattle.std.specs.Prelude.{◌≡◌, ◌⊎◌, ◌&&◌, ◌||◌, not, true, is_some, None, Some, Ok, Err, IfOk, IfErr, OnOk, OnErr, IsErrOf, IsErrAnd, IfNone, MatchOption, MatchResult, [], unwrap_or, if◌then◌else◌};
 ghost use Rattle.std.specs.Option.{option_or};
 ghost use Rattle.amqp_link_types.specs.declared.types.attach.Attach.{Attach as TheAttach};

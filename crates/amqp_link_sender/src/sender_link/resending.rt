@@ -133,8 +133,8 @@ impl<T: LinkTarget> SenderLink<T> {
         self.unsettled.remove(tag)
     }
 
-    /// Whether `send_unsettled_transfer` would send this rest now: refused as there, in the same order. Does not
-    /// allocate, and changes nothing: the transfer is as before.
+    /// Whether `send_unsettled_transfer` would send this rest now: refused as there, in the same order, without
+    /// `OutOfMemory`. Does not allocate, and changes nothing: the transfer is as before.
     pub fn can_send_unsettled(
         &self,
         transfer: &mut Transfer,

@@ -184,7 +184,8 @@ impl<V> UnsettledMap<V> {
     /// Keeps the first `count` deliveries in their order and drops the others; if there are not more than
     /// that, it keeps all. Does not allocate.
     ///
-    /// An attach that does not fit its frame is sent with the first half of its entries.
+    /// An attach that does not fit its frame is sent with the first half of its entries, the first quarter, and so
+    /// on.
     pub fn truncate(&mut self, count: usize)
     where
         V: Drop,
