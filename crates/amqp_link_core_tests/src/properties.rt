@@ -3,10 +3,7 @@ use crate::assertions::{assert_equal, assert_holds_at};
 use amqp_link_core::endpoint::attached::{
     archetype_of, merged_with, name_and_properties_of, termini_of,
 };
-use amqp_link_types::types::{
-    Fields, Source, Symbol, Symbols, Target, TargetArchetype, Text, Value,
-};
-use amqp_link_values::copy::copies_of;
+use amqp_link_types::types::{Fields, Source, Symbol, Target, TargetArchetype, Text, Value};
 use std::process::Abort;
 
 // These numbers under these names.
@@ -96,21 +93,6 @@ fn termini_are_sent_unchanged(rt: HostRuntime) {
     drop((source, own, wanted));
     drop(fields);
     assert_holds_at(&rt, is_wanted, &"a source and a target");
-}
-
-fn symbols(rt: &(impl Abort + AllocGlobal), name: &str) -> Option<Symbols> {
-    let names = vec![in rt.alloc(); Symbol::from(string(rt, name))];
-    Some(Symbols::from(names.expect(rt, "memory")))
-}
-
-#[test]
-fn capabilities_are_sent_unchanged(rt: HostRuntime) {
-    let (offered, desired) = (symbols(&rt, "a"), symbols(&rt, "b"));
-    let fields = copies_of(&offered, &desired).expect(&rt, "memory");
-    let is_wanted = fields.0 == offered && fields.1 == desired;
-    drop((offered, desired));
-    drop(fields);
-    assert_holds_at(&rt, is_wanted, &"what is offered, and what is desired");
 }
 
 #[test]

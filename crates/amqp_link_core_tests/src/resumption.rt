@@ -113,7 +113,7 @@ fn answer_of(resolution: &Resolution) -> Answer {
     }
 }
 
-const EIGHT: &[u8] = b"\x00\x53\x70\xc0\x00\x53\x77\x41";
+pub(crate) const EIGHT: &[u8] = b"\x00\x53\x70\xc0\x00\x53\x77\x41";
 
 fn answered(resolution: Result<Resolution, (AllocError, UnsettledMessage)>) -> Answer {
     let answer = match &resolution {
@@ -255,37 +255,18 @@ fn is_rest(rt: &(impl Abort + AllocGlobal), at: (u32, u64), want: &[u8]) -> bool
 
 #[test]
 fn rest_has_the_bytes_from_there(rt: HostRuntime) {
-    let rows: [((u32, u64), &[u8]); 6] = [
+    let rows: [((u32, u64), &[u8]); 7] = [
         ((1, 0), b"\x00\x53\x77\x41"),
         ((0, 5), b"\x53\x77\x41"),
         ((1, 3), b"\x41"),
         ((1, 4), b""),
+        // No place: past the next section's header, past the end, and no such section.
         ((0, 7), EIGHT),
+        ((1, 5), EIGHT),
         ((2, 0), EIGHT),
     ];
     for (at, want) in rows {
         assert_holds_at(&rt, is_rest(&rt, at, want), &at);
-    }
-}
-
-#[test]
-fn rest_is_from_the_named_place(rt: HostRuntime) {
-    let rows = [
-        ((1, 0), 4, "from the second section on"),
-        ((0, 5), 3, "from within its header on"),
-        ((1, 4), 0, "nothing"),
-        ((0, 7), 8, "no place: past the next section's header"),
-        ((1, 5), 8, "no place: past the end"),
-        ((2, 0), 8, "no place: no such section"),
-    ];
-    for ((number, offset), rest, message) in rows {
-        let answer = resolved(&rt, Shown::Null, Shown::Front(number, offset));
-        assert_equal_at(
-            &rt,
-            &answer,
-            &Answer::Resumed(Shown::Null, 8, rest),
-            &message,
-        );
     }
 }
 

@@ -54,8 +54,7 @@ fn register(
     assert_holds_at(rt, put, &"a free tag");
 }
 
-// A ledger that has sent its attach, with six deliveries: the last two have an outcome, one of their own and
-// one of the receiver.
+// A ledger that has sent its attach, with six deliveries, of which two have an outcome of their own.
 fn attaching_with_six(rt: &(impl Abort + AllocGlobal)) -> OutcomeLedger<Target> {
     let mut ledger = new_ledger(rt, SenderSettleMode::Mixed);
     register(rt, &mut ledger, 0, None);

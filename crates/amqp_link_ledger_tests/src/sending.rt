@@ -80,10 +80,12 @@ fn settled_payload_is_no_registration(rt: HostRuntime) {
 // A link of mode settled registers nothing, whatever the flag.
 #[test]
 fn mode_settled_registers_nothing(rt: HostRuntime) {
-    let mut ledger = attached(&rt, SenderSettleMode::Settled, 1);
+    let mut ledger = attached(&rt, SenderSettleMode::Settled, 3);
     let payload = payload_of(&rt, &[7]);
-    let settled = send_flagged(&mut ledger, &payload, Some(false));
-    assert_equal(&rt, &settled, &Sent::Settled);
+    for flag in [None, Some(false), Some(true)] {
+        let settled = send_flagged(&mut ledger, &payload, flag);
+        assert_equal(&rt, &settled, &Sent::Settled);
+    }
     assert_fates(&rt, &ledger, &[]);
     drop((payload, ledger));
 }

@@ -62,6 +62,7 @@ fn flow_is_answered(rt: HostRuntime) {
         available: Some(0),
         drain: false,
         echo: false,
+        has_properties: false,
     };
     let answer = reply_fields(take_flow(&mut ledger, flow));
     assert_equal(&rt, &answer, &Ok(Some(wanted)));

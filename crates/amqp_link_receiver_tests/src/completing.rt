@@ -199,7 +199,8 @@ fn mode_given(
     mode_of(answer)
 }
 
-// The same of a settled one of two bytes of data in two pieces, which asks for mode second.
+// What is given of a settled delivery of two bytes of data in two pieces, which asks for mode second, whether it is
+// this data, and what is left.
 fn given_settled(rt: &(impl Abort + AllocGlobal)) -> (Option<Given>, bool, Left) {
     let mut link = link_in(rt, ReceiverSettleMode::First, 2);
     let pieces = pieces(rt, &[0, 0x53, 0x75, 0xa0], &[2, 0x61, 0x62]);

@@ -46,6 +46,7 @@ fn stated(count: u32, credit: u32, drain: bool, echo: bool) -> FlowFields {
         available: None,
         drain,
         echo,
+        has_properties: false,
     }
 }
 
@@ -59,7 +60,7 @@ fn flow_in(frame: &LinkFrame) -> Option<&LinkFlow> {
 // The fields of the flow that was sent, if one was.
 fn shown_by(sent: &Result<LinkFrame, FlowError>) -> Result<Option<FlowFields>, FlowError> {
     match sent {
-        Ok(frame) => Ok(flow_in(frame).and_then(flow_fields)),
+        Ok(frame) => Ok(flow_in(frame).map(flow_fields)),
         Err(error) => Err(*error),
     }
 }

@@ -24,7 +24,7 @@ use amqp_link_values::length::EncodedLen;
 use std::process::Abort;
 
 // The link "l" with output handle 0, brought to this state at count 0. A delivery is unsettled, which an
-// attach states only if the limit is more than 30.
+// attach states only if the limit is at least 44.
 fn link_in(rt: &(impl Abort + AllocGlobal), state: LinkState, limit: u32) -> ReceiverLink<Target> {
     let link = ReceiverLink::new(rt.alloc(), parts(rt, SenderSettleMode::Mixed, 512));
     let mut link = link.with_output_handle(OutputHandle(0));

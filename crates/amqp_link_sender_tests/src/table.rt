@@ -14,7 +14,7 @@ use amqp_link_types::types::{OutputHandle, Role, SenderSettleMode, Target};
 use std::process::Abort;
 
 // The link "l" with output handle 0, brought to this state. A delivery is pending, which an attach states
-// only if the limit is more than 30.
+// only if the limit is at least 37.
 fn link_in(rt: &(impl Abort + AllocGlobal), state: LinkState, limit: u32) -> SenderLink<Target> {
     let link = SenderLink::new(rt.alloc(), parts(rt, SenderSettleMode::Mixed, 512));
     let mut link = link.with_output_handle(OutputHandle(0));

@@ -155,7 +155,7 @@ fn handled_attached(
 }
 
 #[test]
-fn each_error_has_its_action(rt: HostRuntime) {
+fn errors_have_their_actions(rt: HostRuntime) {
     assert_equal(
         &rt,
         &handled_attached(&rt, SenderAttachError::DuplicatedLinkName),

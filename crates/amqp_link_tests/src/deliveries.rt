@@ -64,7 +64,9 @@ fn built_by_default_has_format_0(rt: HostRuntime) {
 #[derive(Clone, Copy, Debug, PartialEq, Eq)]
 enum Seen {
     Accepted,
+    Rejected,
     Released,
+    Failed,
     Stateless,
     NotTerminal,
     IllegalState,
@@ -76,7 +78,14 @@ enum Seen {
 fn seen_of(outcome: SendResult) -> Seen {
     let seen = match &outcome {
         Ok(Outcome::Accepted) => Seen::Accepted,
+        Ok(Outcome::Rejected { error: None }) => Seen::Rejected,
         Ok(Outcome::Released) => Seen::Released,
+        Ok(
+            Outcome::Modified {
+                delivery_failed: Some(true),
+                ..
+            },
+        ) => Seen::Failed,
         Err(SendError::IllegalDeliveryState) => Seen::Stateless,
         Err(SendError::NonTerminalDeliveryState) => Seen::NotTerminal,
         Err(SendError::LinkStateError(LinkStateError::IllegalState)) => Seen::IllegalState,
@@ -94,6 +103,14 @@ fn each_state_has_its_result(rt: HostRuntime) {
     assert_equal(&rt, &seen_of(SendResult::from_none()), &Seen::Stateless);
     let released = SendResult::from_delivery_state(DeliveryState::Released);
     assert_equal(&rt, &seen_of(released), &Seen::Released);
+    let rejected = SendResult::from_delivery_state(DeliveryState::Rejected { error: None });
+    assert_equal(&rt, &seen_of(rejected), &Seen::Rejected);
+    let failed = SendResult::from_delivery_state(DeliveryState::Modified {
+        delivery_failed: Some(true),
+        undeliverable_here: None,
+        message_annotations: None,
+    });
+    assert_equal(&rt, &seen_of(failed), &Seen::Failed);
     let received = SendResult::from_delivery_state(DeliveryState::Received {
         section_number: 0,
         section_offset: 3,

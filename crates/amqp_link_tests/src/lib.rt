@@ -1,5 +1,5 @@
 //! Tests by what `amqp_link` makes public: of a pair worked values, refused growths and lists of calls; of a credit run
-//! worked values, a refused growth and a walk; and a copy of what is sent.
+//! worked values, a refused growth and a walk; and what an application sends, copies and makes of an outcome.
 #![tactic(auto)]
 
 #[cfg(test)]

@@ -1,14 +1,8 @@
 //! Worked values of a pair.
 use crate::assertions::{assert_equal, assert_equal_at, assert_holds_at};
+use crate::script::{TWELVE, tag};
 use amqp_link::types::DataBody;
 use amqp_link::{DeliveryTag, LinkExt, Pair, PairError, Payload};
-use std::alloc::{AllocError, Global};
-
-const TWELVE: [u8; 12] = [1, 2, 3, 4, 5, 6, 7, 8, 9, 10, 11, 12];
-
-fn tag(alloc: Global, bytes: [u8; 4]) -> Result<DeliveryTag, AllocError> {
-    Ok(DeliveryTag::from(bytes.to_vec(alloc)?))
-}
 
 // The calls of a pair stand in functions without a contract: each call in a test is proved with all that the
 // contracts of those before it say.
@@ -37,7 +31,7 @@ fn held_bytes(pair: &Pair, tag: &DeliveryTag) -> Option<u64> {
     Some(pair.held(tag)?.accumulated_payload_size())
 }
 
-// Each refusal in its place.
+// Refusals of an attach, a grant, a send and an arrival, in their order.
 #[test]
 fn refusals_come_in_order(rt: HostRuntime) {
     let alloc = rt.alloc();
@@ -68,7 +62,7 @@ fn payload_is_delivered_complete(rt: HostRuntime) {
     let alloc = rt.alloc();
     let mut pair = Pair::new(alloc, 0).expect(&rt, "memory");
     let bytes = Payload::copy_from_slice(alloc, &TWELVE).expect(&rt, "memory");
-    let first = tag(alloc, [0, 0, 0, 0]).expect(&rt, "memory");
+    let first = tag(alloc).expect(&rt, "memory");
     assert_equal(&rt, &attach(&mut pair, 30), &Ok(0));
     assert_equal(&rt, &grant(&mut pair, 1), &Ok(1));
     assert_equal(&rt, &send(&mut pair, &bytes), &Ok(3));
@@ -92,7 +86,7 @@ fn undecoded_delivery_is_settled(rt: HostRuntime) {
     let alloc = rt.alloc();
     let mut pair = Pair::new(alloc, 0).expect(&rt, "memory");
     let bytes = Payload::copy_from_slice(alloc, &TWELVE).expect(&rt, "memory");
-    let first = tag(alloc, [0, 0, 0, 0]).expect(&rt, "memory");
+    let first = tag(alloc).expect(&rt, "memory");
     assert_equal(&rt, &attach(&mut pair, 64), &Ok(0));
     assert_equal(&rt, &grant(&mut pair, 1), &Ok(1));
     assert_equal(&rt, &send(&mut pair, &bytes), &Ok(1));
@@ -150,7 +144,7 @@ fn attach_again(pair: &mut Pair, limit: u32) -> Result<usize, PairError> {
 #[test]
 fn refused_growth_loses_nothing(rt: HostRuntime) {
     let alloc = rt.alloc();
-    let first = tag(alloc, [0, 0, 0, 0]).or_else(|_| tag(alloc, [0, 0, 0, 0]));
+    let first = tag(alloc).or_else(|_| tag(alloc));
     let first = first.expect(&rt, "memory");
     let bytes = Payload::copy_from_slice(alloc, &TWELVE);
     let bytes = bytes.or_else(|_| Payload::copy_from_slice(alloc, &TWELVE));

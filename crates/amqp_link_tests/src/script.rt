@@ -44,7 +44,7 @@ pub(crate) struct Sample {
     pub(crate) payload: Payload,
 }
 
-fn tag(alloc: Global) -> Result<DeliveryTag, AllocError> {
+pub(crate) fn tag(alloc: Global) -> Result<DeliveryTag, AllocError> {
     Ok(DeliveryTag::from([0; 4].to_vec(alloc)?))
 }
 
@@ -59,7 +59,7 @@ pub(crate) fn new_sample(rt: &(impl Abort + AllocGlobal)) -> Sample {
     }
 }
 
-// An attach of 38 bytes names a pending delivery, one of 37 does not.
+// A frame of 38 bytes has room for an attach that states a pending delivery, one of 37 has none.
 pub(crate) const CUT_OFF: [(Call, Result<Seen, PairError>); 11] = [
     (Call::Attach(30), Ok(Seen::Count(0))),
     (Call::Grant(1), Ok(Seen::Credit(1))),

@@ -1,5 +1,6 @@
-//! What the crates of tests share: links, attaches and payloads for the tests of both link endpoints, and the
-//! table of link states of the standard (OASIS AMQP 1.0 core, 2.6.3 to 2.6.6). Only tests call it.
+//! What the crates of tests share: links, attaches and calls for the tests of both link endpoints, the kinds of
+//! refusals, and the table of link states of the standard (OASIS AMQP 1.0 core, 2.6.3 to 2.6.6). Only tests call
+//! it.
 #![tactic(auto)]
 
 pub mod calls;

@@ -57,7 +57,7 @@ pub fn fields(alloc: Global, name: &str) -> Result<Fields, AllocError> {
     Ok(fields)
 }
 
-/// The fields of a flow, without its properties.
+/// The fields of a flow; of its properties, whether it has them.
 #[derive(Clone, Copy, Debug, PartialEq, Eq)]
 pub struct FlowFields {
     pub handle: u32,
@@ -66,28 +66,27 @@ pub struct FlowFields {
     pub available: Option<u32>,
     pub drain: bool,
     pub echo: bool,
+    pub has_properties: bool,
 }
 
-/// The fields of a flow; none if it has properties.
-pub fn flow_fields(flow: &LinkFlow) -> Option<FlowFields> {
-    if flow.properties.is_some() {
-        return None;
-    }
-    Some(FlowFields {
+/// The fields of a flow.
+pub fn flow_fields(flow: &LinkFlow) -> FlowFields {
+    FlowFields {
         handle: flow.handle.0,
         count: flow.delivery_count,
         credit: flow.link_credit,
         available: flow.available,
         drain: flow.drain,
         echo: flow.echo,
-    })
+        has_properties: flow.properties.is_some(),
+    }
 }
 
 fn fields_of_reply(
     answer: &Result<Option<LinkFlow>, LinkRelayError>,
 ) -> Result<Option<FlowFields>, LinkRelayError> {
     match answer {
-        Ok(Some(flow)) => Ok(flow_fields(flow)),
+        Ok(Some(flow)) => Ok(Some(flow_fields(flow))),
         Ok(None) => Ok(None),
         Err(error) => Err(*error),
     }

@@ -16,7 +16,6 @@ pub enum Refusal {
     NodeProperties,
     MissingFilters,
     AttachTooLarge,
-    OutOfMemory,
     DuplicatedLinkName,
     Other,
 }
@@ -32,7 +31,6 @@ pub fn at_sender(error: &SenderAttachError) -> Refusal {
         SenderAttachError::TargetAddressIsNoneWhenDynamicIsTrue => Refusal::TargetAddress,
         SenderAttachError::DynamicNodePropertiesIsSomeWhenDynamicIsFalse => Refusal::NodeProperties,
         SenderAttachError::AttachTooLarge => Refusal::AttachTooLarge,
-        SenderAttachError::OutOfMemory => Refusal::OutOfMemory,
         SenderAttachError::DuplicatedLinkName => Refusal::DuplicatedLinkName,
         _ => Refusal::Other,
     }
@@ -52,7 +50,6 @@ pub fn at_receiver(error: &ReceiverAttachError) -> Refusal {
             Refusal::NodeProperties
         }
         ReceiverAttachError::AttachTooLarge => Refusal::AttachTooLarge,
-        ReceiverAttachError::OutOfMemory => Refusal::OutOfMemory,
         ReceiverAttachError::DuplicatedLinkName => Refusal::DuplicatedLinkName,
         _ => Refusal::Other,
     }

@@ -32,7 +32,7 @@ pub const STATES: [LinkState; 11] = [
     LinkState::Closed,
 ];
 
-/// The states after the call, by the states in the order above; a dash stands for no transition.
+/// The states after the call, by the states in the order above; `o` stands for no transition.
 fn line_of(call: Call) -> [Option<LinkState>; 11] {
     let sent = Some(LinkState::AttachSent);
     let part_sent = Some(LinkState::IncompleteAttachSent);

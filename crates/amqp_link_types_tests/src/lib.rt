@@ -1,4 +1,4 @@
-//! Tests of the types through their public interface: what no clause states.
+//! Tests of the types and of the flow states through their public interface: what no clause states.
 #![tactic(auto)]
 
 #[cfg(test)]

@@ -1,7 +1,7 @@
 //! One length of each type. The other lengths that were worked by hand are rows of the program
 //! `replay_lengths`.
 use crate::assertions::assert_equal_at;
-use amqp_link_values::{DeliveryTag, EncodedLen, Fields, Symbol, Symbols, Text, Value};
+use amqp_link_values::{Boxed, DeliveryTag, EncodedLen, Fields, Symbol, Symbols, Text, Value};
 use std::process::Abort;
 
 // What is measured, its length, and why.
@@ -49,4 +49,6 @@ fn each_type_is_measured(rt: HostRuntime) {
     row(&rt, symbols(&rt), 8, "one element of 4");
     row(&rt, fields(&rt), 8, "one field of 5");
     row(&rt, Value::Null, 1, "null is a code");
+    let boxed = Boxed::new(rt.alloc(), 256u32).ok().expect(&rt, "memory");
+    row(&rt, boxed, 5, "as the number in it");
 }

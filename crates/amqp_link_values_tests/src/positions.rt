@@ -126,7 +126,7 @@ fn rests_are_placed(rt: HostRuntime) {
     }
 }
 
-// The position of the first bytes of a payload that is at most a hundred bytes long.
+// The position of the first bytes of a payload.
 fn end_of_front(payload: &'static [u8], length: usize) -> Option<(u32, u64)> {
     position_in_one(&payload[..length.min(payload.len())])
 }

@@ -153,8 +153,16 @@ fn a_replaced_field_keeps_its_place(rt: HostRuntime) {
         &"the older value",
     );
     assert_equal_at(&rt, &got(&rt, &fields, 0), &Some(7), &"the newer value");
-    assert_equal_at(&rt, &fields.len(), &2, &"names, as before");
-    drop(fields);
+    let mut wanted = Fields::new(rt.alloc());
+    put(&rt, &mut wanted, 0, 7);
+    put(&rt, &mut wanted, 1, 1);
+    let is_wanted = fields == wanted;
+    drop((fields, wanted));
+    assert_holds_at(
+        &rt,
+        is_wanted,
+        &"the newer value first, as the older one was",
+    );
 }
 
 #[test]

@@ -1,6 +1,7 @@
 //! Deliveries that are cut off and resumed, and their fronts.
 use crate::assertions::{assert_equal, assert_equal_at};
 use crate::incomplete_transfer::{BARE, FIRST, Row, append, seen, start, transfer_of};
+use crate::resumption::EIGHT;
 use amqp_link_core::incomplete_transfer::IncompleteTransfer;
 use amqp_link_types::types::ReceiverTransferError as Refused;
 use bytes::Bytes;
@@ -137,8 +138,6 @@ fn front_is_kept(rt: HostRuntime) -> Result<(), Fail> {
     drop(held);
     Ok(())
 }
-
-const EIGHT: &[u8] = b"\x00\x53\x70\xc0\x00\x53\x77\x41";
 
 // The eight bytes in three pieces, cut after these numbers of them.
 fn cut_thrice(alloc: Global, first: usize, second: usize) -> Result<IncompleteTransfer, Refused> {

@@ -145,7 +145,7 @@ fn two_deliveries(rt: &(impl Abort + AllocGlobal)) -> UnsettledMap<UnsettledMess
 }
 
 #[test]
-fn states_are_found_by_tag(rt: HostRuntime) {
+fn states_stand_under_their_tags(rt: HostRuntime) {
     let map = two_deliveries(&rt);
     let states = map.states().expect(&rt, "memory");
     drop(map);

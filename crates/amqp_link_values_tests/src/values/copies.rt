@@ -123,6 +123,16 @@ fn what_is_there_is_copied(rt: HostRuntime) {
 }
 
 #[test]
+fn two_that_are_there_are_copied(rt: HostRuntime) {
+    let (one, other) = (Some(symbol(&rt, "a")), Some(symbol(&rt, "b")));
+    let copies = copies_of(&one, &other).expect(&rt, "memory");
+    let is_copied = copies.0 == one && copies.1 == other;
+    drop((copies, one));
+    drop(other);
+    assert_holds_at(&rt, is_copied, &"both symbols");
+}
+
+#[test]
 fn what_is_absent_stays_absent(rt: HostRuntime) {
     let (name, absent) = (Some(tag(&rt, 1)), None::<Symbol>);
     let copies = copies_of(&name, &absent).expect(&rt, "memory");

@@ -351,6 +351,12 @@ fn a_failed_read_is_reported(rt: HostRuntime) {
     }
 }
 
+// A run has failed, and wrote no fault.
+fn assert_silent(rt: &impl Abort, faults: Vec<u8>, status: Status, what: &str) {
+    assert!(rt; faults.is_empty(), "{what}");
+    assert_eq!(rt; status, Status::Failed, "{what}");
+}
+
 #[test]
 fn a_failed_write_is_not_spoken_of(rt: HostRuntime) {
     for (what, script, room, flushes) in [
@@ -382,12 +388,7 @@ fn a_failed_write_is_not_spoken_of(rt: HostRuntime) {
         let mut output = Narrow { room, flushes };
         let mut faults = Vec::new(rt.alloc());
         let status = run_script(rt.alloc(), &mut input, &mut output, &mut faults);
-        let ran = Ran {
-            output: Vec::new(rt.alloc()),
-            faults,
-            status,
-        };
-        assert_ran(&rt, ran, b"", b"", Status::Failed, &what);
+        assert_silent(&rt, faults, status, what);
     }
 }
 

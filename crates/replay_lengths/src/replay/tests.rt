@@ -90,37 +90,6 @@ fn a_row_that_does_not_agree_is_reported(rt: HostRuntime) {
 }
 
 #[test]
-fn parts_that_the_stored_rows_leave_out_are_read(rt: HostRuntime) {
-    for (rows, printed) in [
-        (
-            "target 18 uamqp | target 7 _ _ _ _ _ _ symbols 1 61",
-            "target 1 of 1 agree\n",
-        ),
-        (
-            "source 27 uamqp | source 11 _ _ _ _ _ _ _ _ _ symbols 1 61 symbols 1 61",
-            "source 1 of 1 agree\n",
-        ),
-        (
-            "attach 31 uamqp | attach 13 string 6c uint 0 false _ _ _ _ _ _ _ _ symbols 1 61 symbols 1 61",
-            "attach 1 of 1 agree\n",
-        ),
-    ] {
-        let mut input = rows.as_bytes();
-        let ran = run(rt.alloc(), &mut input);
-        assert!(rt;
-            holds(ran.output.as_slice(), printed.as_bytes()),
-            "at {rows:?}"
-        );
-        assert_eq!(rt; ran.status, 0, "at {rows:?}");
-    }
-}
-
-// Whether the part stands in the whole.
-fn holds(whole: &[u8], part: &[u8]) -> bool {
-    part.is_empty() || whole.windows(part.len()).any(|window| window == part)
-}
-
-#[test]
 fn other_lines_are_no_rows(rt: HostRuntime) {
     for line in [
         " ",

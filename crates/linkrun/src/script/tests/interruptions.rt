@@ -6,7 +6,7 @@ use amqp_link::{DeliveryState, Fate};
 use std::process::Abort;
 
 #[test]
-fn an_interrupted_delivery_ends_settled(rt: HostRuntime) {
+fn an_interrupted_delivery_is_sent_again(rt: HostRuntime) {
     let table = [
         (
             "put back, then sent again",
