@@ -1,5 +1,6 @@
 //! The errors that calls return.
 
+pub use amqp_link_credit::CreditRunError;
 pub use amqp_link_delivery::{RecvError, SendError};
 pub use amqp_link_pair::PairError;
 pub use amqp_link_state::state::InsufficientCredit;

@@ -3,100 +3,152 @@
 //!
 //! The transfers of a delivery arrive one by one (`take_in`). With the last one the delivery is complete, and
 //! the broker sends it on at once (`send_on`). It stays unsettled on both links until the peer to which it
-//! was sent has given it an outcome (`pass_outcome_back`); the broker then settles it on the link on which it
-//! arrived, with the same state.
+//! was sent has given it an outcome; the broker then settles it on the link on which it arrived (`settle_with`).
 
-ghost use Rattle.std.specs.Prelude.{◌≡◌, ◌++◌, not, true, false, map, None, Some, Ok, IfOk, IfSome, OnErr};
+ghost use Rattle.std.specs.Prelude.{◌≡◌, ◌++◌, ◌⊎◌, ◌&&◌, not, true, false, map, None, Some, Ok, IfOk, IfSome, OnOk, OnErr};
 ghost use Rattle.std.specs.List.{concat};
-ghost use Rattle.amqp_link.specs.Ending.{does_end, ended_by, map_after_receiver_disposition};
 ghost use Rattle.amqp_link.specs.Frames.{payload_of};
-ghost use Rattle.amqp_link.specs.Held.{held_bytes};
 ghost use Rattle.amqp_link.specs.Keeping.{after_one, disposition_of_one};
-ghost use Rattle.amqp_link_uses.specs.Brokers.{bytes_before, bytes_of, is_complete, state_for};
+ghost use Rattle.amqp_link_uses.specs.Brokers.{TakesIn, bytes_before, is_aborted, is_complete, state_for};
 
 use amqp_link::delivery::{DeliveryOutcome, Settlement};
 use amqp_link::errors::{DispositionError, LinkStateError, ReceiverTransferError};
 use amqp_link::types::{Target, Transfer};
 use amqp_link::{
-    Delivery, DeliveryInfo, DeliveryState, DeliveryTag, IncompleteTransfer, LinkFrame, Payload,
-    ReceiverLink, SenderLink, Sending, Waiting, Whole,
+    Delivery, DeliveryInfo, DeliveryState, IncompleteTransfer, LinkFrame, Payload, ReceiverLink,
+    SenderLink, Sending, Waiting, Whole,
 };
-use std::alloc::Global;
+use std::alloc::{AllocError, Global};
 
-/// What the delivery is after a transfer of it has arrived.
-#[derive(Drop)]
+/// What a transfer has made of its delivery.
+#[derive(Debug, Drop)]
 pub enum Arrival {
-    /// More transfers of the delivery are pending; this is what has arrived of it.
-    Begun(IncompleteTransfer),
-    /// The delivery is complete.
+    /// More transfers of it are pending.
+    Begun,
+    /// It is complete.
     Complete(Delivery<Whole>),
+    /// The sender has given it up: what had arrived of it is dropped.
+    Aborted,
 }
 
-/// Takes a transfer from the session at a receiver; `begun` is what has arrived of its delivery before.
+/// Takes a transfer from the session at a receiver. `begun` is what has arrived of its delivery, before the call and
+/// after it; a delivery that is complete or given up leaves none. The link reports it in a later attach, so the broker
+/// keeps it while the link is cut: the sender then resumes the delivery, and the first transfer of that joins it.
+///
+/// If it is refused, what had arrived is kept, with this transfer's bytes or without them. A last transfer may be
+/// refused as it is handed out, for want of memory or of credit: `complete` hands it out later.
 pub fn take_in(
     alloc: Global,
     link: &mut ReceiverLink<Target>,
-    begun: Option<IncompleteTransfer>,
+    begun: &mut Option<IncompleteTransfer>,
     transfer: Transfer,
     payload: Payload,
 ) -> Result<Arrival, ReceiverTransferError>
-    ensures joined { IfOk result (λ arrival. bytes_of arrival ≡ bytes_before begun ++ payload) }
-    ensures last { IfOk result (λ arrival. is_complete arrival ≡ not transfer.more) }
+    ensures taken { IfOk result (λ arrival. TakesIn begun.old payload begun.new arrival) }
+    ensures last { IfOk result (λ arrival.
+        is_complete arrival ≡ (not transfer.aborted && not transfer.more)) }
+    ensures aborted { IfOk result (λ arrival. is_aborted arrival ≡ transfer.aborted) }
+    ensures kept { OnErr result ((begun.new ≡ begun.old)
+        ⊎ (bytes_before begun.new ≡ bytes_before begun.old ++ payload)) }
 {
-    let is_last = !transfer.more;
+    let (is_aborted, is_last) = (transfer.aborted, !transfer.more);
     let Ok((frame, entry)) = link.on_incoming_transfer(transfer, payload) else {
-        drop(begun);
         return Err(ReceiverTransferError::OutOfMemory);
     };
     drop(entry); // A session that maps ids to tags keeps this.
-    let held = match frame {
-        LinkFrame::RemoteTransfer(arrived) => {
-            joined(alloc, begun, arrived.performative, arrived.payload)?
-        }
+    let arrived = match frame {
+        LinkFrame::RemoteTransfer(arrived) => arrived,
         _ => unreachable!(),
     };
-    let (number, offset) = held.position();
-    if !is_last {
-        link.on_incomplete_transfer(held.delivery_tag(), number, offset)?;
-        return Ok(Arrival::Begun(held));
+    if is_aborted {
+        drop(arrived);
+        forget(link, begun);
+        return Ok(Arrival::Aborted);
     }
-    let delivery = link.on_complete_transfer(held.performative(), held.pieces(), number, offset);
-    drop(held);
-    Ok(Arrival::Complete(delivery?))
+    join(alloc, begun, arrived.performative, arrived.payload)?;
+    if is_last {
+        return Ok(Arrival::Complete(complete(link, begun)?));
+    }
+    report(link, begun)?;
+    Ok(Arrival::Begun)
 }
 
-// What has arrived of a delivery, this transfer included.
-fn joined(
+// Drops what has arrived of a delivery, and its entry: an aborted delivery counts as settled (2.7.5).
+fn forget(link: &mut ReceiverLink<Target>, begun: &mut Option<IncompleteTransfer>)
+    ensures { begun.new ≡ None }
+{
+    if let Some(held) = begun.take() {
+        link.on_incoming_disposition(true, None, held.delivery_tag());
+        drop(held);
+    }
+}
+
+// Adds a transfer to what has arrived of its delivery: a first one, a further one, or one that resumes it.
+fn join(
     alloc: Global,
-    begun: Option<IncompleteTransfer>,
+    begun: &mut Option<IncompleteTransfer>,
     transfer: Transfer,
     payload: Payload,
-) -> Result<IncompleteTransfer, ReceiverTransferError>
-    ensures { IfOk result (λ held. held_bytes held ≡ bytes_before begun ++ payload) }
+) -> Result<(), ReceiverTransferError>
+    ensures joined { OnOk result (bytes_before begun.new ≡ bytes_before begun.old ++ payload) }
+    ensures left { OnErr result (begun.new ≡ begun.old) }
 {
-    let Some(mut held) = begun else {
-        return IncompleteTransfer::start(alloc, transfer, payload);
+    let Some(held) = begun else {
+        *begun = Some(IncompleteTransfer::start(alloc, transfer, payload)?);
+        return Ok(());
     };
-    match held.try_append(transfer, payload) {
-        Ok(()) => Ok(held),
-        Err(refused) => {
-            drop(held);
-            Err(refused)
-        }
+    if transfer.resume {
+        held.try_resume(transfer, payload)
+    } else {
+        held.try_append(transfer, payload)
     }
+}
+
+// Records at the link up to where a delivery has arrived.
+fn report(
+    link: &mut ReceiverLink<Target>,
+    begun: &Option<IncompleteTransfer>,
+) -> Result<(), AllocError> {
+    match begun {
+        Some(held) => {
+            let (number, offset) = held.position();
+            link.on_incomplete_transfer(held.delivery_tag(), number, offset)
+        }
+        None => Ok(()),
+    }
+}
+
+/// Hands out a delivery whose last transfer has arrived, for one credit. If it is refused, `begun` keeps it; with
+/// `IllegalState` also if nothing has arrived.
+pub fn complete(
+    link: &mut ReceiverLink<Target>,
+    begun: &mut Option<IncompleteTransfer>,
+) -> Result<Delivery<Whole>, ReceiverTransferError>
+    ensures whole { IfOk result (λ delivery. delivery.message.body.0 ≡ bytes_before begun.old) }
+    ensures taken { OnOk result (begun.new ≡ None) }
+    ensures left { OnErr result (begun.new ≡ begun.old) }
+{
+    let Some(held) = begun else {
+        return Err(ReceiverTransferError::IllegalState);
+    };
+    let (number, offset) = held.position();
+    let delivery = link.on_complete_transfer(held.performative(), held.pieces(), number, offset)?;
+    drop(begun.take());
+    Ok(delivery)
 }
 
 /// A delivery that was sent on.
 #[derive(Debug, Drop)]
 pub struct Forwarded {
-    /// Its tag on the link on which it is sent; its outcome arrives under this tag.
-    pub tag: DeliveryTag,
+    /// Its tag on the link on which it is sent. Unsettled: its outcome arrives under this tag. Settled, as on a link of
+    /// mode `Settled`: no outcome arrives, and the broker settles the delivery that was received at once.
+    pub settlement: Settlement,
     /// Its transfers, to be sent in this order.
     pub frames: Vec<LinkFrame>,
 }
 
-/// Sends a complete delivery on, unsettled, for one credit. Without credit it returns none: the broker keeps
-/// the delivery, and calls again after the next flow.
+/// Sends a complete delivery on, unsettled where the link's mode lets it, for one credit. Without credit it returns
+/// none: the broker keeps the delivery, and calls again after the next flow.
 pub fn send_on(
     link: &mut SenderLink<Target>,
     delivery: &Delivery<Whole>,
@@ -109,57 +161,38 @@ pub fn send_on(
     let payload = &delivery.message().body.0;
     let format = delivery.message_format().unwrap_or(0);
     match link.send_payload(Waiting::Nothing, payload, format, Some(false), None, false)? {
-        Sending::Sent { settlement, frames } => {
-            let (Settlement::Unsettled(tag) | Settlement::Settled(tag)) = settlement;
-            Ok(Some(Forwarded { tag, frames }))
-        }
+        Sending::Sent { settlement, frames } => Ok(Some(Forwarded { settlement, frames })),
         Sending::CreditMissing => Ok(None),
     }
 }
 
-/// Takes the disposition of a delivery that was sent on. If this gives it an outcome, the delivery that was
-/// received is settled with the same state; returns the disposition to send on its link.
-pub fn pass_outcome_back(
-    outgoing: &mut SenderLink<Target>,
-    incoming: &mut ReceiverLink<Target>,
-    tag: &DeliveryTag,
+/// Settles the delivery that was received with the outcome of the one that was sent on: with the same state, or as
+/// released if it has none. Returns the disposition to send on the link on which the delivery was received.
+///
+/// The outcome is what `SenderLink::on_incoming_disposition` returns on the other link; if that also asks for an
+/// `echo`, the broker answers it there by `dispose`. If this call is out of memory, nothing has changed: the broker
+/// keeps the outcome, and calls again.
+pub fn settle_with(
+    link: &mut ReceiverLink<Target>,
     info: &DeliveryInfo,
-    settled: bool,
-    state: Option<DeliveryState>,
+    outcome: &DeliveryOutcome,
 ) -> Result<Option<LinkFrame>, DispositionError>
-    ensures outgoing { outgoing.new ≡ record outgoing.old {
-      unsettled = map_after_receiver_disposition settled state tag.now outgoing.old.unsettled;
-    } }
-    ensures none { does_end settled state ≡ false → (result ≡ Ok None) × (incoming.new ≡ incoming.old) }
-    ensures passed { IfSome (ended_by settled state tag.now outgoing.old.unsettled) (λ ended.
-        (result ≡ Ok (disposition_of_one (Some true) incoming.old.rcv_settle_mode (state_for ended.1) false info.now incoming.old.unsettled))
-        × (incoming.new ≡ record incoming.old {
-          unsettled = after_one true (state_for ended.1) info.now.delivery_tag incoming.old.unsettled;
-        })) }
-    ensures left { OnErr result (incoming.new ≡ incoming.old) }
+    ensures frame { IfOk result (λ frame. Ok frame ≡ disposition_of_one (Some true) link.old.rcv_settle_mode
+        (state_for outcome.now) false info.now link.old.unsettled) }
+    ensures after { OnOk result (link.new ≡ record link.old {
+      unsettled = after_one true (state_for outcome.now) info.now.delivery_tag link.old.unsettled;
+    }) }
+    ensures left { OnErr result (link.new ≡ link.old) }
 {
-    match outgoing
-        .on_incoming_disposition(settled, state, tag)
-        .outcome
-    {
-        Some((own, outcome)) => {
-            drop(own);
-            incoming.dispose(info, Some(true), state_of(outcome), false)
-        }
-        None => Ok(None),
-    }
+    link.dispose(info, Some(true), state_of(outcome)?, false)
 }
 
 // The state with which the delivery that was received is settled: released if the outcome has no state.
-fn state_of(outcome: DeliveryOutcome) -> DeliveryState
-    ensures { result ≡ state_for outcome }
+fn state_of(outcome: &DeliveryOutcome) -> Result<DeliveryState, AllocError>
+    ensures { IfOk result (λ state. state ≡ state_for outcome.now) }
 {
     match outcome {
-        Ok(Some(state)) => state,
-        Ok(None) => DeliveryState::Released,
-        Err(failed) => {
-            drop(failed);
-            DeliveryState::Released
-        }
+        Ok(Some(state)) => state.clone(),
+        Ok(None) | Err(_) => Ok(DeliveryState::Released),
     }
 }

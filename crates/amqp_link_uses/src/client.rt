@@ -11,9 +11,10 @@ ghost use Rattle.amqp_link.specs.Entries.{entry_at, with_entry};
 ghost use Rattle.amqp_link.specs.Frames.{payload_of};
 ghost use Rattle.amqp_link.specs.Senders.{new_entry};
 
-use amqp_link::delivery::{DeliveryOutcome, Settlement};
+use amqp_link::delivery::Settlement;
 use amqp_link::endpoint::Action;
 use amqp_link::errors::{LinkRelayError, LinkStateError, SenderAttachError};
+use amqp_link::sender_link::DispositionAnswer;
 use amqp_link::types::{Attach, LinkFlow, OutputHandle, SenderSettleMode, Target};
 use amqp_link::{
     DeliveryState, DeliveryTag, LinkAttach, LinkFrame, LinkParts, Payload, SenderLink, Sending,
@@ -65,8 +66,9 @@ impl Opening {
         }
     }
 
-    /// Takes the server's attach. If the link refuses it, the caller does what the action says: it sends the detach
-    /// that closes the link, or ends the session.
+    /// Takes the server's attach. If the link refuses it, the link is over, and the caller does what the action says:
+    /// it sends the detach that closes the link, or ends the session, or does nothing. With the error `OutOfMemory` it
+    /// is `Nothing` too, though the server takes the link for attached: the caller ends the session.
     pub fn on_attach(mut self, attach: Attach) -> Result<Client, (SenderAttachError, Action)>
         ensures request { IfOk result (λ client. client.request ≡ None) }
         ensures mode { IfOk result (λ client. client.link.snd_settle_mode ≡ self.link.snd_settle_mode) }
@@ -88,7 +90,8 @@ impl Opening {
     }
 }
 
-/// A client whose link is attached.
+/// A client whose link is attached. If the server detaches it, the client is over: `link` has the outcome of the
+/// request (`SenderLink::on_incoming_detach`).
 #[derive(Drop)]
 pub struct Client {
     /// The link.
@@ -140,17 +143,18 @@ impl Client {
         }
     }
 
-    /// Takes the server's disposition of a delivery, and returns the outcome of the request if that gives it
-    /// one. Each outcome is returned once, whatever arrives later.
+    /// Takes the server's disposition of a delivery. It has the outcome of the request, if the disposition gives it one:
+    /// each outcome is returned once, whatever arrives later. If `echo` is set, the server waits for an answer, a
+    /// disposition that settles the delivery: `link.dispose` makes it.
     pub fn on_disposition(
         &mut self,
         settled: bool,
         state: Option<DeliveryState>,
         tag: &DeliveryTag,
-    ) -> Option<DeliveryOutcome>
-        ensures once { IsSome result → (self.old.request ≡ Some tag.now) × (self.new.request ≡ None) }
+    ) -> DispositionAnswer
+        ensures once { IsSome result.outcome → (self.old.request ≡ Some tag.now) × (self.new.request ≡ None) }
         ensures ended { self.old.request ≡ Some tag.now → IsSome (entry_at self.old.link.unsettled tag.now)
-            → does_end settled state ≡ true → result ≡ Some (Ok state) }
+            → does_end settled state ≡ true → result.outcome ≡ Some (tag.now, Ok state) }
     {
         let is_awaited = match &self.request {
             Some(request) => request == tag,
@@ -158,13 +162,15 @@ impl Client {
         };
         if !is_awaited {
             drop(state);
-            return None;
+            return DispositionAnswer {
+                echo: false,
+                outcome: None,
+            };
         }
-        let (_, outcome) = self
-            .link
-            .on_incoming_disposition(settled, state, tag)
-            .outcome?;
-        drop(self.request.take());
-        Some(outcome)
+        let answer = self.link.on_incoming_disposition(settled, state, tag);
+        if answer.outcome.is_some() {
+            drop(self.request.take());
+        }
+        answer
     }
 }

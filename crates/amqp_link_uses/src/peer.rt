@@ -89,7 +89,7 @@ fn send_or_take<L: TakeFlow>(link: &mut L, frame: Frame) -> bool
 
 /// Drives an endpoint by these frames, in order, up to the first that it refuses by its state: an attach or a detach
 /// for which the table of link states has no transition, a flow without output handle. Returns that frame's index, or
-/// none.
+/// none. What the calls return, frames to send and outcomes, is dropped: only the states are asked for.
 pub fn first_refused<L: TakeFlow>(link: &mut L, frames: Vec<Frame>) -> Option<usize>
     requires { L.copies }
     ensures { MatchOption result

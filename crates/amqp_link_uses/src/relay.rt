@@ -1,8 +1,9 @@
 //! A store-and-forward relay: it keeps what it sent until that has an outcome, also when the link is cut.
 //!
-//! Once the link is attached again (`reattach`), the relay sends each delivery of the list that the exchange
-//! of unsettled deliveries returns: the rest from the position that the peer reported (`send_rest`), or all of it if the
-//! peer has nothing (`send_again`). The relay's ledger has the fate of each registration.
+//! Once the link is attached again (`take_attach`), the relay sends what the list of the exchange asks for: the rest of
+//! a delivery from the position that the peer reported (`send_rest`), or all of it if the peer has nothing
+//! (`send_again`). Deliveries that are to be aborted, or whose outcome is to be stated again, are left out here. The
+//! relay's ledger has the fate of each registration.
 
 ghost use Rattle.std.specs.Prelude.{◌≡◌, ◌++◌, List, ℕ, map, false, None, Some, unwrap_or, IfOk, IfErr, OnOk, OnErr, IsSomeAnd};
 ghost use Rattle.std.specs.List.{concat};
@@ -18,58 +19,48 @@ use amqp_link::delivery::{Outcomes, UnsettledMessage};
 use amqp_link::errors::{LinkStateError, SenderAttachError};
 use amqp_link::resumption::ResumingDelivery;
 use amqp_link::sender_link::SenderAttachExchange;
-use amqp_link::types::{Attach, OutputHandle, Target};
-use amqp_link::{DeliveryTag, LinkAttach, LinkExt, LinkFrame, OutcomeLedger, Payload};
-use std::alloc::Global;
+use amqp_link::types::{Attach, Target};
+use amqp_link::{DeliveryTag, LinkAttach, LinkFrame, OutcomeLedger, Payload};
+use std::alloc::{AllocError, Global};
 
-/// What a relay sends when its link is attached again, and the deliveries that are resolved by that.
+/// What follows once a relay's link is attached again.
 #[derive(Drop)]
 pub struct Reattached {
-    /// The relay's attach, which states its unsettled deliveries.
-    pub attach: LinkFrame,
     /// The deliveries to resume, to send again, to abort or to restate, in order, each with its tag.
     pub resuming: Vec<(DeliveryTag, ResumingDelivery)>,
     /// The outcomes of those for which the peer had one.
     pub outcomes: Outcomes,
+    /// Whether an attach did not state all deliveries: once those of the list are sent, the relay detaches the link and
+    /// attaches it again for the others.
+    pub is_incomplete: bool,
 }
 
-/// Attaches a relay's link again at a handle, by its own attach and the peer's.
-pub fn reattach(
+/// Takes the peer's attach, once a relay's link is attached again by its own: the relay has set the new handle by
+/// `output_handle_mut`, and has sent the attach of `send_attach`.
+///
+/// If the attach is refused, the ledger's `handle_attach_error` has what to do. If it is out of memory, nothing has
+/// changed.
+pub fn take_attach(
     alloc: Global,
     ledger: &mut OutcomeLedger<Target>,
-    handle: OutputHandle,
     theirs: Attach,
 ) -> Result<Reattached, SenderAttachError>
     ensures listed { IfOk result (λ again. again.resuming.items
         ≡ deliveries_to_resume ledger.old.link.unsettled (remote_entries theirs)) }
     ensures ended { IfOk result (λ again. again.outcomes.items
         ≡ outcomes_returned ledger.old.link.unsettled (remote_entries theirs)) }
-    ensures handle { OnOk result (ledger.new.link.output_handle ≡ Some handle) }
     ensures fates { OnOk result (ledger.new.records ≡ after
         (Change.HandsOut (deliveries_to_resume ledger.old.link.unsettled (remote_entries theirs)))
         (after (Change.Resolves (outcomes_returned ledger.old.link.unsettled (remote_entries theirs)))
         ledger.old.records)) }
 {
-    *ledger.output_handle_mut() = Some(handle);
-    let (attach, none) = match ledger.send_attach(false) {
-        Ok(sent) => sent,
-        Err(refused) => {
-            drop(theirs);
-            return Err(refused);
-        }
-    };
-    drop(none);
-    match ledger.on_incoming_attach(theirs) {
-        Ok((exchange, outcomes)) => Ok(Reattached {
-            attach,
-            resuming: list_of(alloc, exchange),
-            outcomes,
-        }),
-        Err(refused) => {
-            drop(attach);
-            Err(refused)
-        }
-    }
+    let (exchange, outcomes) = ledger.on_incoming_attach(theirs)?;
+    let is_incomplete = matches!(exchange, SenderAttachExchange::IncompleteUnsettled(_));
+    Ok(Reattached {
+        resuming: list_of(alloc, exchange),
+        outcomes,
+        is_incomplete,
+    })
 }
 
 // The list of an exchange: nothing is to be done if neither side has an unsettled delivery.
@@ -85,62 +76,76 @@ fn list_of(alloc: Global, exchange: SenderAttachExchange) -> Vec<(DeliveryTag, R
 }
 
 /// Sends the rest of a delivery that is resumed, and registers it again with its whole payload. Returns the
-/// transfers to send, in their order. If it is refused, it returns the entry, with nothing changed.
+/// transfers to send, in their order. If it is refused, it returns the entry, with nothing changed: the relay sends it
+/// later, or puts it back under the tag.
 pub fn send_rest(
     ledger: &mut OutcomeLedger<Target>,
-    tag: DeliveryTag,
+    tag: &DeliveryTag,
     entry: UnsettledMessage,
     rest: &Payload,
 ) -> Result<Vec<LinkFrame>, (LinkStateError, UnsettledMessage)>
     ensures whole { IfOk result (λ frames. (held : List ℕ) → held ++ rest.now ≡ entry.payload
         → held ++ concat (map payload_of frames.items) ≡ entry.payload) }
     ensures resumed { IfOk result (λ frames. IsSomeAnd ledger.old.link.output_handle (λ handle.
-        IsSent ledger.old.link (resuming_transfer ledger.old.link handle tag
+        IsSent ledger.old.link (resuming_transfer ledger.old.link handle tag.now
         (delivery_of entry.message_format None None false)) rest.now frames.items)) }
     ensures kept { OnOk result
-        (ledger.new.link.unsettled ≡ with_entry ledger.old.link.unsettled tag entry) }
-    ensures registered { OnOk result (ledger.new.records ≡ after (Change.Enters tag) ledger.old.records) }
+        (ledger.new.link.unsettled ≡ with_entry ledger.old.link.unsettled tag.now entry) }
+    ensures registered { OnOk result (ledger.new.records ≡ after (Change.Enters tag.now) ledger.old.records) }
     ensures back { IfErr result (λ refused. refused.1 ≡ entry) }
     ensures left { OnErr result (ledger.new ≡ ledger.old) }
 {
-    let Ok(named) = tag.clone() else {
-        drop(tag);
+    let Ok((named, own)) = two_of(tag) else {
         return Err((LinkStateError::OutOfMemory, entry));
     };
     let format = entry.message_format;
     let link = ledger.link();
     match link.generate_resuming_transfer_performative(named, format, None, false) {
-        Ok(transfer) => ledger.send_unsettled_transfer(transfer, rest, tag, entry),
+        Ok(transfer) => ledger.send_unsettled_transfer(transfer, rest, own, entry),
         Err(refused) => {
-            drop(tag);
+            drop(own);
             Err((refused, entry))
         }
     }
 }
 
+// Two copies of a tag: one for the transfer, one for the registration.
+fn two_of(tag: &DeliveryTag) -> Result<(DeliveryTag, DeliveryTag), AllocError>
+    ensures { IfOk result (λ tags. (tags.0 ≡ tag.now) × (tags.1 ≡ tag.now)) }
+{
+    let named = tag.clone()?;
+    match tag.clone() {
+        Ok(own) => Ok((named, own)),
+        Err(refused) => {
+            drop(named);
+            Err(refused)
+        }
+    }
+}
+
 /// Sends a delivery again of which the peer has nothing, under the same tag, and registers it again. Returns the
-/// transfers to send, in their order. If it is refused, it returns the entry, with nothing changed.
+/// transfers to send, in their order. If it is refused, it returns the entry, with nothing changed: the relay sends it
+/// later, or puts it back under the tag.
 pub fn send_again(
     ledger: &mut OutcomeLedger<Target>,
-    tag: DeliveryTag,
+    tag: &DeliveryTag,
     entry: UnsettledMessage,
 ) -> Result<Vec<LinkFrame>, (LinkStateError, UnsettledMessage)>
     ensures whole { IfOk result (λ frames. concat (map payload_of frames.items) ≡ entry.payload) }
     ensures sent { IfOk result (λ frames. IsSomeAnd ledger.old.link.output_handle (λ handle.
-        IsSent ledger.old.link (new_transfer ledger.old.link handle tag
+        IsSent ledger.old.link (new_transfer ledger.old.link handle tag.now
         (delivery_of entry.message_format (Some false) None false)) entry.payload frames.items)) }
     ensures kept { OnOk result
-        (ledger.new.link.unsettled ≡ with_entry ledger.old.link.unsettled tag entry) }
-    ensures registered { OnOk result (ledger.new.records ≡ after (Change.Enters tag) ledger.old.records) }
+        (ledger.new.link.unsettled ≡ with_entry ledger.old.link.unsettled tag.now entry) }
+    ensures registered { OnOk result (ledger.new.records ≡ after (Change.Enters tag.now) ledger.old.records) }
     ensures back { IfErr result (λ refused. refused.1 ≡ entry) }
     ensures left { OnErr result (ledger.new ≡ ledger.old) }
 {
-    let Ok(named) = tag.clone() else {
-        drop(tag);
+    let Ok((named, own)) = two_of(tag) else {
         return Err((LinkStateError::OutOfMemory, entry));
     };
     let Ok(whole) = entry.payload.clone() else {
-        drop((tag, named));
+        drop((own, named));
         return Err((LinkStateError::OutOfMemory, entry));
     };
     let format = entry.message_format;
@@ -154,12 +159,12 @@ pub fn send_again(
     );
     match transfer {
         Ok(transfer) => {
-            let sent = ledger.send_unsettled_transfer(transfer, &whole, tag, entry);
+            let sent = ledger.send_unsettled_transfer(transfer, &whole, own, entry);
             drop(whole);
             sent
         }
         Err(refused) => {
-            drop((tag, whole));
+            drop((own, whole));
             Err((refused, entry))
         }
     }

@@ -1,4 +1,6 @@
-//! The shortest callers: one sends a delivery, one receives a delivery of a single transfer and accepts it.
+//! The shortest callers: one sends a delivery, one receives a delivery of a single transfer and accepts it. They leave
+//! out what `client` and `broker` do: the answer to a refused attach, a flow to send back, a delivery of several transfers
+//! or one that is aborted.
 ghost use Rattle.std.specs.Prelude.{◌≡◌, true, false, map, Some, IfOk, IfSome, OnOk, OnErr};
 ghost use Rattle.std.specs.List.{concat};
 ghost use Rattle.amqp_link.specs.Frames.{payload_of};
@@ -26,11 +28,11 @@ pub fn send_one(
     match link.on_incoming_attach(theirs) {
         Ok(exchange) => drop(exchange), // nothing to resume on a new link
         Err(refused) => {
-            drop((refused, flow)); // `handle_attach_error` makes the detach to send
+            drop((refused, flow)); // a client asks `handle_attach_error` what follows
             return Err(LinkStateError::IllegalState);
         }
     }
-    drop(link.on_incoming_flow(flow)); // it grants credit, and may ask for a flow in return
+    drop(link.on_incoming_flow(flow)); // it grants credit; a client sends the flow that this returns
     match link.send_payload(Waiting::Nothing, payload, 0, None, None, false)? {
         Sending::Sent { settlement, frames } => {
             drop(settlement); // the tag under which the outcome comes
@@ -40,7 +42,7 @@ pub fn send_one(
     }
 }
 
-/// Takes a delivery of one transfer off the session.
+/// Takes a delivery of one transfer, whose `more` and `aborted` are not set, off the session.
 pub fn receive_one(
     alloc: Global,
     link: &mut ReceiverLink<Target>,

@@ -120,7 +120,8 @@ fn hand_out(pair: &mut Pair, tag: &DeliveryTag) -> Result<Payload, PairError>
     Ok(pair.hand_out::<Whole>(tag)?.into_message().body.0)
 }
 
-/// Hands a complete delivery out and settles it at both endpoints: the payload that is registered with its tag.
+/// Hands a complete delivery out and settles it at both endpoints: the payload that is registered with its tag. If the
+/// settlement is refused the payload is dropped, and the delivery counts as handed out: this walk ends there.
 pub fn hand_out_and_settle(pair: &mut Pair, tag: &DeliveryTag) -> Result<Payload, PairError>
     requires { IsWorld pair.old }
     ensures { (sent : List ℕ) → IsRegistered pair.old tag.now sent → IfOk result (λ payload. payload ≡ sent) }

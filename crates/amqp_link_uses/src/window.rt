@@ -25,7 +25,7 @@ pub fn keep_open(run: &mut CreditRun, window: u32) -> Result<bool, CreditRunErro
 }
 
 /// Keeps the window open, and takes the next frame under way. Returns the delivery that it completes, if it does: the
-/// first of those under way.
+/// first of those under way. If that frame is refused, the window may have been stated again.
 pub fn take_next(
     run: &mut CreditRun,
     id: u32,

@@ -1,11 +1,13 @@
 //! A broker's core.
 use crate::assertions::{assert_equal, assert_holds, assert_holds_at};
 use crate::samples::{attached_receiver, attached_sender, payload, tag_of};
+use amqp_link::delivery::{DeliveryOutcome, Settlement};
 use amqp_link::types::{Target, Transfer};
 use amqp_link::{
-    Delivery, DeliveryInfo, DeliveryState, IncompleteTransfer, LinkFrame, ReceiverLink, Whole,
+    Delivery, DeliveryInfo, DeliveryState, IncompleteTransfer, LinkExt, LinkFrame, ReceiverLink,
+    SenderLink, Whole,
 };
-use amqp_link_uses::broker::{Arrival, Forwarded, pass_outcome_back, send_on, take_in};
+use amqp_link_uses::broker::{Arrival, Forwarded, send_on, settle_with, take_in};
 use std::process::Abort;
 
 // A transfer of the delivery with id 7 and the tag of the count 5; more is to come, or not.
@@ -18,40 +20,44 @@ fn transfer(rt: &(impl Abort + AllocGlobal), more: bool) -> Transfer {
     }
 }
 
-fn begun(rt: &(impl Abort + AllocGlobal), link: &mut ReceiverLink<Target>) -> IncompleteTransfer {
-    let arrival = take_in(
-        rt.alloc(),
-        link,
-        None,
-        transfer(rt, true),
-        payload(rt, &[1, 2]),
-    );
-    match arrival.expect(rt, "a first transfer") {
-        Arrival::Begun(held) => held,
-        Arrival::Complete(delivery) => {
-            drop(delivery);
-            rt.abort()
-        }
+// Takes in a transfer that does not complete its delivery.
+fn begin(
+    rt: &(impl Abort + AllocGlobal),
+    link: &mut ReceiverLink<Target>,
+    begun: &mut Option<IncompleteTransfer>,
+    transfer: Transfer,
+    bytes: &[u8],
+) -> bool {
+    let arrival = take_in(rt.alloc(), link, begun, transfer, payload(rt, bytes));
+    let is_begun = matches!(&arrival, Ok(Arrival::Begun));
+    drop(arrival);
+    is_begun
+}
+
+// Takes in the last transfer of a delivery.
+fn end(
+    rt: &(impl Abort + AllocGlobal),
+    link: &mut ReceiverLink<Target>,
+    begun: &mut Option<IncompleteTransfer>,
+    transfer: Transfer,
+    bytes: &[u8],
+) -> Delivery<Whole> {
+    let arrival = take_in(rt.alloc(), link, begun, transfer, payload(rt, bytes));
+    match arrival.expect(rt, "a last transfer") {
+        Arrival::Complete(delivery) => delivery,
+        Arrival::Begun | Arrival::Aborted => rt.abort(),
     }
 }
 
 // A delivery of three bytes that has arrived in two transfers.
 fn complete(rt: &(impl Abort + AllocGlobal), link: &mut ReceiverLink<Target>) -> Delivery<Whole> {
-    let held = Some(begun(rt, link));
-    let arrival = take_in(
-        rt.alloc(),
-        link,
-        held,
-        transfer(rt, false),
-        payload(rt, &[3]),
-    );
-    match arrival.expect(rt, "a last transfer") {
-        Arrival::Complete(delivery) => delivery,
-        Arrival::Begun(held) => {
-            drop(held);
-            rt.abort()
-        }
-    }
+    let mut begun = None;
+    let is_begun = begin(rt, link, &mut begun, transfer(rt, true), &[1, 2]);
+    assert_holds(rt, is_begun && begun.is_some());
+    let delivery = end(rt, link, &mut begun, transfer(rt, false), &[3]);
+    assert_holds(rt, begun.is_none());
+    drop(begun);
+    delivery
 }
 
 // How many bytes the first of these frames carries.
@@ -71,7 +77,7 @@ fn delivery_is_sent_on_and_settled(rt: HostRuntime) {
     let mut outgoing = attached_sender(&rt, 1);
     let delivery = complete(&rt, &mut incoming);
     let sent = send_on(&mut outgoing, &delivery).expect(&rt, "memory");
-    let Forwarded { tag, frames } = sent.expect(&rt, "credit");
+    let Forwarded { settlement, frames } = sent.expect(&rt, "credit");
     assert_equal(&rt, &frames.len(), &1);
     assert_equal(&rt, &bytes_in_first(frames.as_slice()), &3);
     drop(frames);
@@ -80,14 +86,72 @@ fn delivery_is_sent_on_and_settled(rt: HostRuntime) {
     drop(again);
     let info = DeliveryInfo::of(&delivery).expect(&rt, "memory");
     drop(delivery);
-    let state = Some(DeliveryState::Accepted);
-    let passed = pass_outcome_back(&mut outgoing, &mut incoming, &tag, &info, true, state);
-    let frame = passed.expect(&rt, "memory").expect(&rt, "a disposition");
+    let outcome = outcome_of(&rt, &mut outgoing, settlement);
+    let frame = settle_with(&mut incoming, &info, &outcome);
+    let frame = frame.expect(&rt, "memory").expect(&rt, "a disposition");
     let LinkFrame::Disposition(disposition) = frame else {
         rt.abort()
     };
     assert_equal(&rt, &disposition.first, &7);
     assert_holds(&rt, disposition.settled);
-    drop((disposition, info, tag));
+    drop((disposition, info, outcome));
     drop((incoming, outgoing));
+}
+
+// The outcome of a delivery that was sent on, once the peer has accepted it.
+fn outcome_of(
+    rt: &impl Abort,
+    outgoing: &mut SenderLink<Target>,
+    settlement: Settlement,
+) -> DeliveryOutcome {
+    let (Settlement::Unsettled(tag) | Settlement::Settled(tag)) = settlement;
+    let accepted = Some(DeliveryState::Accepted);
+    let answer = outgoing.on_incoming_disposition(true, accepted, &tag);
+    drop(tag);
+    assert_holds(rt, !answer.echo);
+    let (own, outcome) = answer.outcome.expect(rt, "an outcome");
+    drop(own);
+    outcome
+}
+
+// A transfer that resumes a delivery has an id of its own; what had arrived before is joined to it.
+#[test]
+fn resumed_delivery_is_taken_in(rt: HostRuntime) {
+    let mut link = attached_receiver(&rt);
+    let mut begun = None;
+    assert_holds(
+        &rt,
+        begin(&rt, &mut link, &mut begun, transfer(&rt, true), &[1, 2]),
+    );
+    let rest = Transfer {
+        delivery_id: Some(9),
+        resume: true,
+        ..transfer(&rt, false)
+    };
+    let delivery = end(&rt, &mut link, &mut begun, rest, &[3]);
+    assert_equal(&rt, &delivery.body().0.as_slice(), &[1, 2, 3].as_slice());
+    drop((delivery, begun));
+    drop(link);
+}
+
+// An aborted delivery leaves nothing, neither bytes nor an entry that a later attach would report.
+#[test]
+fn aborted_delivery_is_forgotten(rt: HostRuntime) {
+    let mut link = attached_receiver(&rt);
+    let mut begun = None;
+    assert_holds(
+        &rt,
+        begin(&rt, &mut link, &mut begun, transfer(&rt, true), &[1, 2]),
+    );
+    assert_equal(&rt, &link.unsettled().len(), &1);
+    let last = Transfer {
+        aborted: true,
+        ..transfer(&rt, false)
+    };
+    let arrival = take_in(rt.alloc(), &mut link, &mut begun, last, payload(&rt, &[3]));
+    assert_holds(&rt, matches!(&arrival, Ok(Arrival::Aborted)));
+    assert_holds(&rt, begun.is_none());
+    assert_equal(&rt, &link.unsettled().len(), &0);
+    drop((arrival, begun));
+    drop(link);
 }

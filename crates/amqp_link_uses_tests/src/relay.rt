@@ -1,12 +1,15 @@
 //! A relay.
-use crate::assertions::assert_equal;
+use crate::assertions::{assert_equal, assert_holds};
 use crate::samples::{attach_of, attached_sender, payload, tag_of};
+use amqp_link::delivery::Outcomes;
 use amqp_link::resumption::ResumingDelivery;
 use amqp_link::types::{
     Attach, Detach, Handle, OutputHandle, Role, SenderSettleMode, Target, UnsettledMap,
 };
-use amqp_link::{DeliveryState, Fate, LinkDetach, OutcomeLedger, Waiting};
-use amqp_link_uses::relay::{Reattached, reattach, send_again, send_rest};
+use amqp_link::{
+    DeliveryState, DeliveryTag, Fate, LinkAttach, LinkDetach, LinkExt, OutcomeLedger, Waiting,
+};
+use amqp_link_uses::relay::{Reattached, send_again, send_rest, take_attach};
 use std::process::Abort;
 
 // A relay that has sent twelve bytes, and was cut off then.
@@ -43,17 +46,31 @@ fn theirs(rt: &(impl Abort + AllocGlobal)) -> Attach {
     attach
 }
 
+// The relay sends its attach again, and takes this one: the deliveries to send, and the outcomes.
+fn reattached(
+    rt: &(impl Abort + AllocGlobal),
+    ledger: &mut OutcomeLedger<Target>,
+    theirs: Attach,
+) -> (Vec<(DeliveryTag, ResumingDelivery)>, Outcomes) {
+    *ledger.output_handle_mut() = Some(OutputHandle(0));
+    drop(ledger.send_attach(false));
+    let answer = take_attach(rt.alloc(), ledger, theirs).ok();
+    let Reattached {
+        resuming,
+        outcomes,
+        is_incomplete,
+    } = answer.expect(rt, "an attach that is accepted");
+    assert_holds(rt, !is_incomplete);
+    (resuming, outcomes)
+}
+
 #[test]
 fn delivery_is_resumed_after_a_cut(rt: HostRuntime) {
     let mut ledger = cut_off(&rt);
-    let answer = reattach(rt.alloc(), &mut ledger, OutputHandle(0), theirs(&rt));
-    let Reattached {
-        attach,
-        resuming,
-        outcomes,
-    } = answer.ok().expect(&rt, "an attach that is accepted");
+    let attach = theirs(&rt);
+    let (resuming, outcomes) = reattached(&rt, &mut ledger, attach);
     assert_equal(&rt, &outcomes.len(), &0);
-    drop((attach, outcomes));
+    drop(outcomes);
     let mut list = resuming.into_iter();
     let (tag, next) = list.next().expect(&rt, "a delivery");
     drop(list);
@@ -61,10 +78,10 @@ fn delivery_is_resumed_after_a_cut(rt: HostRuntime) {
         rt.abort()
     };
     assert_equal(&rt, &rest.as_slice(), &[6, 7, 8, 9, 10, 11, 12].as_slice());
-    let frames = send_rest(&mut ledger, tag, entry, &rest).ok();
+    let frames = send_rest(&mut ledger, &tag, entry, &rest).ok();
     let frames = frames.expect(&rt, "memory");
     assert_equal(&rt, &frames.len(), &1);
-    drop((frames, rest));
+    drop((frames, rest, tag));
     assert_equal(&rt, &ledger.fate(0), &Some(&Fate::HandedOut));
     assert_equal(&rt, &ledger.fate(1), &Some(&Fate::Pending));
     drop(ledger);
@@ -73,23 +90,19 @@ fn delivery_is_resumed_after_a_cut(rt: HostRuntime) {
 #[test]
 fn delivery_is_sent_again_after_a_cut(rt: HostRuntime) {
     let mut ledger = cut_off(&rt);
-    let answer = reattach(rt.alloc(), &mut ledger, OutputHandle(0), bare(&rt));
-    let Reattached {
-        attach,
-        resuming,
-        outcomes,
-    } = answer.ok().expect(&rt, "an attach that is accepted");
-    drop((attach, outcomes));
+    let attach = bare(&rt);
+    let (resuming, outcomes) = reattached(&rt, &mut ledger, attach);
+    drop(outcomes);
     let mut list = resuming.into_iter();
     let (tag, next) = list.next().expect(&rt, "a delivery");
     drop(list);
     let ResumingDelivery::Resend(entry) = next else {
         rt.abort()
     };
-    let frames = send_again(&mut ledger, tag, entry).ok();
+    let frames = send_again(&mut ledger, &tag, entry).ok();
     let frames = frames.expect(&rt, "memory");
     assert_equal(&rt, &frames.len(), &1);
-    drop(frames);
+    drop((frames, tag));
     assert_equal(&rt, &ledger.fate(0), &Some(&Fate::HandedOut));
     assert_equal(&rt, &ledger.fate(1), &Some(&Fate::Pending));
     drop(ledger);

@@ -96,7 +96,7 @@ impl Compared {
     }
 }
 
-/// The row of a line, compared, or that the line is no row.
+/// The row of a line, compared, or that the line is no row, or that it is out of memory.
 pub fn compare(alloc: Global, line: &[u8]) -> Result<Compared, RowError> {
     let mut reader = Reader::new(alloc, line);
     let kind = read_kind(&mut reader)?;

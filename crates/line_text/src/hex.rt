@@ -6,7 +6,7 @@ ghost use Rattle.line_text.specs.Hex.{IsHexText, hex_bytes};
 use crate::digits::{are_digits, hex_value};
 use std::alloc::{AllocError, Global};
 
-/// The bytes that `text` states in digits of either case, or `None` if it states none.
+/// The bytes that `text` states in digits of either case, or `None` if it is no such text.
 ///
 /// Allocates only if `text` is pairs of digits.
 pub fn parse_bytes(alloc: Global, text: &[u8]) -> Result<Option<Vec<u8>>, AllocError>

@@ -45,7 +45,7 @@ impl Verdict {
 /// Replays the rows in `input`. Empty lines and those that begin with `#` are skipped.
 ///
 /// Writes each row that does not agree to `output`, and at the end how many rows of each type do. A line that
-/// is no row ends the replay, and is written instead. Returns 0 if all rows agree, 1 if some do not, 2 at a
+/// is no row ends the replay, and its number is written in place of how many agree. Returns 0 if all rows agree, 1 if some do not, 2 at a
 /// line that is no row, and 3 if reading or writing fails, or if it is out of memory.
 pub fn replay<R: BufRead, W: Write>(alloc: Global, input: &mut R, output: &mut W) -> u8
     ensures { result ≤ 3 }
