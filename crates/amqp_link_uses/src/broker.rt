@@ -177,7 +177,7 @@ pub fn settle_with(
     info: &DeliveryInfo,
     outcome: &DeliveryOutcome,
 ) -> Result<Option<LinkFrame>, DispositionError>
-    ensures frame { IfOk result (λ frame. Ok frame ≡ disposition_of_one (Some true) link.old.rcv_settle_mode
+    ensures frame { IfOk result (λ frame. frame ≡ disposition_of_one (Some true) link.old.rcv_settle_mode
         (state_for outcome.now) false info.now link.old.unsettled) }
     ensures after { OnOk result (link.new ≡ record link.old {
       unsettled = after_one true (state_for outcome.now) info.now.delivery_tag link.old.unsettled;
