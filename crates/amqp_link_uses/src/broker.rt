@@ -35,8 +35,8 @@ pub enum Arrival {
 /// after it; a delivery that is complete or given up leaves none. The link reports it in a later attach, so the broker
 /// keeps it while the link is cut: the sender then resumes the delivery, and the first transfer of that joins it.
 ///
-/// If it is refused, what had arrived is kept, with this transfer's bytes or without them. A last transfer may be
-/// refused as it is handed out, for want of memory or of credit: `complete` hands it out later.
+/// If it is refused, what had arrived is kept, with this transfer's bytes or without them. If a last transfer has arrived
+/// but is not handed out, since the call is out of memory or there is no credit, `complete` hands it out later.
 pub fn take_in(
     alloc: Global,
     link: &mut ReceiverLink<Target>,
