@@ -15,6 +15,7 @@ fn numbers_are_read(rt: HostRuntime) {
         ("+1", None),
         ("-1", None),
         ("1 ", None),
+        ("1:", None),
         ("0x1e", None),
     ] {
         assert_eq!(rt; parse_unsigned(text.as_bytes()), *number, "at {text:?}");
@@ -61,9 +62,9 @@ fn bytes_are_read(rt: HostRuntime) -> Result<(), Fail> {
 
 #[test]
 fn lines_are_read_without_their_ends(rt: HostRuntime) -> Result<(), Fail> {
-    let mut input = b"one\ntwo\r\n\nthree\r".as_slice();
+    let mut input = b"one\t\ntwo\r\n\nthree\r".as_slice();
     let mut line = Vec::new(rt.alloc());
-    for wanted in [b"one".as_slice(), b"two", b"", b"three\r"] {
+    for wanted in [b"one\t".as_slice(), b"two", b"", b"three\r"] {
         assert!(rt; read_line(&mut input, &mut line)?);
         assert_eq!(rt; line.as_slice(), wanted);
     }
