@@ -5,8 +5,7 @@ use amqp_link_types::types::{
     DeliveryState, DeliveryTag, ReceiverTransferError as Refused, Transfer,
 };
 use bytes::Bytes;
-use std::alloc::{AllocError, Global};
-use std::test::Fail;
+use std::process::Abort;
 
 mod resuming;
 
@@ -16,7 +15,6 @@ enum Shown {
     Nothing,
     Front,
     Accepted,
-    Released,
 }
 
 // The fields of a transfer, its tag as one byte.
@@ -45,6 +43,28 @@ const FIRST: Row = Row {
     state: Shown::Nothing,
 };
 
+// Whether a transfer is taken, and why it is not.
+#[derive(Clone, Copy, Debug, PartialEq, Eq)]
+enum Answer {
+    Taken,
+    NoId,
+    NoTag,
+    Inconsistent,
+    Other,
+}
+
+fn answer_of<T: Drop>(answer: Result<T, Refused>) -> Answer {
+    let shown = match &answer {
+        Ok(_) => Answer::Taken,
+        Err(Refused::DeliveryIdIsNone) => Answer::NoId,
+        Err(Refused::DeliveryTagIsNone) => Answer::NoTag,
+        Err(Refused::InconsistentFieldInMultiFrameDelivery) => Answer::Inconsistent,
+        Err(_) => Answer::Other,
+    };
+    drop(answer);
+    shown
+}
+
 fn state_of(shown: Shown) -> Option<DeliveryState> {
     match shown {
         Shown::Nothing => None,
@@ -53,7 +73,6 @@ fn state_of(shown: Shown) -> Option<DeliveryState> {
             section_offset: 2,
         }),
         Shown::Accepted => Some(DeliveryState::Accepted),
-        Shown::Released => Some(DeliveryState::Released),
     }
 }
 
@@ -61,28 +80,25 @@ fn shown_by(state: &Option<DeliveryState>) -> Shown {
     match state {
         Some(DeliveryState::Received { .. }) => Shown::Front,
         Some(DeliveryState::Accepted) => Shown::Accepted,
-        Some(DeliveryState::Released) => Shown::Released,
         _ => Shown::Nothing,
     }
 }
 
-fn tag_of(alloc: Global, tag: Option<u8>) -> Result<Option<DeliveryTag>, AllocError> {
-    match tag {
-        Some(byte) => Ok(Some(DeliveryTag::from(vec![in alloc; byte]?))),
-        None => Ok(None),
-    }
+fn tag_of(rt: &(impl Abort + AllocGlobal), tag: Option<u8>) -> Option<DeliveryTag> {
+    let byte = tag?;
+    let bytes = vec![in rt.alloc(); byte].expect(rt, "memory");
+    Some(DeliveryTag::from(bytes))
 }
 
-fn transfer_of(alloc: Global, row: Row) -> Result<Transfer, AllocError> {
-    let delivery_tag = tag_of(alloc, row.tag)?;
-    Ok(Transfer {
+fn transfer_of(rt: &(impl Abort + AllocGlobal), row: Row) -> Transfer {
+    Transfer {
         delivery_id: row.id,
-        delivery_tag,
+        delivery_tag: tag_of(rt, row.tag),
         message_format: row.format,
         settled: row.settled,
         state: state_of(row.state),
         ..Transfer::default()
-    })
+    }
 }
 
 fn row_of(transfer: &Transfer) -> Row {
@@ -98,220 +114,201 @@ fn row_of(transfer: &Transfer) -> Row {
     }
 }
 
-fn start(alloc: Global, row: Row, payload: &'static [u8]) -> Result<IncompleteTransfer, Refused> {
-    let transfer = transfer_of(alloc, row)?;
-    IncompleteTransfer::start(alloc, transfer, Bytes::from_static(payload))
+fn begun(
+    rt: &(impl Abort + AllocGlobal),
+    row: Row,
+    payload: &'static [u8],
+) -> Result<IncompleteTransfer, Refused> {
+    IncompleteTransfer::start(
+        rt.alloc(),
+        transfer_of(rt, row),
+        Bytes::from_static(payload),
+    )
+}
+
+fn start(rt: &(impl Abort + AllocGlobal), row: Row, payload: &'static [u8]) -> IncompleteTransfer {
+    begun(rt, row, payload).expect(rt, "a first transfer")
 }
 
 fn append(
+    rt: &(impl Abort + AllocGlobal),
     held: &mut IncompleteTransfer,
-    alloc: Global,
     row: Row,
     payload: &'static [u8],
-) -> Result<(), Refused> {
-    let transfer = transfer_of(alloc, row)?;
-    held.try_append(transfer, Bytes::from_static(payload))
+) -> Answer {
+    answer_of(held.try_append(transfer_of(rt, row), Bytes::from_static(payload)))
 }
 
 // The fields, how many pieces, in what size and position.
-fn seen(held: &IncompleteTransfer) -> (Row, usize, u64, (u32, u64)) {
+type Seen = (Row, usize, u64, (u32, u64));
+
+fn seen(held: &IncompleteTransfer) -> Seen {
     (
         row_of(held.performative()),
         held.pieces().len(),
         held.accumulated_payload_size(),
-        (held.section_number(), held.section_offset()),
+        held.position(),
     )
 }
 
-fn refusal(answer: Result<IncompleteTransfer, Refused>) -> Option<Refused> {
-    answer.err()
+// The answer to an append, and the delivery after it.
+fn appended(
+    rt: &(impl Abort + AllocGlobal),
+    held: &mut IncompleteTransfer,
+    row: Row,
+    payload: &'static [u8],
+) -> (Answer, Seen) {
+    (append(rt, held, row, payload), seen(held))
 }
 
 #[test]
 fn first_transfer_names_delivery(rt: HostRuntime) {
-    let alloc = rt.alloc();
-    let rows = [
-        (None, Some(1), Refused::DeliveryIdIsNone, "no id"),
-        (Some(0), None, Refused::DeliveryTagIsNone, "no tag"),
-        (None, None, Refused::DeliveryIdIsNone, "neither"),
-    ];
-    for (id, tag, want, message) in rows {
-        let row = Row { id, tag, ..BARE };
-        assert_equal_at(&rt, &refusal(start(alloc, row, b"")), &Some(want), &message);
-    }
+    let unnamed = Row { id: None, ..FIRST };
+    let answer = answer_of(begun(&rt, unnamed, b""));
+    assert_equal_at(&rt, &answer, &Answer::NoId, &"no id");
+    let untagged = Row { tag: None, ..FIRST };
+    let answer = answer_of(begun(&rt, untagged, b""));
+    assert_equal_at(&rt, &answer, &Answer::NoTag, &"no tag");
 }
 
-#[test]
-fn continuation_fits_delivery(rt: HostRuntime) -> Result<(), Fail> {
-    let alloc = rt.alloc();
-    let mut held = start(alloc, FIRST, b"\x00\x53\x70\xc0")?;
-    let others = [
-        (None, Some(2), None, "another tag"),
-        (Some(1), None, None, "another id"),
-        (None, None, Some(1), "another format"),
-    ];
-    for (id, tag, format, message) in others {
-        let row = Row {
-            id,
-            tag,
-            format,
+// Whether a delivery takes a transfer of this tag for its own.
+fn is_same(rt: &(impl Abort + AllocGlobal), held: &IncompleteTransfer, tag: Option<u8>) -> bool {
+    let transfer = transfer_of(rt, Row { tag, ..BARE });
+    let is_same = held.is_same_delivery_as(&transfer);
+    drop(transfer);
+    is_same
+}
+
+const OTHERS: &[(Row, &str)] = &[
+    (
+        Row {
+            tag: Some(2),
             ..BARE
-        };
-        let answer = append(&mut held, alloc, row, b"\x00\x53\x75");
-        assert_equal_at(
-            &rt,
-            &answer,
-            &Err(Refused::InconsistentFieldInMultiFrameDelivery),
-            &message,
-        );
-        assert_equal_at(&rt, &seen(&held), &(FIRST, 1, 4, (0, 4)), &message);
-    }
-    assert_equal(&rt, &append(&mut held, alloc, BARE, &[1; 17]), &Ok(()));
-    assert_equal(&rt, &seen(&held), &(FIRST, 2, 21, (0, 21)));
-    assert_equal(&rt, &append(&mut held, alloc, FIRST, b""), &Ok(()));
-    assert_equal(&rt, &seen(&held), &(FIRST, 3, 21, (0, 21)));
-    assert_equal(&rt, &held.delivery_tag().as_bytes(), &[1].as_slice());
-    drop(held);
-    Ok(())
-}
-
-// Whether the delivery of tag 01 takes a transfer of this tag for its own.
-fn is_same(held: &IncompleteTransfer, alloc: Global, tag: Option<u8>) -> Result<bool, AllocError> {
-    let transfer = transfer_of(alloc, Row { tag, ..BARE })?;
-    Ok(held.is_same_delivery_as(&transfer))
-}
+        },
+        "another tag",
+    ),
+    (
+        Row {
+            id: Some(1),
+            ..BARE
+        },
+        "another id",
+    ),
+    (
+        Row {
+            format: Some(1),
+            ..BARE
+        },
+        "another format",
+    ),
+];
 
 #[test]
-fn delivery_is_known_by_tag(rt: HostRuntime) -> Result<(), Fail> {
-    let alloc = rt.alloc();
-    let held = start(alloc, FIRST, b"")?;
-    for (tag, want) in [(Some(1), true), (None, true), (Some(2), false)] {
-        assert_equal_at(&rt, &is_same(&held, alloc, tag), &Ok(want), &tag);
+fn continuation_fits_delivery(rt: HostRuntime) {
+    let mut held = start(&rt, FIRST, b"\x00\x53\x70\xc0");
+    let unchanged = (Answer::Inconsistent, (FIRST, 1, 4, (0, 4)));
+    for (row, message) in OTHERS {
+        let refused = appended(&rt, &mut held, *row, b"\x00\x53\x75");
+        assert_equal_at(&rt, &refused, &unchanged, message);
     }
+    let longer = appended(&rt, &mut held, BARE, &[1; 17]);
+    let same = [
+        is_same(&rt, &held, Some(1)),
+        is_same(&rt, &held, None),
+        is_same(&rt, &held, Some(2)),
+    ];
     drop(held);
-    Ok(())
+    assert_equal(&rt, &longer, &(Answer::Taken, (FIRST, 2, 21, (0, 21))));
+    assert_equal(&rt, &same, &[true, true, false]);
 }
 
-// The state of a delivery of two such transfers.
+// The flag and the state of a delivery of two such transfers.
 fn merged(
-    alloc: Global,
+    rt: &(impl Abort + AllocGlobal),
     first: (Option<bool>, Shown),
     then: (Option<bool>, Shown),
-) -> Result<(Option<bool>, Shown), Refused> {
-    let mut held = start(
-        alloc,
-        Row {
-            settled: first.0,
-            state: first.1,
-            ..FIRST
-        },
-        b"",
-    )?;
+) -> (Option<bool>, Shown) {
+    let opening = Row {
+        settled: first.0,
+        state: first.1,
+        ..FIRST
+    };
     let next = Row {
         settled: then.0,
         state: then.1,
         ..BARE
     };
-    let answer = append(&mut held, alloc, next, b"");
-    let row = row_of(held.performative());
-    answer.map(|_| (row.settled, row.state))
+    let mut held = start(rt, opening, b"");
+    let row = appended(rt, &mut held, next, b"").1.0;
+    drop(held);
+    (row.settled, row.state)
 }
 
 #[test]
 fn settlement_and_outcome_stay(rt: HostRuntime) {
-    let alloc = rt.alloc();
-    let (yes, no) = (Some(true), Some(false));
-    let (nothing, front, accepted) = (Shown::Nothing, Shown::Front, Shown::Accepted);
-    let rows = [
-        ((yes, nothing), (no, nothing), (yes, nothing), "true stays"),
-        (
-            (no, nothing),
-            (yes, nothing),
-            (yes, nothing),
-            "true comes later",
-        ),
-        (
-            (None, nothing),
-            (no, nothing),
-            (no, nothing),
-            "false comes later",
-        ),
-        (
-            (None, accepted),
-            (None, front),
-            (None, accepted),
-            "an outcome stays",
-        ),
-        (
-            (None, front),
-            (None, accepted),
-            (None, accepted),
-            "an outcome comes later",
-        ),
-        (
-            (None, Shown::Released),
-            (None, accepted),
-            (None, Shown::Released),
-            "the first outcome stays",
-        ),
-    ];
-    for (first, then, want, message) in rows {
-        assert_equal_at(&rt, &merged(alloc, first, then), &Ok(want), &message);
+    let (yes, no) = ((Some(true), Shown::Nothing), (Some(false), Shown::Nothing));
+    assert_equal_at(&rt, &merged(&rt, yes, no), &yes, &"true stays");
+    let (accepted, front) = ((None, Shown::Accepted), (None, Shown::Front));
+    assert_equal_at(
+        &rt,
+        &merged(&rt, accepted, front),
+        &accepted,
+        &"an outcome stays",
+    );
+}
+
+fn of_format(format: u32) -> Row {
+    Row {
+        format: Some(format),
+        ..BARE
     }
 }
 
 #[test]
-fn first_format_stays(rt: HostRuntime) -> Result<(), Fail> {
-    let alloc = rt.alloc();
-    let of_format = |format: u32| Row {
-        format: Some(format),
-        ..BARE
+fn first_format_stays(rt: HostRuntime) {
+    let opening = Row {
+        format: None,
+        ..FIRST
     };
-    let merged = Row {
+    let mut held = start(&rt, opening, b"");
+    let second = appended(&rt, &mut held, of_format(2), b"");
+    let third = appended(&rt, &mut held, of_format(3), b"\x41");
+    drop(held);
+    let row = Row {
         format: Some(2),
         ..FIRST
     };
-    let mut held = start(
-        alloc,
-        Row {
-            format: None,
-            ..FIRST
-        },
-        b"",
-    )?;
-    assert_equal(&rt, &append(&mut held, alloc, of_format(2), b""), &Ok(()));
-    assert_equal(&rt, &seen(&held), &(merged, 2, 0, (0, 0)));
-    assert_equal(
-        &rt,
-        &append(&mut held, alloc, of_format(3), b"\x41"),
-        &Err(Refused::InconsistentFieldInMultiFrameDelivery),
-    );
-    assert_equal(&rt, &seen(&held), &(merged, 2, 0, (0, 0)));
-    drop(held);
-    Ok(())
+    let wanted = (row, 2, 0, (0, 0));
+    assert_equal(&rt, &second, &(Answer::Taken, wanted));
+    assert_equal(&rt, &third, &(Answer::Inconsistent, wanted));
 }
 
 // The fields, the number of pieces, and the position of a delivery that is taken apart.
 fn parts_of(held: IncompleteTransfer) -> (Row, usize, (u32, u64)) {
     let (transfer, pieces, number, offset) = held.into_parts();
-    (row_of(&transfer), pieces.len(), (number, offset))
+    let parts = (row_of(&transfer), pieces.len(), (number, offset));
+    drop((transfer, pieces));
+    parts
+}
+
+fn copy_of(rt: &impl Abort, held: &IncompleteTransfer) -> IncompleteTransfer {
+    held.clone().expect(rt, "memory")
 }
 
 #[test]
-fn position_is_of_joined_pieces(rt: HostRuntime) -> Result<(), Fail> {
-    let alloc = rt.alloc();
-    let mut held = start(alloc, FIRST, b"\x00\x53\x70\xc0\x00")?;
-    assert_equal(&rt, &seen(&held), &(FIRST, 1, 5, (0, 5)));
-    assert_equal(&rt, &append(&mut held, alloc, BARE, b""), &Ok(()));
-    assert_equal(
-        &rt,
-        &append(&mut held, alloc, BARE, b"\x53\x77\x41"),
-        &Ok(()),
-    );
-    assert_equal(&rt, &seen(&held), &(FIRST, 3, 8, (1, 4)));
-    let copy = held.clone().expect(&rt, "memory");
-    assert_equal(&rt, &seen(&copy), &(FIRST, 3, 8, (1, 4)));
-    assert_equal(&rt, &parts_of(held), &(FIRST, 3, (1, 4)));
-    assert_equal(&rt, &parts_of(copy), &(FIRST, 3, (1, 4)));
-    Ok(())
+fn position_is_of_joined_pieces(rt: HostRuntime) {
+    let mut held = start(&rt, FIRST, b"\x00\x53\x70\xc0\x00");
+    let first = seen(&held);
+    let empty = appended(&rt, &mut held, BARE, b"");
+    let last = appended(&rt, &mut held, BARE, b"\x53\x77\x41");
+    let copy = copy_of(&rt, &held);
+    let copied = seen(&copy);
+    let parts = (parts_of(held), parts_of(copy));
+    let joined = (FIRST, 3, 8, (1, 4));
+    assert_equal(&rt, &first, &(FIRST, 1, 5, (0, 5)));
+    assert_equal(&rt, &empty, &(Answer::Taken, (FIRST, 2, 5, (0, 5))));
+    assert_equal(&rt, &last, &(Answer::Taken, joined));
+    assert_equal(&rt, &copied, &joined);
+    let apart = (FIRST, 3, (1, 4));
+    assert_equal(&rt, &parts, &(apart, apart));
 }

@@ -4,12 +4,8 @@
 #[cfg(test)]
 mod assertions;
 #[cfg(test)]
-mod dividing;
+mod attached;
 #[cfg(test)]
 mod incomplete_transfer;
 #[cfg(test)]
 mod positions_kept;
-#[cfg(test)]
-mod properties;
-#[cfg(test)]
-mod resumption;

@@ -1,101 +1,109 @@
 // Positions that are kept as payloads arrive, worked out by hand.
-use crate::assertions::assert_equal_at;
+use crate::assertions::{assert_equal_at, assert_holds_at};
 use amqp_link_core::position_carry::PositionCarry;
 use bytes::Bytes;
-use std::alloc::{AllocError, Global};
-use std::test::Fail;
+use std::process::Abort;
 
-// Pushes one byte, and an empty payload after it.
-fn push_byte(carry: &mut PositionCarry, alloc: Global, byte: u8) -> Result<(), AllocError> {
-    let payload = Bytes::copy_from_slice(alloc, &[byte])?;
-    let pushed = carry.push(&payload).is_ok() && carry.push(&Bytes::new()).is_ok();
+fn piece(rt: &(impl Abort + AllocGlobal), bytes: &[u8]) -> Bytes {
+    Bytes::copy_from_slice(rt.alloc(), bytes).expect(rt, "memory")
+}
+
+fn push(rt: &impl Abort, carry: &mut PositionCarry, payload: Bytes) {
+    let is_pushed = carry.push(&payload).is_ok();
     drop(payload);
-    if pushed { Ok(()) } else { Err(AllocError) }
+    assert_holds_at(rt, is_pushed, &"a payload");
 }
 
 // The positions after each byte, pushed one by one with an empty payload between any two; 0 and 0 past the
 // last.
-fn after_each_byte(alloc: Global, bytes: &[u8]) -> Result<[(u32, u64); 8], AllocError> {
+fn after_each_byte(rt: &(impl Abort + AllocGlobal), bytes: &[u8]) -> [(u32, u64); 8] {
     let mut carry = PositionCarry::new();
     let mut positions = [(0, 0); 8];
     for (index, byte) in bytes.iter().enumerate() {
-        push_byte(&mut carry, alloc, *byte)?;
+        push(rt, &mut carry, piece(rt, &[*byte]));
+        push(rt, &mut carry, Bytes::new());
         if let Some(position) = positions.get_mut(index) {
             *position = carry.position();
         }
     }
-    Ok(positions)
+    positions
 }
 
+const NONE: (u32, u64) = (0, 0);
+
+const STEPS: &[(&[u8], [(u32, u64); 8], &str)] = &[
+    (
+        b"\x00\x53\x70\xc0\x00\x53\x77\x41",
+        [
+            (0, 1),
+            (0, 2),
+            (0, 3),
+            (0, 4),
+            (0, 5),
+            (0, 6),
+            (1, 3),
+            (1, 4),
+        ],
+        "the first header begins the payload",
+    ),
+    (
+        b"\x00\x00\x53\x70",
+        [(0, 1), (0, 2), (0, 3), (1, 3), NONE, NONE, NONE, NONE],
+        "a header after a zero byte",
+    ),
+    (
+        b"\x00\x53\x00\x53\x75",
+        [(0, 1), (0, 2), (0, 3), (0, 4), (1, 3), NONE, NONE, NONE],
+        "a header that begins anew",
+    ),
+];
+
 #[test]
-fn each_byte_moves_the_position(rt: HostRuntime) -> Result<(), Fail> {
-    let alloc = rt.alloc();
-    let none = (0, 0);
-    let two_sections = after_each_byte(alloc, b"\x00\x53\x70\xc0\x00\x53\x77\x41")?;
-    let steps = [
-        (0, 1),
-        (0, 2),
-        (0, 3),
-        (0, 4),
-        (0, 5),
-        (0, 6),
-        (1, 3),
-        (1, 4),
-    ];
-    assert_equal_at(
-        &rt,
-        &two_sections,
-        &steps,
-        &"the first header begins the payload",
-    );
-    let after_a_zero = after_each_byte(alloc, b"\x00\x00\x53\x70")?;
-    let steps = [(0, 1), (0, 2), (0, 3), (1, 3), none, none, none, none];
-    assert_equal_at(&rt, &after_a_zero, &steps, &"a header after a zero byte");
-    let broken_off = after_each_byte(alloc, b"\x00\x53\x00\x53\x75")?;
-    let steps = [(0, 1), (0, 2), (0, 3), (0, 4), (1, 3), none, none, none];
-    assert_equal_at(&rt, &broken_off, &steps, &"a header that begins anew");
-    Ok(())
+fn each_byte_moves_the_position(rt: HostRuntime) {
+    for (bytes, positions, message) in STEPS {
+        assert_equal_at(&rt, &after_each_byte(&rt, bytes), positions, message);
+    }
 }
 
 // 200 bytes of text, with a header from this place on.
-fn text_with_header(alloc: Global, place: usize) -> Result<Vec<u8>, AllocError> {
-    let mut bytes = vec![in alloc; 0x41; 200]?;
+fn text_with_header(rt: &(impl Abort + AllocGlobal), place: usize) -> Vec<u8> {
+    let mut bytes = vec![in rt.alloc(); 0x41; 200].expect(rt, "memory");
     for (index, byte) in [0x00, 0x53, 0x75].iter().enumerate() {
         if let Some(at) = bytes.get_mut(place.wrapping_add(index)) {
             *at = *byte;
         }
     }
-    Ok(bytes)
+    bytes
 }
 
 // The position after the bytes up to a place and the rest are pushed, and their number.
-fn pushed_in_two(alloc: Global, bytes: &[u8], cut: usize) -> Result<((u32, u64), u64), AllocError> {
+fn pushed_in_two(rt: &(impl Abort + AllocGlobal), bytes: &[u8], cut: usize) -> ((u32, u64), u64) {
     let (front, rest) = bytes.split_at(cut.min(bytes.len()));
-    let front = Bytes::copy_from_slice(alloc, front)?;
-    let rest = Bytes::copy_from_slice(alloc, rest)?;
     let mut carry = PositionCarry::new();
-    let both = carry.push(&front).is_ok() && carry.push(&rest).is_ok();
-    drop((front, rest));
-    if both {
-        Ok((carry.position(), carry.len()))
-    } else {
-        Err(AllocError)
+    push(rt, &mut carry, piece(rt, front));
+    push(rt, &mut carry, piece(rt, rest));
+    (carry.position(), carry.len())
+}
+
+// The first place of a cut, if there is any, after which a header from this place on is not found.
+fn first_missed(rt: &(impl Abort + AllocGlobal), place: usize) -> Option<usize> {
+    let bytes = text_with_header(rt, place);
+    let offset = 200u64.saturating_sub(place as u64);
+    let mut missed = None;
+    for cut in 60..74 {
+        if pushed_in_two(rt, bytes.as_slice(), cut) != ((1, offset), 200) {
+            missed = missed.or(Some(cut));
+        }
     }
+    drop(bytes);
+    missed
 }
 
 // Blocks of 66 bytes are tested at once: a header at each place near their borders is found, wherever the
 // payload is cut near it.
 #[test]
-fn headers_at_the_borders_of_blocks_are_found(rt: HostRuntime) -> Result<(), Fail> {
-    let alloc = rt.alloc();
-    for place in 62..70 {
-        let bytes = text_with_header(alloc, place)?;
-        for cut in 60..74 {
-            let shown = pushed_in_two(alloc, bytes.as_slice(), cut)?;
-            let wanted = ((1, 200 - place as u64), 200);
-            assert_equal_at(&rt, &shown, &wanted, &(place, cut));
-        }
-        drop(bytes);
+fn headers_at_the_borders_of_blocks_are_found(rt: HostRuntime) {
+    for place in 62..70usize {
+        assert_equal_at(&rt, &first_missed(&rt, place), &None, &place);
     }
-    Ok(())
 }

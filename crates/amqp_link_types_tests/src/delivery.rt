@@ -1,68 +1,70 @@
-//! The outcome of a delivery, by each of the calls that end it.
-mod complete;
-
-use crate::assertions::assert_equal_at;
-use amqp_link_types::delivery::{DeliveryOutcome, UnsettledMessage};
-use amqp_link_types::types::{DeliveryState, LinkStateError};
+//! What no clause states of complete deliveries: their text, and that each call succeeds while there is
+//! memory.
+use crate::assertions::{assert_equal_at, assert_holds_at};
+use amqp_link_types::delivery::{Delivery, DeliveryInfo};
+use amqp_link_types::types::{DeliveryTag, Message, OutputHandle, ReceiverSettleMode};
 use bytes::Bytes;
+use std::process::Abort;
 
-// The kind of an outcome.
-#[derive(Clone, Copy, Debug, PartialEq, Eq)]
-enum Shown {
-    Nothing,
-    Accepted,
-    Released,
-    Closed,
-    Other,
+fn info(rt: &(impl Abort + AllocGlobal)) -> DeliveryInfo {
+    let bytes = vec![in rt.alloc(); 0x01, 0xFF].expect(rt, "memory");
+    DeliveryInfo::new(
+        3,
+        DeliveryTag::from(bytes),
+        Some(ReceiverSettleMode::Second),
+    )
 }
 
-fn shown_by(outcome: DeliveryOutcome) -> Shown {
-    let actual = match &outcome {
-        Ok(None) => Shown::Nothing,
-        Ok(Some(DeliveryState::Accepted)) => Shown::Accepted,
-        Ok(Some(DeliveryState::Released)) => Shown::Released,
-        Err(LinkStateError::RemoteClosed) => Shown::Closed,
-        _ => Shown::Other,
-    };
-    drop(outcome);
-    actual
+// A message of two bytes, a text and one byte after it.
+fn message(rt: &(impl Abort + AllocGlobal)) -> Message<String> {
+    Message {
+        preamble: Bytes::from_static(&[1, 2]),
+        body: String::from_str(rt.alloc(), "hi").expect(rt, "memory"),
+        footer: Bytes::from_static(&[3]),
+    }
 }
 
-// A delivery that the peer has accepted.
-fn accepted() -> UnsettledMessage {
-    UnsettledMessage::new(Bytes::new(), Some(DeliveryState::Accepted), 0)
+fn delivery(rt: &(impl Abort + AllocGlobal)) -> Delivery<String> {
+    Delivery::new(OutputHandle(7), info(rt), Some(9), message(rt))
 }
 
-fn settled() -> Shown {
-    shown_by(accepted().settle())
-}
-
-fn released() -> Shown {
-    shown_by(accepted().settle_with_state(Some(DeliveryState::Released)))
-}
-
-fn settled_without_a_state() -> Shown {
-    shown_by(accepted().settle_with_state(None))
-}
-
-fn failed() -> Shown {
-    shown_by(accepted().fail(LinkStateError::RemoteClosed))
+// Whether the delivery is shown as this text.
+fn is_shown(rt: &(impl Abort + AllocGlobal), delivery: Delivery<String>, words: &str) -> bool {
+    let text = format!(in rt.alloc(); "{delivery}").expect(rt, "memory");
+    let is_shown = text.as_str() == words;
+    drop((delivery, text));
+    is_shown
 }
 
 #[test]
-fn deliveries_end(rt: HostRuntime) {
-    assert_equal_at(
-        &rt,
-        &settled(),
-        &Shown::Accepted,
-        &"with the state that is known",
-    );
-    assert_equal_at(&rt, &released(), &Shown::Released, &"with another state");
-    assert_equal_at(
-        &rt,
-        &settled_without_a_state(),
-        &Shown::Nothing,
-        &"without a state",
-    );
-    assert_equal_at(&rt, &failed(), &Shown::Closed, &"for a reason");
+fn delivery_is_shown_as_text(rt: HostRuntime) {
+    let text = "Delivery { delivery_id: 3, delivery_tag: 0x01ff, message.body: hi }";
+    assert_holds_at(&rt, is_shown(&rt, delivery(&rt), text), &"a text");
+}
+
+// The id, whether the tag is 01 ff, and the mode.
+fn seen(info: DeliveryInfo) -> (u32, bool, Option<ReceiverSettleMode>) {
+    let is_tag = info.delivery_tag().as_bytes() == [0x01, 0xFF].as_slice();
+    let seen = (info.delivery_id(), is_tag, info.rcv_settle_mode());
+    drop(info);
+    seen
+}
+
+fn info_of(rt: &impl Abort, delivery: Delivery<String>) -> DeliveryInfo {
+    let info = DeliveryInfo::of(&delivery).expect(rt, "memory");
+    drop(delivery);
+    info
+}
+
+fn copy_of(rt: &impl Abort, info: &DeliveryInfo) -> DeliveryInfo {
+    info.clone().expect(rt, "memory")
+}
+
+#[test]
+fn info_of_a_delivery_is_copied(rt: HostRuntime) {
+    let info = info_of(&rt, delivery(&rt));
+    let copy = copy_of(&rt, &info);
+    let wanted = (3, true, Some(ReceiverSettleMode::Second));
+    assert_equal_at(&rt, &seen(info), &wanted, &"of a delivery");
+    assert_equal_at(&rt, &seen(copy), &wanted, &"of an info");
 }

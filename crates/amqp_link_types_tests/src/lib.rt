@@ -4,9 +4,11 @@
 #[cfg(test)]
 mod assertions;
 #[cfg(test)]
+mod copies;
+#[cfg(test)]
 mod delivery;
 #[cfg(test)]
-mod size;
+mod samples;
 #[cfg(test)]
 mod state;
 #[cfg(test)]

@@ -4,8 +4,6 @@
 #[cfg(test)]
 mod assertions;
 #[cfg(test)]
-mod lengths;
-#[cfg(test)]
 mod messages;
 #[cfg(test)]
 mod positions;

@@ -29,13 +29,20 @@ fn message_of<B: FromBody>(
     B::decode_from_pieces(rt.alloc(), pieces)
 }
 
+// Whether the pieces are read as this data, with nothing in front.
+fn reads(rt: &(impl Abort + AllocGlobal), pieces: &[Payload], want: &[u8]) -> bool {
+    let message = message_of::<DataBody>(rt, pieces).expect(rt, "a data section");
+    let is_read = message.body.0.as_slice() == want && message.preamble.is_empty();
+    drop(message);
+    is_read
+}
+
 // Whether these bytes are read as this data, wherever they are cut in two.
 fn is_data(rt: &(impl Abort + AllocGlobal), bytes: &[u8], want: &[u8]) -> bool {
     for at in 0..bytes.len() {
         let pieces = cut(rt, bytes, at);
-        let message = message_of::<DataBody>(rt, pieces.as_slice()).expect(rt, "a data section");
-        let is_read = message.body.0.as_slice() == want && message.preamble.is_empty();
-        drop((message, pieces));
+        let is_read = reads(rt, pieces.as_slice(), want);
+        drop(pieces);
         if !is_read {
             return false;
         }
@@ -43,73 +50,52 @@ fn is_data(rt: &(impl Abort + AllocGlobal), bytes: &[u8], want: &[u8]) -> bool {
     true
 }
 
-// Whether a body of any bytes is all of these, with nothing in front and nothing behind.
-fn is_whole(rt: &(impl Abort + AllocGlobal), pieces: Vec<Payload>, want: &[u8]) -> bool {
-    let message = message_of::<Whole>(rt, pieces.as_slice()).expect(rt, "memory");
-    let is_all = message.body.0.as_slice() == want;
-    let is_alone = message.preamble.is_empty() && message.footer.is_empty();
-    drop((message, pieces));
-    is_all && is_alone
+#[test]
+fn data_section_is_read_however_cut(rt: HostRuntime) {
+    assert_holds_at(&rt, is_data(&rt, &SHORT, b"ab"), &"in its short forms");
+    assert_holds_at(&rt, is_data(&rt, &LONG, &[0x7F]), &"in its long forms");
 }
 
-fn refusal_of<B: FromBody>(
-    rt: &(impl Abort + AllocGlobal),
-    bytes: &[u8],
-    at: usize,
-) -> Option<DecodeError> {
-    let pieces = cut(rt, bytes, at);
-    let refusal = message_of::<B>(rt, pieces.as_slice()).err();
+const OTHERS: &[(&[u8], &str)] = &[
+    (&[], "no bytes"),
+    (&[0x00, 0x53, 0x75, 0xA0, 0x03, 0x61, 0x62], "short"),
+    (
+        &[0x00, 0x53, 0x75, 0xA0, 0x02, 0x61, 0x62, 0x00],
+        "a byte more",
+    ),
+    (&[0x00, 0x53, 0x77, 0xA0, 0x02, 0x61, 0x62], "a value"),
+    (&[0x00, 0x53, 0x75, 0xA1, 0x02, 0x61, 0x62], "a text"),
+];
+
+// Why bytes that are cut in two are no data section.
+fn refusal_of(rt: &(impl Abort + AllocGlobal), bytes: &[u8]) -> Option<DecodeError> {
+    let pieces = cut(rt, bytes, 4);
+    let refusal = message_of::<DataBody>(rt, pieces.as_slice()).err();
     drop(pieces);
     refusal
 }
 
 #[test]
-fn data_section_is_read_however_cut(rt: HostRuntime) {
-    assert_holds_at(&rt, is_data(&rt, &SHORT, b"ab"), &"in its short forms");
-    assert_holds_at(&rt, is_data(&rt, &LONG, &[0x7F]), &"in its long forms");
-    let mixed = [0x00, 0x53, 0x75, 0xB0, 0, 0, 0, 2, 0x61, 0x62];
-    assert_holds_at(&rt, is_data(&rt, &mixed, b"ab"), &"in one of each");
-    assert_holds_at(
-        &rt,
-        is_data(&rt, &[0x00, 0x53, 0x75, 0xA0, 0], &[]),
-        &"without data",
-    );
+fn all_else_is_refused(rt: HostRuntime) {
+    let refused = Some(DecodeError::NotOneDataSection);
+    for (bytes, message) in OTHERS {
+        assert_equal_at(&rt, &refusal_of(&rt, bytes), &refused, message);
+    }
 }
 
-#[test]
-fn all_else_is_refused(rt: HostRuntime) {
-    let rows: [(&[u8], usize, &str); 5] = [
-        (&[], 0, "no bytes"),
-        (&[0x00, 0x53, 0x75, 0xA0, 0x03, 0x61, 0x62], 4, "short"),
-        (
-            &[0x00, 0x53, 0x75, 0xA0, 0x02, 0x61, 0x62, 0x00],
-            4,
-            "a byte more",
-        ),
-        (&[0x00, 0x53, 0x77, 0xA0, 0x02, 0x61, 0x62], 4, "a value"),
-        (&[0x00, 0x53, 0x75, 0xA1, 0x02, 0x61, 0x62], 4, "a text"),
-    ];
-    let refused = Some(DecodeError::NotOneDataSection);
-    for (bytes, at, message) in rows {
-        assert_equal_at(
-            &rt,
-            &refusal_of::<DataBody>(&rt, bytes, at),
-            &refused,
-            &message,
-        );
-        assert_equal_at(&rt, &refusal_of::<Whole>(&rt, bytes, at), &None, &message);
-    }
+// Whether a body of any bytes is all of these, with nothing in front and nothing behind.
+fn is_whole(rt: &(impl Abort + AllocGlobal), pieces: &[Payload], want: &[u8]) -> bool {
+    let message = message_of::<Whole>(rt, pieces).expect(rt, "memory");
+    let is_all = message.body.0.as_slice() == want;
+    let is_alone = message.preamble.is_empty() && message.footer.is_empty();
+    drop(message);
+    is_all && is_alone
 }
 
 #[test]
 fn whole_body_is_all_bytes(rt: HostRuntime) {
-    let alone = vec![in rt.alloc(); piece(&rt, b"ab")].expect(&rt, "memory");
-    let none = Vec::new(rt.alloc());
-    assert_holds_at(
-        &rt,
-        is_whole(&rt, cut(&rt, &SHORT, 4), &SHORT),
-        &"three pieces",
-    );
-    assert_holds_at(&rt, is_whole(&rt, alone, b"ab"), &"one piece");
-    assert_holds_at(&rt, is_whole(&rt, none, b""), &"no pieces");
+    let pieces = cut(&rt, &SHORT, 4);
+    let is_whole = is_whole(&rt, pieces.as_slice(), &SHORT);
+    drop(pieces);
+    assert_holds_at(&rt, is_whole, &"three pieces");
 }

@@ -1,53 +1,22 @@
 //! Deliveries that are cut off and resumed, and their fronts.
 use crate::assertions::{assert_equal, assert_equal_at};
-use crate::incomplete_transfer::{BARE, FIRST, Row, append, seen, start, transfer_of};
-use crate::resumption::EIGHT;
+use crate::attached::EIGHT;
+use crate::incomplete_transfer::{
+    Answer, BARE, FIRST, Row, Seen, answer_of, append, seen, start, transfer_of,
+};
 use amqp_link_core::incomplete_transfer::IncompleteTransfer;
-use amqp_link_types::types::ReceiverTransferError as Refused;
 use bytes::Bytes;
-use std::alloc::{AllocError, Global};
-use std::test::Fail;
+use std::process::Abort;
 
-// The result of adding a transfer.
-#[derive(Clone, Copy, Debug, PartialEq, Eq)]
-enum Answer {
-    Taken,
-    NoId,
-    NoTag,
-    Inconsistent,
-    Other,
-}
-
-fn answer_of(answer: Result<(), Refused>) -> Answer {
-    match &answer {
-        Ok(()) => Answer::Taken,
-        Err(Refused::DeliveryIdIsNone) => Answer::NoId,
-        Err(Refused::DeliveryTagIsNone) => Answer::NoTag,
-        Err(Refused::InconsistentFieldInMultiFrameDelivery) => Answer::Inconsistent,
-        Err(_) => Answer::Other,
-    }
-}
-
+// The answer to a resumption, and the delivery after it.
 fn resumed(
+    rt: &(impl Abort + AllocGlobal),
     held: &mut IncompleteTransfer,
-    alloc: Global,
     row: Row,
     payload: &'static [u8],
-) -> Answer {
-    match transfer_of(alloc, row) {
-        Ok(transfer) => answer_of(held.try_resume(transfer, Bytes::from_static(payload))),
-        Err(_) => Answer::Other,
-    }
-}
-
-// A transfer with this id, tag and format.
-const fn named(id: Option<u32>, tag: Option<u8>, format: Option<u32>) -> Row {
-    Row {
-        id,
-        tag,
-        format,
-        ..BARE
-    }
+) -> (Answer, Seen) {
+    let answer = held.try_resume(transfer_of(rt, row), Bytes::from_static(payload));
+    (answer_of(answer), seen(held))
 }
 
 const SEVEN: Row = Row {
@@ -55,149 +24,163 @@ const SEVEN: Row = Row {
     ..FIRST
 };
 
-#[test]
-fn resumption_names_its_delivery(rt: HostRuntime) -> Result<(), Fail> {
-    let mut held = start(rt.alloc(), SEVEN, b"\x00\x53\x70\xc0\x00")?;
-    let rows = [
-        (named(None, Some(1), None), Answer::NoId, "no id"),
-        (named(None, None, None), Answer::NoId, "no id, no tag"),
-        (named(Some(8), None, None), Answer::NoTag, "no tag"),
-        (
-            named(Some(8), Some(2), None),
-            Answer::Inconsistent,
-            "another tag",
-        ),
-        (
-            named(Some(8), Some(1), Some(1)),
-            Answer::Inconsistent,
-            "another format",
-        ),
-    ];
-    for (row, want, message) in rows {
-        assert_equal_at(
-            &rt,
-            &resumed(&mut held, rt.alloc(), row, b"\x53"),
-            &want,
-            &message,
-        );
-        assert_equal_at(&rt, &seen(&held), &(SEVEN, 1, 5, (0, 5)), &message);
+// The id 8 and the tag 01 alone.
+const EIGHTH: Row = Row {
+    id: Some(8),
+    tag: Some(1),
+    ..BARE
+};
+
+const REFUSED: &[(Row, Answer, &str)] = &[
+    (Row { id: None, ..EIGHTH }, Answer::NoId, "no id"),
+    (BARE, Answer::NoId, "no id, no tag"),
+    (
+        Row {
+            tag: None,
+            ..EIGHTH
+        },
+        Answer::NoTag,
+        "no tag",
+    ),
+    (
+        Row {
+            tag: Some(2),
+            ..EIGHTH
+        },
+        Answer::Inconsistent,
+        "another tag",
+    ),
+    (
+        Row {
+            format: Some(1),
+            ..EIGHTH
+        },
+        Answer::Inconsistent,
+        "another format",
+    ),
+];
+
+fn named(id: u32) -> Row {
+    Row {
+        id: Some(id),
+        ..BARE
     }
-    drop(held);
-    Ok(())
 }
 
 #[test]
-fn resumption_gives_a_new_id(rt: HostRuntime) -> Result<(), Fail> {
-    let alloc = rt.alloc();
-    let mut held = start(alloc, SEVEN, b"\x00\x53\x70\xc0\x00")?;
-    let eight = named(Some(8), Some(1), None);
-    assert_equal(
-        &rt,
-        &resumed(&mut held, alloc, eight, b"\x53\x77\x41"),
-        &Answer::Taken,
-    );
+fn resumption_gives_a_new_id(rt: HostRuntime) {
+    let mut held = start(&rt, SEVEN, b"\x00\x53\x70\xc0\x00");
+    for (row, answer, message) in REFUSED {
+        let refused = resumed(&rt, &mut held, *row, b"\x53");
+        let unchanged = (*answer, (SEVEN, 1, 5, (0, 5)));
+        assert_equal_at(&rt, &refused, &unchanged, message);
+    }
+    let taken = resumed(&rt, &mut held, EIGHTH, b"\x53\x77\x41");
+    let old = append(&rt, &mut held, named(7), b"");
+    let new = append(&rt, &mut held, named(8), b"");
+    drop(held);
     let merged = Row {
         id: Some(8),
         ..FIRST
     };
-    assert_equal_at(&rt, &seen(&held), &(merged, 2, 8, (1, 4)), &"the new id");
-    let old = answer_of(append(&mut held, alloc, named(Some(7), None, None), b""));
+    assert_equal(&rt, &taken, &(Answer::Taken, (merged, 2, 8, (1, 4))));
     assert_equal_at(&rt, &old, &Answer::Inconsistent, &"the old id afterwards");
-    let new = answer_of(append(&mut held, alloc, named(Some(8), None, None), b""));
     assert_equal_at(&rt, &new, &Answer::Taken, &"the new id afterwards");
-    drop(held);
-    Ok(())
+}
+
+// Keeps the front up to a position, and shows the delivery then.
+fn kept(rt: &impl Abort, held: &mut IncompleteTransfer, at: (u32, u64)) -> Seen {
+    let kept = held.keep_buffer_till_section_number_and_offset(at.0, at.1);
+    kept.expect(rt, "memory");
+    seen(held)
 }
 
 #[test]
-fn front_is_kept(rt: HostRuntime) -> Result<(), Fail> {
-    let alloc = rt.alloc();
-    let mut held = start(alloc, FIRST, b"\x00\x53\x70\xc0\x00\x53\x77\x41")?;
-    let kept = held.keep_buffer_till_section_number_and_offset(1, 0);
-    assert_equal(&rt, &kept, &Ok(()));
-    assert_equal_at(
-        &rt,
-        &seen(&held),
-        &(FIRST, 1, 4, (0, 4)),
-        &"up to the second section",
-    );
-    let kept = held.keep_buffer_till_section_number_and_offset(2, 0);
-    assert_equal(&rt, &kept, &Ok(()));
-    assert_equal_at(
-        &rt,
-        &seen(&held),
-        &(FIRST, 1, 4, (0, 4)),
-        &"no such section",
-    );
-    let kept = held.keep_buffer_till_section_number_and_offset(0, 5);
-    assert_equal(&rt, &kept, &Ok(()));
-    assert_equal_at(&rt, &seen(&held), &(FIRST, 1, 4, (0, 4)), &"past the end");
-    let kept = held.keep_buffer_till_section_number_and_offset(0, 0);
-    assert_equal(&rt, &kept, &Ok(()));
-    assert_equal_at(&rt, &seen(&held), &(FIRST, 0, 0, (0, 0)), &"nothing");
+fn front_is_kept(rt: HostRuntime) {
+    let mut held = start(&rt, FIRST, EIGHT);
+    let first_section = kept(&rt, &mut held, (1, 0));
+    let no_such_section = kept(&rt, &mut held, (2, 0));
     drop(held);
-    Ok(())
+    let wanted = (FIRST, 1, 4, (0, 4));
+    assert_equal(&rt, &first_section, &wanted);
+    assert_equal(&rt, &no_such_section, &wanted);
 }
 
 // The eight bytes in three pieces, cut after these numbers of them.
-fn cut_thrice(alloc: Global, first: usize, second: usize) -> Result<IncompleteTransfer, Refused> {
+fn cut_thrice(rt: &(impl Abort + AllocGlobal), first: usize, second: usize) -> IncompleteTransfer {
     let second = second.min(8);
     let first = first.min(second);
-    let mut held = start(alloc, FIRST, &EIGHT[..first])?;
-    append(&mut held, alloc, BARE, &EIGHT[first..second])?;
-    append(&mut held, alloc, BARE, &EIGHT[second..])?;
-    Ok(held)
+    let mut held = start(rt, FIRST, &EIGHT[..first]);
+    append(rt, &mut held, BARE, &EIGHT[first..second]);
+    append(rt, &mut held, BARE, &EIGHT[second..]);
+    held
 }
 
 // Whether the pieces are these bytes, joined.
-fn is_joined(alloc: Global, held: &IncompleteTransfer, want: &[u8]) -> Result<bool, AllocError> {
-    let mut bytes = Vec::new(alloc);
+fn is_joined(rt: &(impl Abort + AllocGlobal), held: &IncompleteTransfer, want: &[u8]) -> bool {
+    let mut bytes = Vec::new(rt.alloc());
     for piece in held.pieces() {
-        bytes.extend_from_slice(piece.as_slice())?;
+        bytes
+            .extend_from_slice(piece.as_slice())
+            .expect(rt, "memory");
     }
-    Ok(bytes.as_slice() == want)
+    let is_joined = bytes.as_slice() == want;
+    drop(bytes);
+    is_joined
 }
 
-// Of the eight bytes, the front that ends at this position: whether it has the first bytes, that
-// many, and its size and its own position.
+// Of the eight bytes, cut in three, the front up to a position: whether it is the first bytes, that many,
+// and its size and its own position.
 fn front(
-    alloc: Global,
+    rt: &(impl Abort + AllocGlobal),
     cuts: (usize, usize),
     at: (u32, u64),
     length: usize,
-) -> Result<(bool, u64, (u32, u64)), Refused> {
-    let mut held = cut_thrice(alloc, cuts.0, cuts.1)?;
-    held.keep_buffer_till_section_number_and_offset(at.0, at.1)?;
-    let is_front = is_joined(alloc, &held, &EIGHT[..length.min(8)])?;
-    let position = (held.section_number(), held.section_offset());
-    Ok((is_front, held.accumulated_payload_size(), position))
+) -> (bool, u64, (u32, u64)) {
+    let mut held = cut_thrice(rt, cuts.0, cuts.1);
+    let shown = kept(rt, &mut held, at);
+    let is_front = is_joined(rt, &held, &EIGHT[..length.min(8)]);
+    drop(held);
+    (is_front, shown.2, shown.3)
 }
 
-#[test]
-fn front_is_kept_of_any_pieces(rt: HostRuntime) -> Result<(), Fail> {
-    let rows = [
-        ((0, 0), 0, (0, 0)),
-        ((0, 1), 1, (0, 1)),
-        ((0, 2), 2, (0, 2)),
-        ((0, 3), 3, (0, 3)),
-        ((0, 4), 4, (0, 4)),
-        ((1, 0), 4, (0, 4)),
-        ((0, 5), 5, (0, 5)),
-        ((0, 6), 6, (0, 6)),
-        ((1, 1), 5, (0, 5)),
-        ((1, 3), 7, (1, 3)),
-        ((1, 4), 8, (1, 4)),
-        ((0, 7), 8, (1, 4)),
-        ((1, 5), 8, (1, 4)),
-    ];
-    for (at, length, position) in rows {
-        for second in 0..9 {
-            for first in 0..9 {
-                let answer = front(rt.alloc(), (first, second), at, length)?;
-                let want = (true, length as u64, position);
-                assert_equal_at(&rt, &answer, &want, &(at, first, second));
-            }
+// The first two cuts, if there are any, with which the front up to a position is not as long, or ends at
+// another one.
+fn first_lost(
+    rt: &(impl Abort + AllocGlobal),
+    at: (u32, u64),
+    length: usize,
+    position: (u32, u64),
+) -> Option<(usize, usize)> {
+    for cut in 0..81usize {
+        let cuts = (cut / 9, cut % 9);
+        if front(rt, cuts, at, length) != (true, length as u64, position) {
+            return Some(cuts);
         }
     }
-    Ok(())
+    None
+}
+
+// A position, how many of the eight bytes are kept up to it, and the position of those.
+const FRONTS: &[((u32, u64), usize, (u32, u64))] = &[
+    ((0, 0), 0, (0, 0)),
+    ((0, 1), 1, (0, 1)),
+    ((0, 2), 2, (0, 2)),
+    ((0, 3), 3, (0, 3)),
+    ((0, 4), 4, (0, 4)),
+    ((1, 0), 4, (0, 4)),
+    ((0, 5), 5, (0, 5)),
+    ((0, 6), 6, (0, 6)),
+    ((1, 1), 5, (0, 5)),
+    ((1, 3), 7, (1, 3)),
+    ((1, 4), 8, (1, 4)),
+    ((0, 7), 8, (1, 4)),
+    ((1, 5), 8, (1, 4)),
+];
+
+#[test]
+fn front_is_kept_of_any_pieces(rt: HostRuntime) {
+    for (at, length, position) in FRONTS {
+        assert_equal_at(&rt, &first_lost(&rt, *at, *length, *position), &None, at);
+    }
 }

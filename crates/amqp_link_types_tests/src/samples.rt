@@ -1,4 +1,4 @@
-//! Parts in which nothing is absent and nothing has its default.
+//! Parts that have something to copy in every place where a copy needs memory.
 use amqp_link_types::types::{
     Attach, Boxed, DeliveryState, DeliveryTag, DistributionMode, Error, Fields, Handle, Outcome,
     ReceiverSettleMode, Role, SenderSettleMode, Source, Symbol, Symbols, Target, TargetArchetype,
@@ -6,42 +6,41 @@ use amqp_link_types::types::{
 };
 use std::process::Abort;
 
-pub(super) fn text(rt: &(impl Abort + AllocGlobal), words: &str) -> Text {
+fn text(rt: &(impl Abort + AllocGlobal), words: &str) -> Text {
     let words = String::from_str(rt.alloc(), words);
     Text::from(words.expect(rt, "memory"))
 }
 
-pub(super) fn symbol(rt: &(impl Abort + AllocGlobal), name: &str) -> Symbol {
+fn symbol(rt: &(impl Abort + AllocGlobal), name: &str) -> Symbol {
     let name = String::from_str(rt.alloc(), name);
     Symbol::from(name.expect(rt, "memory"))
 }
 
 // A tag of one byte.
-pub(super) fn tag(rt: &(impl Abort + AllocGlobal), byte: u8) -> DeliveryTag {
+pub(crate) fn tag(rt: &(impl Abort + AllocGlobal), byte: u8) -> DeliveryTag {
     let bytes = vec![in rt.alloc(); byte];
     DeliveryTag::from(bytes.expect(rt, "memory"))
 }
 
-// Two symbols in order.
-pub(super) fn symbols(rt: &(impl Abort + AllocGlobal), first: &str, second: &str) -> Symbols {
-    let names = vec![in rt.alloc(); symbol(rt, first), symbol(rt, second)];
+fn symbols(rt: &(impl Abort + AllocGlobal), name: &str) -> Symbols {
+    let names = vec![in rt.alloc(); symbol(rt, name)];
     Symbols::from(names.expect(rt, "memory"))
 }
 
 // A field with a number.
-pub(super) fn fields(rt: &(impl Abort + AllocGlobal), number: u32) -> Fields {
+pub(crate) fn fields(rt: &(impl Abort + AllocGlobal), number: u32) -> Fields {
     let mut fields = Fields::new(rt.alloc());
     let put = fields.insert(symbol(rt, "k"), Value::Uint(number));
     put.expect(rt, "memory");
     fields
 }
 
-/// A value in memory of its own.
-pub(super) fn boxed<T: Drop>(rt: &(impl Abort + AllocGlobal), value: T) -> Boxed<T> {
+// A value in memory of its own.
+pub(crate) fn boxed<T: Drop>(rt: &(impl Abort + AllocGlobal), value: T) -> Boxed<T> {
     Boxed::new(rt.alloc(), value).ok().expect(rt, "memory")
 }
 
-pub(super) fn error(rt: &(impl Abort + AllocGlobal)) -> Error {
+pub(crate) fn error(rt: &(impl Abort + AllocGlobal)) -> Error {
     Error {
         condition: symbol(rt, "x:y"),
         description: Some(text(rt, "words")),
@@ -49,8 +48,19 @@ pub(super) fn error(rt: &(impl Abort + AllocGlobal)) -> Error {
     }
 }
 
-pub(super) fn source(rt: &(impl Abort + AllocGlobal)) -> Source {
-    let error = Some(boxed(rt, error(rt)));
+// A source whose deliveries are rejected unless they end in another way.
+fn rejecting(rt: &(impl Abort + AllocGlobal)) -> Source {
+    Source {
+        default_outcome: Some(Outcome::Rejected {
+            error: Some(boxed(rt, error(rt))),
+        }),
+        outcomes: Some(symbols(rt, "a")),
+        capabilities: Some(symbols(rt, "b")),
+        ..Source::default()
+    }
+}
+
+fn source(rt: &(impl Abort + AllocGlobal)) -> Source {
     Source {
         address: Some(text(rt, "q1")),
         durable: TerminusDurability::Configuration,
@@ -60,13 +70,11 @@ pub(super) fn source(rt: &(impl Abort + AllocGlobal)) -> Source {
         dynamic_node_properties: Some(fields(rt, 1)),
         distribution_mode: Some(DistributionMode::Copy),
         filter: Some(fields(rt, 2)),
-        default_outcome: Some(Outcome::Rejected { error }),
-        outcomes: Some(symbols(rt, "a", "b")),
-        capabilities: Some(symbols(rt, "c", "d")),
+        ..rejecting(rt)
     }
 }
 
-pub(super) fn target(rt: &(impl Abort + AllocGlobal)) -> Target {
+fn target(rt: &(impl Abort + AllocGlobal)) -> Target {
     Target {
         address: Some(text(rt, "q2")),
         durable: TerminusDurability::UnsettledState,
@@ -74,36 +82,44 @@ pub(super) fn target(rt: &(impl Abort + AllocGlobal)) -> Target {
         timeout: 8,
         dynamic: true,
         dynamic_node_properties: Some(fields(rt, 3)),
-        capabilities: Some(symbols(rt, "e", "f")),
+        capabilities: Some(symbols(rt, "c")),
     }
 }
 
-// A delivery of which no state is known, and one with this state.
-pub(super) fn unsettled(
-    rt: &(impl Abort + AllocGlobal),
-    state: DeliveryState,
-) -> UnsettledMap<Option<DeliveryState>> {
+// A delivery of which no state is known, and an accepted one.
+pub(crate) fn unsettled(rt: &(impl Abort + AllocGlobal)) -> UnsettledMap<Option<DeliveryState>> {
     let mut map = UnsettledMap::new(rt.alloc());
     map.put(tag(rt, 1), None).expect(rt, "memory");
-    map.put(tag(rt, 2), Some(state)).expect(rt, "memory");
+    let accepted = Some(DeliveryState::Accepted);
+    map.put(tag(rt, 2), accepted).expect(rt, "memory");
     map
 }
 
-pub(super) fn attach(rt: &(impl Abort + AllocGlobal)) -> Attach {
+// An attach without termini and without deliveries.
+fn named(rt: &(impl Abort + AllocGlobal)) -> Attach {
     Attach {
         name: text(rt, "l"),
         handle: Handle(1),
         role: Role::Receiver,
         snd_settle_mode: SenderSettleMode::Settled,
         rcv_settle_mode: ReceiverSettleMode::Second,
-        source: Some(source(rt)),
-        target: Some(TargetArchetype::from(target(rt))),
-        unsettled: Some(unsettled(rt, DeliveryState::Accepted)),
+        source: None,
+        target: None,
+        unsettled: None,
         incomplete_unsettled: true,
         initial_delivery_count: Some(2),
         max_message_size: Some(3),
-        offered_capabilities: Some(symbols(rt, "g", "h")),
-        desired_capabilities: Some(symbols(rt, "i", "j")),
+        offered_capabilities: Some(symbols(rt, "d")),
+        desired_capabilities: Some(symbols(rt, "e")),
         properties: Some(fields(rt, 4)),
+    }
+}
+
+pub(crate) fn attach(rt: &(impl Abort + AllocGlobal)) -> Attach {
+    Attach {
+        source: Some(source(rt)),
+        target: Some(TargetArchetype::from(target(rt))),
+        unsettled: Some(unsettled(rt)),
+        ..named(rt)
     }
 }

@@ -1,0 +1,97 @@
+//! Copies, while there is memory.
+use crate::assertions::assert_holds_at;
+use crate::samples::{attach, boxed, error, fields, tag};
+use amqp_link_types::delivery::{DeliveryOutcome, copy_of_outcome};
+use amqp_link_types::types::{
+    ConnectionStopReason, DeliveryState, Detach, Disposition, Handle, LinkFlow, LinkStateError,
+    Role, SessionStopReason, Transfer,
+};
+use std::process::Abort;
+
+// Whether a copy is equal to its original.
+fn is_copied<T: Clone + PartialEq + Drop>(rt: &impl Abort, original: T) -> bool {
+    let copy = original.clone().expect(rt, "memory");
+    let is_equal = copy == original;
+    drop((copy, original));
+    is_equal
+}
+
+fn rejected(rt: &(impl Abort + AllocGlobal)) -> DeliveryState {
+    DeliveryState::Rejected {
+        error: Some(boxed(rt, error(rt))),
+    }
+}
+
+fn transfer(rt: &(impl Abort + AllocGlobal)) -> Transfer {
+    Transfer {
+        delivery_tag: Some(tag(rt, 1)),
+        state: Some(rejected(rt)),
+        ..Transfer::default()
+    }
+}
+
+fn flow(rt: &(impl Abort + AllocGlobal)) -> LinkFlow {
+    LinkFlow {
+        handle: Handle(1),
+        delivery_count: Some(2),
+        link_credit: Some(3),
+        available: Some(4),
+        drain: true,
+        echo: true,
+        properties: Some(fields(rt, 5)),
+    }
+}
+
+fn disposition(rt: &(impl Abort + AllocGlobal)) -> Disposition {
+    Disposition {
+        role: Role::Receiver,
+        first: 1,
+        last: Some(2),
+        settled: true,
+        state: Some(rejected(rt)),
+        batchable: true,
+    }
+}
+
+fn detach(rt: &(impl Abort + AllocGlobal)) -> Detach {
+    Detach {
+        handle: Handle(1),
+        closed: true,
+        error: Some(error(rt)),
+    }
+}
+
+#[test]
+fn copied_performatives_are_equal(rt: HostRuntime) {
+    assert_holds_at(&rt, is_copied(&rt, attach(&rt)), &"an attach");
+    assert_holds_at(&rt, is_copied(&rt, flow(&rt)), &"a flow");
+    assert_holds_at(&rt, is_copied(&rt, transfer(&rt)), &"a transfer");
+    assert_holds_at(&rt, is_copied(&rt, disposition(&rt)), &"a disposition");
+    assert_holds_at(&rt, is_copied(&rt, detach(&rt)), &"a detach");
+}
+
+// A session stopped with its connection, which was closed with an error.
+fn stopped(rt: &(impl Abort + AllocGlobal)) -> LinkStateError {
+    let closed = ConnectionStopReason::RemoteClosedWithError(error(rt));
+    LinkStateError::SessionStopped(SessionStopReason::ConnectionStopped(closed))
+}
+
+fn closed(rt: &(impl Abort + AllocGlobal)) -> LinkStateError {
+    LinkStateError::RemoteClosedWithError(error(rt))
+}
+
+// Whether the copy of what became of a delivery is equal to it.
+fn is_outcome_copied(rt: &impl Abort, original: DeliveryOutcome) -> bool {
+    let copy = copy_of_outcome(&original).expect(rt, "memory");
+    let is_equal = copy == original;
+    drop((copy, original));
+    is_equal
+}
+
+#[test]
+fn copied_outcomes_are_equal(rt: HostRuntime) {
+    assert_holds_at(&rt, is_copied(&rt, stopped(&rt)), &"a stop");
+    assert_holds_at(&rt, is_copied(&rt, closed(&rt)), &"closed with an error");
+    let outcome = Ok(Some(rejected(&rt)));
+    assert_holds_at(&rt, is_outcome_copied(&rt, outcome), &"an outcome");
+}
