@@ -20,13 +20,6 @@ pub(crate) fn assert_equal_at<T: PartialEq + Debug, P: Debug>(
     assert_eq!(rt; *got, *wanted, "at {place:?}");
 }
 
-// The test holds.
-pub(crate) fn assert_holds(rt: &impl Abort, holds: bool)
-    ensures { IsTrue holds }
-{
-    assert!(rt; holds);
-}
-
 // The test holds. If it does not, `place` says in which row, or what was tested.
 pub(crate) fn assert_holds_at<P: Debug>(rt: &impl Abort, holds: bool, place: &P)
     ensures { IsTrue holds }

@@ -2,14 +2,15 @@
 //! in `amqp_link_tests_support`.
 use amqp_link_core::endpoint::LinkExt;
 use amqp_link_ledger::ledger::OutcomeLedger;
-use amqp_link_sender::DispositionAnswer;
+use amqp_link_sender::{DispositionAnswer, Sending, Waiting};
 use amqp_link_tests_support::links::went;
 use amqp_link_types::delivery::{Outcomes, UnsettledMessage};
 use amqp_link_types::frame::LinkFrame;
 use amqp_link_types::types::{
-    DeliveryNumber, DeliveryState, DeliveryTag, DispositionError, InputHandle, LinkFlow,
-    LinkRelayError, LinkStateError, OutputHandle, Payload, Target, Transfer,
+    DeliveryNumber, DeliveryState, DeliveryTag, Detach, DispositionError, LinkFlow, LinkRelayError,
+    LinkStateError, MessageFormat, Payload, Target, Transfer,
 };
+use std::alloc::AllocError;
 
 type Ledger = OutcomeLedger<Target>;
 
@@ -22,10 +23,6 @@ pub(crate) fn credit_of(ledger: &Ledger) -> u32 {
     ledger.flow_state().link_credit()
 }
 
-pub(crate) fn handles_of(ledger: &Ledger) -> (Option<OutputHandle>, Option<InputHandle>) {
-    (ledger.link().output_handle(), ledger.link().input_handle())
-}
-
 pub(crate) fn set_max_frame_size(ledger: &mut Ledger, max_frame_size: u32) {
     ledger.set_max_frame_size(max_frame_size);
 }
@@ -35,6 +32,23 @@ pub(crate) fn take_flow(
     flow: LinkFlow,
 ) -> Result<Option<LinkFlow>, LinkRelayError> {
     ledger.on_incoming_flow(flow)
+}
+
+// Sends a payload of this format with this flag; nothing waits.
+pub(crate) fn send_payload(
+    ledger: &mut Ledger,
+    payload: &Payload,
+    message_format: MessageFormat,
+    settled: Option<bool>,
+) -> Result<Sending, LinkStateError> {
+    ledger.send_payload(
+        Waiting::Nothing,
+        payload,
+        message_format,
+        settled,
+        None,
+        false,
+    )
 }
 
 // Whether an entry is registered under this tag.
@@ -72,6 +86,19 @@ pub(crate) fn take_acceptance(
     tag: &DeliveryTag,
 ) -> Result<DispositionAnswer, DispositionError> {
     ledger.on_incoming_disposition(true, Some(DeliveryState::Accepted), tag)
+}
+
+// The peer detaches.
+pub(crate) fn take_detach(
+    ledger: &mut Ledger,
+    detach: &Detach,
+) -> Result<(Option<Detach>, Outcomes), LinkRelayError> {
+    ledger.on_incoming_detach(detach, true)
+}
+
+// The peer detaches: the outcomes of what is pending, if that closes the link.
+pub(crate) fn fail_pending(ledger: &mut Ledger, detach: &Detach) -> Result<Outcomes, AllocError> {
+    ledger.fail_pending_unsettled(detach)
 }
 
 // Sends the rest of a delivery. The entry that a refused send returns is dropped.

@@ -1,18 +1,19 @@
 //! What becomes of the registrations as a ledger is attached again, by each kind of answer (2.6.13).
-use crate::assertions::{assert_equal, assert_holds, assert_holds_at};
+use crate::assertions::{assert_equal, assert_holds_at};
 use crate::calls::{pending_in, put_back};
-use crate::ledgers::{accepted, assert_fates, new_ledger};
+use crate::ledgers::new_ledger;
 use crate::samples::{attach_of, count_tag};
+use crate::shown::{Shown, assert_fates, assert_outcomes};
 use amqp_link_core::resumption::ResumingDelivery;
-use amqp_link_ledger::fate::Fate;
 use amqp_link_ledger::ledger::OutcomeLedger;
 use amqp_link_sender::SenderAttachExchange;
 use amqp_link_state::state::LinkState;
 use amqp_link_tests_support::calls::{local_state, send_attach, take_attach};
 use amqp_link_tests_support::links::went;
-use amqp_link_types::delivery::{DeliveryOutcome, Outcomes, UnsettledMessage};
+use amqp_link_types::delivery::UnsettledMessage;
 use amqp_link_types::types::{
-    Attach, DeliveryState, DeliveryTag, Payload, Role, SenderSettleMode, Target, UnsettledMap,
+    Attach, DeliveryState, DeliveryTag, MessageFormat, Payload, Role, SenderSettleMode, Target,
+    UnsettledMap,
 };
 use std::process::Abort;
 
@@ -91,44 +92,59 @@ fn attach_with_five(rt: &(impl Abort + AllocGlobal)) -> Attach {
     attach
 }
 
-// The deliveries that are handed out: one is sent again, one resumed, one aborted, the outcome of one stated
-// again, and the receiver's own is aborted.
-fn wanted_deliveries(rt: &(impl Abort + AllocGlobal)) -> Vec<(DeliveryTag, ResumingDelivery)> {
-    let resumed = ResumingDelivery::Resume {
+fn add(
+    rt: &(impl Abort + AllocGlobal),
+    list: &mut Vec<(DeliveryTag, ResumingDelivery)>,
+    count: u8,
+    delivery: ResumingDelivery,
+) {
+    list.push((count_tag(rt, count), delivery))
+        .expect(rt, "memory");
+}
+
+fn resumed() -> ResumingDelivery {
+    ResumingDelivery::Resume {
         entry: entry_with(None),
         rest: Payload::from_static(b"\x53\x77\x41"),
-    };
-    let aborted = ResumingDelivery::Abort {
-        message_format: 5,
-        tag: Some(count_tag(rt, 2)),
-    };
-    let restated = ResumingDelivery::RestateOutcome {
-        tag: count_tag(rt, 3),
+    }
+}
+
+fn aborted(message_format: MessageFormat, tag: Option<DeliveryTag>) -> ResumingDelivery {
+    ResumingDelivery::Abort {
+        message_format,
+        tag,
+    }
+}
+
+fn restated(tag: DeliveryTag) -> ResumingDelivery {
+    ResumingDelivery::RestateOutcome {
+        tag,
         payload: Payload::from_static(WHOLE),
         local_state: failed(),
         message_format: 5,
-    };
-    let unknown = ResumingDelivery::Abort {
-        message_format: 0,
-        tag: None,
-    };
-    let deliveries = vec![in rt.alloc();
-        (count_tag(rt, 0), ResumingDelivery::Resend(entry_with(None))),
-        (count_tag(rt, 1), resumed),
-        (count_tag(rt, 2), aborted),
-        (count_tag(rt, 3), restated),
-        (count_tag(rt, 9), unknown),
-    ];
-    deliveries.expect(rt, "memory")
+    }
 }
 
-// The outcomes that are returned, the sender's and the receiver's.
-fn wanted_outcomes(rt: &(impl Abort + AllocGlobal)) -> Outcomes {
-    let own: DeliveryOutcome = Ok(Some(DeliveryState::Accepted));
-    let remote: DeliveryOutcome = Ok(Some(DeliveryState::Released));
-    let outcomes = vec![in rt.alloc(); (count_tag(rt, 4), own), (count_tag(rt, 5), remote)];
-    outcomes.expect(rt, "memory")
+// The deliveries that are handed out: one is sent again, one resumed, one aborted, the outcome of one stated
+// again, and the receiver's own is aborted.
+fn wanted_deliveries(rt: &(impl Abort + AllocGlobal)) -> Vec<(DeliveryTag, ResumingDelivery)> {
+    let mut list = Vec::new(rt.alloc());
+    add(rt, &mut list, 0, ResumingDelivery::Resend(entry_with(None)));
+    add(rt, &mut list, 1, resumed());
+    add(rt, &mut list, 2, aborted(5, Some(count_tag(rt, 2))));
+    add(rt, &mut list, 3, restated(count_tag(rt, 3)));
+    add(rt, &mut list, 9, aborted(0, None));
+    list
 }
+
+const SIX_FATES: [Shown; 6] = [
+    Shown::HandedOut,
+    Shown::HandedOut,
+    Shown::HandedOut,
+    Shown::HandedOut,
+    Shown::Accepted,
+    Shown::Released,
+];
 
 // The list of an exchange of complete maps.
 fn list_of(exchange: SenderAttachExchange) -> Option<Vec<(DeliveryTag, ResumingDelivery)>> {
@@ -138,48 +154,22 @@ fn list_of(exchange: SenderAttachExchange) -> Option<Vec<(DeliveryTag, ResumingD
     }
 }
 
-fn assert_six_fates(rt: &impl Abort, ledger: &OutcomeLedger<Target>) {
-    let wanted = [
-        Fate::HandedOut,
-        Fate::HandedOut,
-        Fate::HandedOut,
-        Fate::HandedOut,
-        accepted(),
-        Fate::Resolved(Ok(Some(DeliveryState::Released))),
-    ];
-    assert_fates(rt, ledger, &wanted);
-}
-
-// The delivery that only the receiver knows is in the list, and has no number.
+// The delivery that only the receiver knows is in the list, and has no number. Of the outcomes that are returned
+// one is the sender's and one the receiver's.
 #[test]
 fn exchange_moves_each_fate(rt: HostRuntime) {
     let mut ledger = attaching_with_six(&rt);
     let answer = take_attach(&mut ledger, attach_with_five(&rt));
     let (exchange, outcomes) = answer.expect(&rt, "an attach that is accepted");
     let deliveries = list_of(exchange).expect(&rt, "complete maps");
-    assert_six_fates(&rt, &ledger);
     let wanted = wanted_deliveries(&rt);
     assert_equal(&rt, &deliveries, &wanted);
     drop((deliveries, wanted));
-    let wanted = wanted_outcomes(&rt);
-    assert_equal(&rt, &outcomes, &wanted);
-    drop((outcomes, wanted));
+    let wanted = [(4, Shown::Accepted), (5, Shown::Released)];
+    assert_outcomes(&rt, &outcomes, &wanted);
+    drop(outcomes);
+    assert_fates(&rt, &ledger, &SIX_FATES);
     assert_equal(&rt, &local_state(&ledger), &LinkState::Attached);
     assert_equal(&rt, &pending_in(&ledger), &0);
     drop(ledger);
-}
-
-// An incomplete exchange hands out as well.
-#[test]
-fn incomplete_exchange_moves_each_fate(rt: HostRuntime) {
-    let mut ledger = attaching_with_six(&rt);
-    let mut attach = attach_with_five(&rt);
-    attach.incomplete_unsettled = true;
-    let answer = take_attach(&mut ledger, attach);
-    let (exchange, outcomes) = answer.expect(&rt, "an attach that is accepted");
-    let is_incomplete = matches!(&exchange, SenderAttachExchange::IncompleteUnsettled(_));
-    assert_six_fates(&rt, &ledger);
-    drop((exchange, outcomes));
-    drop(ledger);
-    assert_holds(&rt, is_incomplete);
 }

@@ -4,8 +4,8 @@
 use crate::assertions::{assert_equal, assert_equal_at};
 use crate::calls::{self, credit_of, pending_in};
 use crate::ledgers::{Sent, send, sent_as};
+use crate::shown::{Shown, fate_shown};
 use amqp_link_core::endpoint::{LinkAttach, LinkDetach, LinkExt};
-use amqp_link_ledger::fate::Fate;
 use amqp_link_ledger::ledger::OutcomeLedger;
 use amqp_link_sender::{SenderAttachExchange, SenderLink};
 use amqp_link_state::state::LinkState;
@@ -23,55 +23,6 @@ use std::alloc::{AllocError, Global};
 use std::process::Abort;
 
 type Ledger = OutcomeLedger<Target>;
-
-// What became of a registration.
-#[derive(Clone, Copy, Debug, PartialEq, Eq)]
-enum Shown {
-    Nothing,
-    Pending,
-    Withdrawn,
-    HandedOut,
-    Accepted,
-    NoState,
-    Closed,
-    Other,
-}
-
-fn fate_shown(fate: Option<&Fate>) -> Shown {
-    let Some(fate) = fate else {
-        return Shown::Nothing;
-    };
-    match fate {
-        Fate::Pending => Shown::Pending,
-        Fate::Withdrawn => Shown::Withdrawn,
-        Fate::HandedOut => Shown::HandedOut,
-        Fate::Resolved(outcome) => outcome_shown(outcome),
-    }
-}
-
-fn outcome_shown(outcome: &Result<Option<DeliveryState>, LinkStateError>) -> Shown {
-    match outcome {
-        Ok(state) => state_shown(state.as_ref()),
-        Err(error) => error_shown(error),
-    }
-}
-
-fn state_shown(state: Option<&DeliveryState>) -> Shown {
-    let Some(state) = state else {
-        return Shown::NoState;
-    };
-    match state {
-        DeliveryState::Accepted => Shown::Accepted,
-        _ => Shown::Other,
-    }
-}
-
-fn error_shown(error: &LinkStateError) -> Shown {
-    match error {
-        LinkStateError::RemoteClosed => Shown::Closed,
-        _ => Shown::Other,
-    }
-}
 
 // What a ledger shows: its first fates, the last bytes of the pending tags, how many are pending, its state and
 // its credit.

@@ -1,10 +1,9 @@
-//! Ledgers that are brought to a state by public calls, and the fates that they show.
-use crate::assertions::{assert_equal, assert_equal_at, assert_holds_at};
-use crate::calls::{put_back, take_flow};
+//! Ledgers that are brought to a state by public calls.
+use crate::assertions::{assert_equal, assert_holds_at};
+use crate::calls::{put_back, send_payload, take_flow};
 use crate::samples::{attach_of, count_tag, parts, payload_of};
-use amqp_link_ledger::fate::Fate;
 use amqp_link_ledger::ledger::OutcomeLedger;
-use amqp_link_sender::{SenderLink, Sending, Waiting};
+use amqp_link_sender::{SenderLink, Sending};
 use amqp_link_state::state::LinkState;
 use amqp_link_tests_support::calls::{
     local_state, send_attach, send_detach, set_output_handle, take_attach, take_reply,
@@ -42,6 +41,24 @@ pub(crate) fn new_ledger(
     ledger_round(rt, new_link(rt, mode))
 }
 
+fn attach(
+    rt: &(impl Abort + AllocGlobal),
+    ledger: &mut OutcomeLedger<Target>,
+    mode: SenderSettleMode,
+) {
+    let theirs = attach_of(rt, Role::Receiver, mode);
+    let goes = went(send_attach(ledger, false)) && went(take_attach(ledger, theirs));
+    assert_holds_at(rt, goes, &"the link is attached");
+}
+
+fn grant(ledger: &mut OutcomeLedger<Target>, credit: u32) {
+    let flow = LinkFlow {
+        link_credit: Some(credit),
+        ..LinkFlow::default()
+    };
+    drop(take_flow(ledger, flow));
+}
+
 // The same once it is attached and has this credit.
 pub(crate) fn attached(
     rt: &(impl Abort + AllocGlobal),
@@ -49,13 +66,8 @@ pub(crate) fn attached(
     credit: u32,
 ) -> OutcomeLedger<Target> {
     let mut ledger = new_ledger(rt, mode);
-    drop(send_attach(&mut ledger, false));
-    drop(take_attach(&mut ledger, attach_of(rt, Role::Receiver, mode)));
-    let flow = LinkFlow {
-        link_credit: Some(credit),
-        ..LinkFlow::default()
-    };
-    drop(take_flow(&mut ledger, flow));
+    attach(rt, &mut ledger, mode);
+    grant(&mut ledger, credit);
     assert_equal(rt, &local_state(&ledger), &LinkState::Attached);
     ledger
 }
@@ -65,10 +77,7 @@ pub(crate) fn attached(
 pub(crate) enum Sent {
     Unsettled,
     Settled,
-    CreditMissing,
     NoRoom,
-    TagPending,
-    IllegalState,
     OutOfMemory,
     Other,
 }
@@ -83,10 +92,8 @@ pub(crate) fn sent_as(settlement: &Settlement) -> Sent {
 fn sent_of(sending: &Result<Sending, LinkStateError>) -> Sent {
     match sending {
         Ok(Sending::Sent { settlement, .. }) => sent_as(settlement),
-        Ok(Sending::CreditMissing) => Sent::CreditMissing,
+        Ok(Sending::CreditMissing) => Sent::Other,
         Err(LinkStateError::NoRoom) => Sent::NoRoom,
-        Err(LinkStateError::TagPending) => Sent::TagPending,
-        Err(LinkStateError::IllegalState) => Sent::IllegalState,
         Err(LinkStateError::OutOfMemory) => Sent::OutOfMemory,
         Err(_) => Sent::Other,
     }
@@ -98,7 +105,7 @@ pub(crate) fn send_flagged(
     payload: &Payload,
     settled: Option<bool>,
 ) -> Sent {
-    let sending = ledger.send_payload(Waiting::Nothing, payload, 0, settled, None, false);
+    let sending = send_payload(ledger, payload, 0, settled);
     let sent = sent_of(&sending);
     drop(sending);
     sent
@@ -146,22 +153,4 @@ pub(crate) fn reattach(rt: &(impl Abort + AllocGlobal), ledger: &mut OutcomeLedg
     set_output_handle(ledger, Some(OutputHandle(0)));
     let sent = went(send_attach(ledger, false));
     assert_holds_at(rt, sent, &"the attach is sent again");
-}
-
-pub(crate) fn accepted() -> Fate {
-    Fate::Resolved(Ok(Some(DeliveryState::Accepted)))
-}
-
-// The registrations have these fates, and there is no other.
-pub(crate) fn assert_fates(rt: &impl Abort, ledger: &OutcomeLedger<Target>, wanted: &[Fate]) {
-    for (number, fate) in wanted.iter().enumerate() {
-        assert_equal_at(rt, &ledger.fate(number), &Some(fate), &number);
-    }
-    assert_equal_at(
-        rt,
-        &ledger.fate(wanted.len()),
-        &None,
-        &"past the last number",
-    );
-    assert_equal_at(rt, &ledger.fate(usize::MAX), &None, &"the greatest number");
 }

@@ -18,8 +18,6 @@ mod ledgers;
 #[cfg(test)]
 mod many;
 #[cfg(test)]
-mod registrations;
-#[cfg(test)]
 mod resolving;
 #[cfg(test)]
 mod samples;

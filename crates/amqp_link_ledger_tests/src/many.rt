@@ -3,9 +3,9 @@ use crate::assertions::{assert_equal, assert_equal_at, assert_holds_at};
 use crate::calls::{pending_in, take_acceptance};
 use crate::ledgers::{Sent, attached, send};
 use crate::samples::payload_of;
-use amqp_link_ledger::fate::Fate;
+use crate::shown::{Shown, fate_shown};
 use amqp_link_ledger::ledger::OutcomeLedger;
-use amqp_link_types::types::{DeliveryState, DeliveryTag, SenderSettleMode, Target};
+use amqp_link_types::types::{DeliveryTag, SenderSettleMode, Target};
 use std::process::Abort;
 
 const MANY: u32 = 10_000;
@@ -42,10 +42,10 @@ fn ten_thousand_deliveries_are_accepted(rt: HostRuntime) {
         accept(&rt, &mut ledger, count);
     }
     assert_equal(&rt, &pending_in(&ledger), &0);
-    let accepted = Fate::Resolved(Ok(Some(DeliveryState::Accepted)));
     for number in 0..10_000usize {
-        assert_equal_at(&rt, &ledger.fate(number), &Some(&accepted), &number);
+        let fate = fate_shown(ledger.fate(number));
+        assert_equal_at(&rt, &fate, &Shown::Accepted, &number);
     }
-    assert_equal(&rt, &ledger.fate(10_000), &None);
-    drop((accepted, ledger));
+    assert_equal(&rt, &fate_shown(ledger.fate(10_000)), &Shown::Nothing);
+    drop(ledger);
 }

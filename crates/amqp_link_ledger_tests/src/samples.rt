@@ -1,9 +1,7 @@
 //! Samples for tests: a test that is out of memory stops.
 use amqp_link_core::link_parts::LinkParts;
 use amqp_link_tests_support::links;
-use amqp_link_types::types::{
-    Attach, DeliveryTag, Fields, Payload, Role, SenderSettleMode, Target,
-};
+use amqp_link_types::types::{Attach, DeliveryTag, Payload, Role, SenderSettleMode, Target};
 use std::process::Abort;
 
 pub(crate) fn parts(rt: &(impl Abort + AllocGlobal), mode: SenderSettleMode) -> LinkParts<Target> {
@@ -24,8 +22,4 @@ pub(crate) fn payload_of(rt: &(impl Abort + AllocGlobal), bytes: &[u8]) -> Paylo
 
 pub(crate) fn count_tag(rt: &(impl Abort + AllocGlobal), count: u8) -> DeliveryTag {
     links::count_tag(rt.alloc(), count).expect(rt, "memory")
-}
-
-pub(crate) fn fields(rt: &(impl Abort + AllocGlobal), name: &str) -> Fields {
-    links::fields(rt.alloc(), name).expect(rt, "memory")
 }

@@ -1,20 +1,15 @@
 //! Which sends are registrations.
-use crate::assertions::{assert_equal, assert_equal_at, assert_holds};
-use crate::calls::{send_rest, set_max_frame_size};
-use crate::ledgers::{
-    Sent, assert_fates, attached, entry_of, new_ledger, put, send, send_flagged, sent_as,
-    three_sent,
-};
+use crate::assertions::assert_equal;
+use crate::calls::{send_payload, send_rest, set_max_frame_size};
+use crate::ledgers::{Sent, attached, entry_of, send, send_flagged, sent_as};
 use crate::samples::{count_tag, payload_of};
-use amqp_link_ledger::fate::Fate;
+use crate::shown::{Shown, assert_fates};
 use amqp_link_ledger::ledger::OutcomeLedger;
-use amqp_link_sender::{Sending, Waiting};
-use amqp_link_tests_support::table::detach;
+use amqp_link_sender::Sending;
 use amqp_link_types::delivery::Settlement;
 use amqp_link_types::frame::{LinkFrame, LinkTransfer};
 use amqp_link_types::types::{
-    Handle, InputHandle, LinkRelayError, LinkStateError, Payload, SenderSettleMode, Target,
-    Transfer,
+    Handle, InputHandle, LinkStateError, Payload, SenderSettleMode, Target, Transfer,
 };
 use std::process::Abort;
 
@@ -38,70 +33,43 @@ fn frame_of(rt: &(impl Abort + AllocGlobal), transfer: Transfer) -> Vec<LinkFram
     frames.expect(rt, "memory")
 }
 
-#[test]
-fn unsettled_payload_is_a_registration(rt: HostRuntime) {
-    let mut ledger = attached(&rt, SenderSettleMode::Mixed, 1);
-    let payload = payload_of(&rt, &[7]);
-    let sending = ledger.send_payload(Waiting::Nothing, &payload, 5, None, None, false);
-    let sending = sending.expect(&rt, "a payload is sent");
+// What a send answers of the first delivery, of format 5.
+fn first_sent(rt: &(impl Abort + AllocGlobal)) -> Sending {
     let transfer = Transfer {
         handle: Handle(0),
         message_format: Some(5),
-        ..transfer_of(&rt, 0, false)
+        ..transfer_of(rt, 0, false)
     };
-    let wanted = Sending::Sent {
-        settlement: Settlement::Unsettled(count_tag(&rt, 0)),
-        frames: frame_of(&rt, transfer),
-    };
-    assert_equal(&rt, &sending, &wanted);
-    drop((sending, wanted));
-    drop(payload);
-    assert_fates(&rt, &ledger, &[Fate::Pending]);
-    drop(ledger);
+    Sending::Sent {
+        settlement: Settlement::Unsettled(count_tag(rt, 0)),
+        frames: frame_of(rt, transfer),
+    }
 }
 
-// A send that is settled is none, and neither is one for which there is no credit.
+// At a limit of 24 not even an empty payload has room in a frame.
+fn assert_no_room(rt: &impl Abort, ledger: &mut OutcomeLedger<Target>, payload: &Payload) {
+    set_max_frame_size(ledger, 24);
+    assert_equal(rt, &send(ledger, payload), &Sent::NoRoom);
+    set_max_frame_size(ledger, 512);
+}
+
+// A send that is refused makes no number, and neither does one that is settled.
 #[test]
-fn settled_payload_is_no_registration(rt: HostRuntime) {
+fn unsettled_payload_is_a_registration(rt: HostRuntime) {
     let mut ledger = attached(&rt, SenderSettleMode::Mixed, 2);
     let payload = payload_of(&rt, &[7]);
+    assert_no_room(&rt, &mut ledger, &payload);
+    assert_fates(&rt, &ledger, &[]);
+    let sending = send_payload(&mut ledger, &payload, 5, None);
+    let sending = sending.expect(&rt, "a payload is sent");
+    let wanted = first_sent(&rt);
+    assert_equal(&rt, &sending, &wanted);
+    drop((sending, wanted));
+    assert_no_room(&rt, &mut ledger, &payload);
     let settled = send_flagged(&mut ledger, &payload, Some(true));
     assert_equal(&rt, &settled, &Sent::Settled);
-    assert_fates(&rt, &ledger, &[]);
-    let unsettled = send_flagged(&mut ledger, &payload, Some(false));
-    assert_equal(&rt, &unsettled, &Sent::Unsettled);
-    assert_fates(&rt, &ledger, &[Fate::Pending]);
-    let refused = send_flagged(&mut ledger, &payload, Some(false));
-    assert_equal(&rt, &refused, &Sent::CreditMissing);
-    assert_fates(&rt, &ledger, &[Fate::Pending]);
+    assert_fates(&rt, &ledger, &[Shown::Pending]);
     drop((payload, ledger));
-}
-
-// A link of mode settled registers nothing, whatever the flag.
-#[test]
-fn mode_settled_registers_nothing(rt: HostRuntime) {
-    let mut ledger = attached(&rt, SenderSettleMode::Settled, 3);
-    let payload = payload_of(&rt, &[7]);
-    for flag in [None, Some(false), Some(true)] {
-        let settled = send_flagged(&mut ledger, &payload, flag);
-        assert_equal(&rt, &settled, &Sent::Settled);
-    }
-    assert_fates(&rt, &ledger, &[]);
-    drop((payload, ledger));
-}
-
-// A detach that waits is recorded, and nothing is sent.
-#[test]
-fn waiting_detach_makes_no_number(rt: HostRuntime) {
-    let mut ledger = three_sent(&rt, SenderSettleMode::Mixed);
-    let payload = payload_of(&rt, &[7]);
-    let waiting = Waiting::Frame(LinkFrame::Detach(detach(false)));
-    let refused = ledger.send_payload(waiting, &payload, 0, None, None, false);
-    let is_detached = matches!(&refused, Err(LinkStateError::RemoteDetached));
-    drop((refused, payload));
-    assert_holds(&rt, is_detached);
-    assert_fates(&rt, &ledger, &[Fate::Pending, Fate::Pending, Fate::Pending]);
-    drop(ledger);
 }
 
 // Sends one byte with a transfer.
@@ -116,7 +84,7 @@ fn send_with(
     Ok((sent, frames))
 }
 
-// An unsettled transfer is a registration; the same again is refused, and a settled one is none.
+// An unsettled transfer is a registration, and a settled one is none.
 #[test]
 fn unsettled_transfer_is_a_registration(rt: HostRuntime) {
     let mut ledger = attached(&rt, SenderSettleMode::Mixed, 0);
@@ -126,14 +94,10 @@ fn unsettled_transfer_is_a_registration(rt: HostRuntime) {
     let wanted = (Sent::Unsettled, frame_of(&rt, transfer_of(&rt, 1, false)));
     assert_equal(&rt, &sent, &wanted);
     drop((sent, wanted));
-    assert_fates(&rt, &ledger, &[Fate::Pending]);
-    let refused = send_with(&mut ledger, &payload, transfer_of(&rt, 1, false)).err();
-    assert_equal(&rt, &refused, &Some(LinkStateError::TagPending));
-    drop(refused);
-    let settled = send_with(&mut ledger, &payload, transfer_of(&rt, 1, true));
+    let settled = send_with(&mut ledger, &payload, transfer_of(&rt, 2, true));
     let settled = settled.ok().map(|(sent, _)| sent);
     assert_equal(&rt, &settled, &Some(Sent::Settled));
-    assert_fates(&rt, &ledger, &[Fate::Pending]);
+    assert_fates(&rt, &ledger, &[Shown::Pending]);
     drop((payload, ledger));
 }
 
@@ -149,61 +113,6 @@ fn resumed_transfer_is_a_registration(rt: HostRuntime) {
     let wanted = frame_of(&rt, transfer_of(&rt, 4, false));
     assert_equal(&rt, &frames, &wanted);
     drop((frames, wanted));
-    assert_fates(&rt, &ledger, &[Fate::Pending]);
-    let transfer = transfer_of(&rt, 4, false);
-    let entry = entry_of(&rt, None);
-    let sent = send_rest(&mut ledger, transfer, &rest, count_tag(&rt, 4), entry);
-    let refused = sent.err();
-    assert_equal(&rt, &refused, &Some(LinkStateError::TagPending));
-    drop((refused, rest));
-    assert_fates(&rt, &ledger, &[Fate::Pending]);
-    drop(ledger);
-}
-
-// A payload is refused as by the endpoint, and makes no registration.
-#[test]
-fn refused_payload_is_no_registration(rt: HostRuntime) {
-    let payload = payload_of(&rt, &[7]);
-    let mut ledger = new_ledger(&rt, SenderSettleMode::Mixed);
-    assert_equal_at(
-        &rt,
-        &send(&mut ledger, &payload),
-        &Sent::IllegalState,
-        &"no input handle",
-    );
-    assert_fates(&rt, &ledger, &[]);
-    drop(ledger);
-    let mut ledger = attached(&rt, SenderSettleMode::Mixed, 1);
-    assert_holds(&rt, put(&rt, &mut ledger, 0));
-    assert_equal(&rt, &send(&mut ledger, &payload), &Sent::TagPending);
-    assert_fates(&rt, &ledger, &[Fate::Pending]);
-    drop((payload, ledger));
-}
-
-// At a limit of 24 no transfer has room for a byte.
-#[test]
-fn transfer_without_room_is_no_registration(rt: HostRuntime) {
-    let mut ledger = attached(&rt, SenderSettleMode::Mixed, 0);
-    set_max_frame_size(&mut ledger, 24);
-    let payload = payload_of(&rt, &[7]);
-    let refused = send_with(&mut ledger, &payload, transfer_of(&rt, 1, false)).err();
-    assert_equal(&rt, &refused, &Some(LinkStateError::NoRoom));
-    let transfer = transfer_of(&rt, 4, false);
-    let entry = entry_of(&rt, None);
-    let sent = send_rest(&mut ledger, transfer, &payload, count_tag(&rt, 4), entry);
-    let again = sent.err();
-    assert_equal(&rt, &again, &Some(LinkStateError::NoRoom));
-    assert_fates(&rt, &ledger, &[]);
-    drop((refused, again));
-    drop((payload, ledger));
-}
-
-// Only a receiver takes transfers.
-#[test]
-fn no_transfer_is_taken(rt: HostRuntime) {
-    let ledger = attached(&rt, SenderSettleMode::Mixed, 0);
-    let refused = ledger.on_incoming_transfer(Transfer::default(), payload_of(&rt, &[7]));
-    let refused = refused.err();
-    drop(ledger);
-    assert_equal(&rt, &refused, &Some(LinkRelayError::TransferFrameToSender));
+    assert_fates(&rt, &ledger, &[Shown::Pending]);
+    drop((rest, ledger));
 }

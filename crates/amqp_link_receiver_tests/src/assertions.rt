@@ -1,7 +1,5 @@
 //! Assertions as calls. The check proves an `assert_eq!` in each function that has one, with all that it would
 //! print; a call of these costs next to nothing. A failed one names the line of the call.
-ghost use Rattle.std.specs.Prelude.{IsTrue};
-
 use std::fmt::Debug;
 use std::process::Abort;
 
@@ -18,18 +16,4 @@ pub(crate) fn assert_equal_at<T: PartialEq + Debug, P: Debug>(
     place: &P,
 ) {
     assert_eq!(rt; *got, *wanted, "at {place:?}");
-}
-
-// The test holds.
-pub(crate) fn assert_holds(rt: &impl Abort, holds: bool)
-    ensures { IsTrue holds }
-{
-    assert!(rt; holds);
-}
-
-// The test holds. If it does not, `place` says in which row, or what was tested.
-pub(crate) fn assert_holds_at<P: Debug>(rt: &impl Abort, holds: bool, place: &P)
-    ensures { IsTrue holds }
-{
-    assert!(rt; holds, "at {place:?}");
 }

@@ -1,23 +1,22 @@
-//! Worked values of a receiver's attaches.
-use crate::assertions::{assert_equal, assert_equal_at, assert_holds_at};
-use crate::led::lead_to;
-use crate::samples::{attach_of, coming, fields, parts};
-use crate::transfers::{begins_next, transfer_arrives};
-use amqp_link_core::endpoint::{LinkAttach, LinkExt};
+//! The sender's attach at a receiver, what is verified of it, and what follows one that has failed.
+use crate::assertions::{assert_equal, assert_equal_at};
+use crate::samples::{attach_of, fields, link_of, link_with, parts, symbol, tag_of};
+use crate::table::lead_to;
+use amqp_link_core::endpoint::LinkExt;
 use amqp_link_receiver::{ReceiverAttachExchange, ReceiverLink, get_max_message_size};
-use amqp_link_state::state::LinkState;
+use amqp_link_state::state::{LinkFlowStateInner, LinkState};
 use amqp_link_tests_support::calls::{local_state, take_attach};
-use amqp_link_tests_support::nowhere::parts_to_nowhere;
-use amqp_link_tests_support::refusals::{Refusal, at_receiver};
+use amqp_link_tests_support::refusals::{Asked, Refusal, asked_by, at_receiver};
 use amqp_link_types::types::{
-    Attach, Handle, InputHandle, OutputHandle, ReceiverAttachError, ReceiverSettleMode, Role,
-    SenderSettleMode, Target,
+    Attach, DeliveryState, FilterSet, Handle, InputHandle, ReceiverAttachError, SenderSettleMode,
+    Source, Symbol, Target, UnsettledMap, Value,
 };
+use amqp_link_verification::{FilterError, verify_filter};
 use std::process::Abort;
 
 #[test]
 fn smaller_message_limit_holds(rt: HostRuntime) {
-    for (own, theirs, wanted) in [
+    for (own, theirs, wanted) in &[
         (0u64, Some(5u64), 5u64),
         (7, None, 7),
         (7, Some(5), 5),
@@ -25,62 +24,15 @@ fn smaller_message_limit_holds(rt: HostRuntime) {
         (7, Some(0), 7),
         (0, None, 0),
     ] {
-        assert_equal_at(
-            &rt,
-            &get_max_message_size(own, theirs),
-            &wanted,
-            &(own, theirs),
-        );
+        let limit = get_max_message_size(*own, *theirs);
+        assert_equal_at(&rt, &limit, wanted, &(own, theirs));
     }
 }
 
-// A property of the peer's attach becomes the link's.
-#[test]
-fn incoming_properties_are_taken(rt: HostRuntime) {
-    let mut link = ReceiverLink::new(rt.alloc(), parts(&rt, SenderSettleMode::Mixed, 512));
-    let mut attach = coming(&rt, Role::Sender, false);
-    attach.properties = Some(fields(&rt, "k"));
-    let answer = taken_by(take_attach(&mut link, attach));
-    let wanted = Some(fields(&rt, "k"));
-    let is_taken = *link.properties() == wanted;
-    drop(wanted);
-    drop(link);
-    assert_equal(&rt, &answer, &Ok(ReceiverAttachExchange::Complete));
-    assert_holds_at(&rt, is_taken, &"the property is the link's");
-}
-
-#[test]
-fn unfinished_exchanges_are_errors(rt: HostRuntime) {
-    assert_equal(
-        &rt,
-        &ReceiverAttachExchange::Complete.complete_or(7u8),
-        &Ok(()),
-    );
-    assert_equal(
-        &rt,
-        &ReceiverAttachExchange::Resume.complete_or(7u8),
-        &Err(7),
-    );
-    let incomplete = ReceiverAttachExchange::IncompleteUnsettled;
-    assert_equal(&rt, &incomplete.complete_or(7u8), &Err(7));
-}
-
-// The link "l" of mode second with output handle 0, brought to this state at count 0. More transfers of a
-// delivery are to arrive.
-fn link_in(rt: &(impl Abort + AllocGlobal), state: LinkState) -> ReceiverLink<Target> {
-    let mut parts = parts(rt, SenderSettleMode::Mixed, 512);
-    parts.rcv_settle_mode = ReceiverSettleMode::Second;
-    let link = ReceiverLink::new(rt.alloc(), parts);
-    let mut link = link.with_output_handle(OutputHandle(0));
-    lead_to(rt, &mut link, 0, state);
-    transfer_arrives(rt, &mut link, true);
-    link
-}
+type Taken = Result<ReceiverAttachExchange, Refusal>;
 
 // What follows an attach that arrived, or why it was refused.
-pub(crate) fn taken_by(
-    answer: Result<ReceiverAttachExchange, ReceiverAttachError>,
-) -> Result<ReceiverAttachExchange, Refusal> {
+fn taken_by(answer: Result<ReceiverAttachExchange, ReceiverAttachError>) -> Taken {
     match answer {
         Ok(exchange) => Ok(exchange),
         Err(error) => {
@@ -91,112 +43,217 @@ pub(crate) fn taken_by(
     }
 }
 
-// What a link shows after an attach has arrived, and whether the next transfer begins a delivery.
-#[derive(Clone, Copy, Debug, PartialEq, Eq)]
-struct Left {
-    answer: Result<ReceiverAttachExchange, Refusal>,
-    state: LinkState,
-    input_handle: Option<InputHandle>,
-    snd_settle_mode: SenderSettleMode,
-    count: u32,
-    begins: bool,
+// The link "l" with this property, that is not attached.
+fn link_with_property(rt: &(impl Abort + AllocGlobal), name: &str) -> ReceiverLink<Target> {
+    let flow_state = LinkFlowStateInner {
+        properties: Some(fields(rt, &[name])),
+        ..LinkFlowStateInner::default()
+    };
+    link_with(rt, flow_state)
 }
 
-// What an attach leaves of a link in this state.
-fn left_by(rt: &(impl Abort + AllocGlobal), state: LinkState, attach: Attach) -> Left {
-    let mut link = link_in(rt, state);
+fn has_properties(
+    rt: &(impl Abort + AllocGlobal),
+    link: &ReceiverLink<Target>,
+    names: &[&str],
+) -> bool {
+    let wanted = Some(fields(rt, names));
+    let has_properties = *link.properties() == wanted;
+    drop(wanted);
+    has_properties
+}
+
+// A property of the sender's attach stands beside the link's own.
+#[test]
+fn incoming_properties_are_taken(rt: HostRuntime) {
+    let mut link = link_with_property(&rt, "j");
+    let mut attach = attach_of(&rt, SenderSettleMode::Mixed);
+    attach.properties = Some(fields(&rt, &["k"]));
     let answer = taken_by(take_attach(&mut link, attach));
-    let left = Left {
-        answer,
-        state: local_state(&link),
-        input_handle: link.input_handle(),
-        snd_settle_mode: link.snd_settle_mode(),
-        count: link.flow_state().delivery_count(),
-        begins: begins_next(rt, &mut link),
+    let is_taken = has_properties(&rt, &link, &["j", "k"]);
+    drop(link);
+    let wanted = (Ok(ReceiverAttachExchange::Complete), true);
+    assert_equal(&rt, &(answer, is_taken), &wanted);
+}
+
+// A source with a filter of this name.
+fn source_of(rt: &(impl Abort + AllocGlobal), filter: &str) -> Source {
+    let mut source = Source::default();
+    source.filter = Some(fields(rt, &[filter]));
+    source
+}
+
+// The link "l" that asks for the filter "f", and verifies the source of the attach.
+fn asking(rt: &(impl Abort + AllocGlobal)) -> ReceiverLink<Target> {
+    let mut parts = parts(rt);
+    parts.source = Some(source_of(rt, "f"));
+    parts.verify_incoming_source = true;
+    link_of(rt, parts)
+}
+
+// One delivery without a state.
+fn one_delivery(rt: &(impl Abort + AllocGlobal)) -> UnsettledMap<Option<DeliveryState>> {
+    let mut entries = UnsettledMap::new(rt.alloc());
+    drop(entries.put(tag_of(rt, 1), None));
+    entries
+}
+
+// The attach of a sender that settles, at handle 6, with one unsettled delivery and this count, and with a source
+// that has a filter of this name, or no source.
+fn settling(rt: &(impl Abort + AllocGlobal), count: Option<u32>, filter: Option<&str>) -> Attach {
+    let mut attach = attach_of(rt, SenderSettleMode::Settled);
+    attach.handle = Handle(6);
+    attach.unsettled = Some(one_delivery(rt));
+    attach.initial_delivery_count = count;
+    attach.source = match filter {
+        Some(filter) => Some(source_of(rt, filter)),
+        None => None,
     };
+    attach
+}
+
+// The answer to an attach, and the sender's mode, the count, the state and the input handle of the link then.
+type Left = (Taken, SenderSettleMode, u32, LinkState, Option<InputHandle>);
+
+fn left_by(rt: &(impl Abort + AllocGlobal), count: Option<u32>, filter: Option<&str>) -> Left {
+    let mut link = asking(rt);
+    let answer = taken_by(take_attach(&mut link, settling(rt, count, filter)));
+    let left = (
+        answer,
+        link.snd_settle_mode(),
+        link.flow_state().delivery_count(),
+        local_state(&link),
+        link.input_handle(),
+    );
     drop(link);
     left
 }
 
-// The attach of a sender that settles, at handle 6, with this count, and a source or none.
-fn settling(rt: &(impl Abort + AllocGlobal), count: Option<u32>, has_source: bool) -> Attach {
-    let mut attach = attach_of(rt, Role::Sender, SenderSettleMode::Settled);
-    attach.handle = Handle(6);
-    attach.initial_delivery_count = count;
-    if !has_source {
-        drop(attach.source.take());
-    }
-    attach
-}
-
+// An attach that is refused for its source moves the link; one that is refused for its count also sets the sender's
+// mode.
 #[test]
 fn incoming_attach_is_taken_as_far_as_it_goes(rt: HostRuntime) {
-    let taken = Left {
-        answer: Ok(ReceiverAttachExchange::Complete),
-        state: LinkState::AttachReceived,
-        input_handle: Some(InputHandle(6)),
-        snd_settle_mode: SenderSettleMode::Settled,
-        count: 5,
-        begins: true,
-    };
-    let uncounted = Left {
-        answer: Err(Refusal::InitialDeliveryCountIsNone),
-        count: 0,
-        ..taken
-    };
-    let sourceless = Left {
-        answer: Err(Refusal::IncomingTerminusIsNone),
-        snd_settle_mode: SenderSettleMode::Mixed,
-        ..uncounted
-    };
-    let untouched = Left {
-        answer: Err(Refusal::IllegalState),
-        state: LinkState::Attached,
-        input_handle: Some(InputHandle(0)),
-        begins: false,
-        ..sourceless
-    };
-    for (state, count, has_source, left) in [
-        (LinkState::Unattached, Some(5), true, taken),
-        (LinkState::Unattached, None, true, uncounted),
-        (LinkState::Unattached, Some(5), false, sourceless),
-        (LinkState::Attached, Some(5), true, untouched),
+    let state = LinkState::AttachReceived;
+    let handle = Some(InputHandle(6));
+    for (count, filter, answer, mode, left) in &[
+        (
+            Some(5),
+            Some("f"),
+            Ok(ReceiverAttachExchange::Resume),
+            SenderSettleMode::Settled,
+            5,
+        ),
+        (
+            None,
+            Some("f"),
+            Err(Refusal::InitialDeliveryCountIsNone),
+            SenderSettleMode::Settled,
+            0,
+        ),
+        (
+            Some(5),
+            Some("g"),
+            Err(Refusal::MissingFilters),
+            SenderSettleMode::Mixed,
+            0,
+        ),
+        (
+            None,
+            None,
+            Err(Refusal::IncomingTerminusIsNone),
+            SenderSettleMode::Mixed,
+            0,
+        ),
     ] {
-        let attach = settling(&rt, count, has_source);
-        assert_equal_at(
-            &rt,
-            &left_by(&rt, state, attach),
-            &left,
-            &(count, has_source, state),
-        );
+        let actual = left_by(&rt, *count, *filter);
+        let wanted = (*answer, *mode, *left, state, handle);
+        assert_equal_at(&rt, &actual, &wanted, &(count, filter));
     }
 }
 
-// A target of another kind is refused once the source and the sender's mode are taken.
-#[test]
-fn target_of_another_kind_is_refused(rt: HostRuntime) {
-    let parts = parts_to_nowhere(rt.alloc(), SenderSettleMode::Mixed).expect(&rt, "memory");
-    let mut link = ReceiverLink::new(rt.alloc(), parts);
-    assert_equal(&rt, &link.input_handle(), &None);
-    let attach = attach_of(&rt, Role::Sender, SenderSettleMode::Settled);
-    let answer = taken_by(take_attach(&mut link, attach));
-    let left = (
-        local_state(&link),
-        link.input_handle().is_some(),
-        link.snd_settle_mode(),
-    );
-    drop(link);
-    assert_equal(&rt, &answer, &Err(Refusal::CoordinatorIsNotImplemented));
-    let wanted = (LinkState::AttachReceived, true, SenderSettleMode::Settled);
-    assert_equal_at(&rt, &left, &wanted, &"what it leaves");
+fn are_named(missing: &[Symbol], names: &[&str]) -> bool {
+    if missing.len() != names.len() {
+        return false;
+    }
+    for (one, other) in missing.iter().zip(names) {
+        if one.as_str() != *other {
+            return false;
+        }
+    }
+    true
 }
 
-// A link shows the output handle that its session gives it.
+// Whether exactly these filters are returned as missing, in this order.
+fn are_missing(desired: &Option<FilterSet>, supported: &Option<FilterSet>, names: &[&str]) -> bool {
+    let answer = verify_filter(desired, supported);
+    let are_missing = match &answer {
+        Ok(()) => names.is_empty(),
+        Err(FilterError::DesiredFilterNotSupported(missing)) => {
+            are_named(missing.as_slice(), names)
+        }
+        Err(FilterError::OutOfMemory) => false,
+    };
+    drop(answer);
+    are_missing
+}
+
+// Filters of these names, and one with a null.
+fn filters_and_null(
+    rt: &(impl Abort + AllocGlobal),
+    names: &[&str],
+    null: &str,
+) -> Option<FilterSet> {
+    let mut filters = fields(rt, names);
+    drop(filters.insert(symbol(rt, null), Value::Null));
+    Some(filters)
+}
+
+// The names that are absent or null are returned in the order in which they were asked for.
 #[test]
-fn output_handle_is_shown(rt: HostRuntime) {
-    let link = ReceiverLink::new(rt.alloc(), parts(&rt, SenderSettleMode::Mixed, 512));
-    assert_equal(&rt, &link.output_handle(), &None);
-    let link = link.with_output_handle(OutputHandle(4));
-    assert_equal(&rt, &link.output_handle(), &Some(OutputHandle(4)));
+fn missing_filters_are_named_in_order(rt: HostRuntime) {
+    let desired = Some(fields(&rt, &["d", "b", "c", "a"]));
+    let supported = filters_and_null(&rt, &["a", "b"], "d");
+    let actual = [
+        are_missing(&desired, &supported, &["d", "c"]),
+        are_missing(&desired, &None, &["d", "b", "c", "a"]),
+        are_missing(&supported, &desired, &[]),
+        are_missing(&None, &None, &[]),
+    ];
+    drop((desired, supported));
+    assert_equal(&rt, &actual, &[true, true, true, true]);
+}
+
+// What is returned for an error, and what is to be done.
+fn handled_by(
+    rt: &impl Abort,
+    link: &mut ReceiverLink<Target>,
+    error: ReceiverAttachError,
+) -> (Refusal, Asked) {
+    let (error, action) = link.handle_attach_error(error).expect(rt, "memory");
+    let handled = (at_receiver(&error), asked_by(&action));
+    drop((error, action));
+    handled
+}
+
+// The same of a link that is attached, and its state then.
+fn handled(
+    rt: &(impl Abort + AllocGlobal),
+    error: ReceiverAttachError,
+) -> ((Refusal, Asked), LinkState) {
+    let mut link = link_of(rt, parts(rt));
+    lead_to(rt, &mut link, LinkState::Attached);
+    let handled = handled_by(rt, &mut link, error);
+    let state = local_state(&link);
     drop(link);
+    (handled, state)
+}
+
+#[test]
+fn errors_have_their_actions(rt: HostRuntime) {
+    let in_use = (Refusal::DuplicatedLinkName, Asked::EndAsInUse);
+    let actual = handled(&rt, ReceiverAttachError::DuplicatedLinkName);
+    assert_equal(&rt, &actual, &(in_use, LinkState::Attached));
+    let uncounted = (Refusal::InitialDeliveryCountIsNone, Asked::CloseAsInvalid);
+    let actual = handled(&rt, ReceiverAttachError::InitialDeliveryCountIsNone);
+    assert_equal(&rt, &actual, &(uncounted, LinkState::CloseSent));
 }

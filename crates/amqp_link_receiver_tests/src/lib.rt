@@ -2,22 +2,14 @@
 #![tactic(auto)]
 
 #[cfg(test)]
+mod arriving;
+#[cfg(test)]
 mod assertions;
 #[cfg(test)]
 mod attaching;
 #[cfg(test)]
 mod completing;
 #[cfg(test)]
-mod flows;
-#[cfg(test)]
-mod kept;
-#[cfg(test)]
-mod led;
-#[cfg(test)]
 mod samples;
 #[cfg(test)]
 mod table;
-#[cfg(test)]
-mod transfers;
-#[cfg(test)]
-mod verifying;

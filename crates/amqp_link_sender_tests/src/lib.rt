@@ -10,18 +10,10 @@ mod calls;
 #[cfg(test)]
 mod exchanging;
 #[cfg(test)]
-mod flows;
-#[cfg(test)]
 mod led;
-#[cfg(test)]
-mod resending;
 #[cfg(test)]
 mod samples;
 #[cfg(test)]
 mod sending;
 #[cfg(test)]
 mod table;
-#[cfg(test)]
-mod verifying;
-#[cfg(test)]
-mod waiting;

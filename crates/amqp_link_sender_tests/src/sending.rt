@@ -1,125 +1,80 @@
 //! Worked values of a sender's sends.
-use crate::assertions::{assert_equal, assert_equal_at};
-use crate::calls::{pending_in, take_flow};
-use crate::samples::{attach_of, count_tag, parts, payload_of};
-use amqp_link_core::endpoint::{LinkAttach, LinkExt};
+use crate::assertions::{assert_equal, assert_equal_at, assert_holds_at};
+use crate::calls::{handle_of, is_kept, numbers_of, set_limit};
+use crate::led::{attach, credit_arrives};
+use crate::samples::{count_in, entry_of, link_of, parts, payload_of, tag_of};
 use amqp_link_sender::{SenderLink, Sending, Waiting};
-use amqp_link_tests_support::calls::{send_attach, take_attach};
-use amqp_link_types::delivery::Settlement;
+use amqp_link_state::state::LinkState;
+use amqp_link_tests_support::calls::local_state;
+use amqp_link_tests_support::table::detach;
+use amqp_link_types::delivery::{Settlement, UnsettledMessage};
 use amqp_link_types::frame::LinkFrame;
-use amqp_link_types::types::{
-    DeliveryState, Handle, InputHandle, LinkFlow, LinkStateError, OutputHandle, Payload, Role,
-    SenderSettleMode, Target, Transfer,
-};
+use amqp_link_types::types::{DeliveryState, LinkStateError, Payload, Target, Transfer};
 use std::process::Abort;
 
-// The link "l" with output handle 0 and count 0, in this mode, that is not attached.
-pub(crate) fn new_link(
-    rt: &(impl Abort + AllocGlobal),
-    mode: SenderSettleMode,
-) -> SenderLink<Target> {
-    let link = SenderLink::new(rt.alloc(), parts(rt, mode, 512));
-    link.with_output_handle(OutputHandle(0))
-}
-
-// The same once it is attached, with this frame limit and credit.
-pub(crate) fn link(
-    rt: &(impl Abort + AllocGlobal),
-    mode: SenderSettleMode,
-    limit: u32,
-    credit: u32,
-) -> SenderLink<Target> {
-    let mut link = attached(rt, new_link(rt, mode), mode, credit);
-    link.set_max_frame_size(limit);
+// The link "l" with output handle 0 and count 0 once it is attached, with this frame limit and credit.
+pub(crate) fn link(rt: &(impl Abort + AllocGlobal), limit: u32, credit: u32) -> SenderLink<Target> {
+    let mut link = link_of(rt, parts(rt, 512));
+    attach(rt, &mut link);
+    credit_arrives(rt, &mut link, credit);
+    set_limit(&mut link, limit);
     link
 }
 
-// A link once it is attached and has this credit.
-pub(crate) fn attached(
-    rt: &(impl Abort + AllocGlobal),
-    mut link: SenderLink<Target>,
-    mode: SenderSettleMode,
-    credit: u32,
-) -> SenderLink<Target> {
-    drop(send_attach(&mut link, false));
-    drop(take_attach(&mut link, attach_of(rt, Role::Receiver, mode)));
-    drop(take_flow(
-        &mut link,
-        LinkFlow {
-            link_credit: Some(credit),
-            ..LinkFlow::default()
-        },
-    ));
-    link
+// Sends a payload of format 0 while this is pending.
+fn send(
+    link: &mut SenderLink<Target>,
+    waiting: Waiting,
+    payload: &Payload,
+) -> Result<Sending, LinkStateError> {
+    link.send_payload(waiting, payload, 0, None, None, false)
 }
 
-// The result of a send.
+// The result of a send. `Other` stands for those that no test compares.
 #[derive(Clone, Copy, Debug, PartialEq, Eq)]
-pub(crate) enum SendAnswer {
-    Settled,
+enum SendAnswer {
     Unsettled,
-    CreditMissing,
-    IllegalState,
-    RemoteDetached,
-    RemoteClosed,
-    RemoteClosedWithError,
-    ExpectImmediateDetach,
-    SessionStopped,
-    TagPending,
     NoRoom,
+    RemoteClosed,
     Other,
 }
 
-fn answered_by_settlement(settlement: &Settlement) -> SendAnswer {
-    match settlement {
-        Settlement::Settled(_) => SendAnswer::Settled,
-        Settlement::Unsettled(_) => SendAnswer::Unsettled,
-    }
-}
-
-pub(crate) fn answered_by_error(error: &LinkStateError) -> SendAnswer {
-    match error {
-        LinkStateError::IllegalState => SendAnswer::IllegalState,
-        LinkStateError::RemoteDetached => SendAnswer::RemoteDetached,
-        LinkStateError::RemoteClosed => SendAnswer::RemoteClosed,
-        LinkStateError::RemoteClosedWithError(_) => SendAnswer::RemoteClosedWithError,
-        LinkStateError::ExpectImmediateDetach => SendAnswer::ExpectImmediateDetach,
-        LinkStateError::SessionStopped(_) => SendAnswer::SessionStopped,
-        LinkStateError::TagPending => SendAnswer::TagPending,
-        LinkStateError::NoRoom => SendAnswer::NoRoom,
+fn answer_in(sending: &Result<Sending, LinkStateError>) -> SendAnswer {
+    match sending {
+        Ok(
+            Sending::Sent {
+                settlement: Settlement::Unsettled(_),
+                ..
+            },
+        ) => SendAnswer::Unsettled,
+        Err(LinkStateError::NoRoom) => SendAnswer::NoRoom,
+        Err(LinkStateError::RemoteClosed) => SendAnswer::RemoteClosed,
         _ => SendAnswer::Other,
     }
 }
 
-fn answered_of(sending: &Result<Sending, LinkStateError>) -> SendAnswer {
-    match sending {
-        Ok(Sending::Sent { settlement, .. }) => answered_by_settlement(settlement),
-        Ok(Sending::CreditMissing) => SendAnswer::CreditMissing,
-        Err(error) => answered_by_error(error),
-    }
-}
-
-pub(crate) fn answered_by(sending: Result<Sending, LinkStateError>) -> SendAnswer {
-    let answer = answered_of(&sending);
-    drop(sending);
+// The result of a send of these bytes while this is pending.
+fn answered(
+    rt: &(impl Abort + AllocGlobal),
+    link: &mut SenderLink<Target>,
+    waiting: Waiting,
+    bytes: &[u8],
+) -> SendAnswer {
+    let payload = payload_of(rt, bytes);
+    let sending = send(link, waiting, &payload);
+    let answer = answer_in(&sending);
+    drop((sending, payload));
     answer
 }
 
-// Sends a payload with this flag, with nothing waiting.
-pub(crate) fn send_flagged(
+// Sends a delivery of these bytes, which awaits its outcome.
+pub(crate) fn send_one(
+    rt: &(impl Abort + AllocGlobal),
     link: &mut SenderLink<Target>,
-    payload: &Payload,
-    settled: Option<bool>,
-) -> Result<Sending, LinkStateError> {
-    link.send_payload(Waiting::Nothing, payload, 0, settled, None, false)
-}
-
-// The frames of a send that succeeded.
-fn frames_of(sending: &Result<Sending, LinkStateError>) -> Option<&[LinkFrame]> {
-    match sending {
-        Ok(Sending::Sent { frames, .. }) => Some(frames.as_slice()),
-        _ => None,
-    }
+    bytes: &[u8],
+) {
+    let answer = answered(rt, link, Waiting::Nothing, bytes);
+    assert_equal(rt, &answer, &SendAnswer::Unsettled);
 }
 
 // What a frame shows: whether it is a first one, its payload's length, and the fields of its transfer.
@@ -128,18 +83,21 @@ struct Shown {
     first: bool,
     payload: usize,
     more: bool,
+    resume: bool,
     tagged: bool,
     message_format: Option<u32>,
     settled: Option<bool>,
     delivery_id: Option<u32>,
 }
 
-fn shown_by(frame: &LinkFrame) -> Option<Shown> {
+fn shown_at(frame: Option<&LinkFrame>) -> Option<Shown> {
+    let frame = frame?;
     let transfer = frame.as_transfer()?;
     Some(Shown {
         first: matches!(frame, LinkFrame::FirstTransfer(_)),
         payload: transfer.payload.len(),
         more: transfer.performative.more,
+        resume: transfer.performative.resume,
         tagged: transfer.performative.delivery_tag.is_some(),
         message_format: transfer.performative.message_format,
         settled: transfer.performative.settled,
@@ -147,355 +105,271 @@ fn shown_by(frame: &LinkFrame) -> Option<Shown> {
     })
 }
 
-// The handles of a frame that is a transfer: its own, and that of its performative.
-fn handles_in(frame: &LinkFrame) -> Option<(InputHandle, Handle)> {
-    let transfer = frame.as_transfer()?;
-    Some((transfer.input_handle, transfer.performative.handle))
-}
+// How many frames there are, and what the first, the second and the last show.
+type Frames = (usize, [Option<Shown>; 3]);
 
-// What the first three frames show.
-fn shown_in(frames: &[LinkFrame]) -> [Option<Shown>; 3] {
-    let mut shown = [None; 3];
-    for (index, frame) in frames.iter().enumerate() {
-        if let Some(place) = shown.get_mut(index) {
-            *place = shown_by(frame);
-        }
-    }
-    shown
-}
-
-// What the frames of these bytes at a limit of 30 show, if they are sent.
-fn shown_at_30(rt: &(impl Abort + AllocGlobal), bytes: &[u8]) -> Option<[Option<Shown>; 3]> {
-    let mut link = link(rt, SenderSettleMode::Mixed, 30, 1);
-    let payload = payload_of(rt, bytes);
-    let sending = send_flagged(&mut link, &payload, None);
-    let shown = frames_of(&sending).map(shown_in);
-    drop((sending, payload));
-    drop(link);
-    shown
-}
-
-// The fields of a transfer that was made: its handle, format, settled flag, whether it resumes and is
-// batchable, and whether it has a tag and an id.
-fn made(transfer: &Transfer) -> (u32, Option<u32>, Option<bool>, [bool; 4]) {
-    let flags = [
-        transfer.resume,
-        transfer.batchable,
-        transfer.delivery_tag.is_some(),
-        transfer.delivery_id.is_some(),
+fn shown_in(frames: &[LinkFrame]) -> Frames {
+    let shown = [
+        shown_at(frames.first()),
+        shown_at(frames.get(1)),
+        shown_at(frames.last()),
     ];
-    let Transfer {
-        handle,
-        message_format,
-        settled,
-        ..
-    } = transfer;
-    (handle.0, *message_format, *settled, flags)
+    (frames.len(), shown)
 }
 
-#[test]
-fn transfer_of_a_new_delivery_is_made(rt: HostRuntime) {
-    let link = new_link(&rt, SenderSettleMode::Mixed);
-    let tag = count_tag(&rt, 3);
-    let answer = link.generate_non_resuming_transfer_performative(tag, 5, Some(true), None, true);
-    let actual = answer.as_ref().ok().map(made);
-    drop(answer);
-    drop(link);
-    let flags = [false, true, true, false];
-    assert_equal(&rt, &actual, &Some((0, Some(5), Some(true), flags)));
+// The first frame of a delivery of format 0 that awaits its outcome, with so many bytes.
+fn first_with(payload: usize, more: bool) -> Shown {
+    Shown {
+        first: true,
+        payload,
+        more,
+        resume: false,
+        tagged: true,
+        message_format: Some(0),
+        settled: Some(false),
+        delivery_id: None,
+    }
 }
 
-// Twelve bytes at 30 go as five, five and two; only the first frame names the delivery.
-#[test]
-fn twelve_bytes_are_three_frames(rt: HostRuntime) {
-    let rest = Shown {
+// A frame after the first, with so many bytes.
+fn next_with(payload: usize, more: bool) -> Shown {
+    Shown {
         first: false,
-        payload: 5,
-        more: true,
+        payload,
+        more,
+        resume: false,
         tagged: false,
         message_format: None,
         settled: None,
         delivery_id: None,
-    };
-    let first = Shown {
-        first: true,
-        tagged: true,
-        message_format: Some(0),
-        settled: Some(false),
-        ..rest
-    };
-    let last = Shown {
-        payload: 2,
-        more: false,
-        ..rest
-    };
-    let shown = shown_at_30(&rt, &[1, 2, 3, 4, 5, 6, 7, 8, 9, 10, 11, 12]);
-    assert_equal(&rt, &shown, &Some([Some(first), Some(rest), Some(last)]));
-}
-
-// What a link shows after a send: the result, its credit, its count, and how many deliveries are pending.
-#[derive(Clone, Copy, Debug, PartialEq, Eq)]
-struct Standing {
-    answer: SendAnswer,
-    credit: u32,
-    count: u32,
-    pending: usize,
-}
-
-fn after(link: &SenderLink<Target>, answer: SendAnswer) -> Standing {
-    Standing {
-        answer,
-        credit: link.flow_state().link_credit(),
-        count: link.flow_state().delivery_count(),
-        pending: pending_in(link),
     }
 }
 
-// What a link shows after a send with credit 1, whether the tag of its count is pending then, and the result
-// of a second send.
-fn sent_twice(rt: &(impl Abort + AllocGlobal)) -> (Standing, bool, SendAnswer) {
-    let mut link = link(rt, SenderSettleMode::Mixed, 30, 1);
-    let payload = payload_of(rt, &[7]);
-    let tag = count_tag(rt, 0);
-    let answer = answered_by(send_flagged(&mut link, &payload, None));
-    let sent = after(&link, answer);
-    let is_kept = link.unsettled().contains_key(&tag);
-    let again = answered_by(send_flagged(&mut link, &payload, None));
-    drop((payload, tag));
-    drop(link);
-    (sent, is_kept, again)
+fn frames_in(sending: &Result<Sending, LinkStateError>) -> Option<Frames> {
+    match sending {
+        Ok(Sending::Sent { frames, .. }) => Some(shown_in(frames.as_slice())),
+        _ => None,
+    }
 }
 
-// The first delivery is pending under the tag of its count, and the credit is spent.
-#[test]
-fn sent_delivery_is_pending(rt: HostRuntime) {
-    let sent = Standing {
-        answer: SendAnswer::Unsettled,
-        credit: 0,
-        count: 1,
-        pending: 1,
-    };
-    assert_equal(
-        &rt,
-        &sent_twice(&rt),
-        &(sent, true, SendAnswer::CreditMissing),
-    );
+// What the frames of these bytes show, if they are sent.
+fn frames_sent(
+    rt: &(impl Abort + AllocGlobal),
+    link: &mut SenderLink<Target>,
+    bytes: &[u8],
+) -> Option<Frames> {
+    let payload = payload_of(rt, bytes);
+    let sending = send(link, Waiting::Nothing, &payload);
+    let frames = frames_in(&sending);
+    drop((sending, payload));
+    frames
 }
+
+// Twelve bytes at 30 go as five, five and two; only the first frame names the delivery, which is pending then with
+// all its bytes.
+#[test]
+fn twelve_bytes_are_three_frames(rt: HostRuntime) {
+    let bytes: &[u8] = &[1, 2, 3, 4, 5, 6, 7, 8, 9, 10, 11, 12];
+    let mut link = link(&rt, 30, 1);
+    let frames = frames_sent(&rt, &mut link, bytes);
+    let is_kept = is_kept(&rt, &link, 0, entry_of(&rt, bytes, 0));
+    drop(link);
+    let shown = [
+        Some(first_with(5, true)),
+        Some(next_with(5, true)),
+        Some(next_with(2, false)),
+    ];
+    assert_equal(&rt, &frames, &Some((3, shown)));
+    assert_holds_at(&rt, is_kept, &"the delivery is pending");
+}
+
+// The result of a send, and then the credit, the count, and how many deliveries are pending.
+type Standing = (SendAnswer, (u32, u32, usize));
 
 // What a link with credit 1 at this limit shows after a send of these bytes.
 fn sent_at(rt: &(impl Abort + AllocGlobal), limit: u32, bytes: &[u8]) -> Standing {
-    let mut link = link(rt, SenderSettleMode::Mixed, limit, 1);
-    let payload = payload_of(rt, bytes);
-    let answer = answered_by(send_flagged(&mut link, &payload, None));
-    let after = after(&link, answer);
-    drop((payload, link));
-    after
+    let mut link = link(rt, limit, 1);
+    let answer = answered(rt, &mut link, Waiting::Nothing, bytes);
+    let numbers = numbers_of(&link);
+    drop(link);
+    (answer, numbers)
 }
 
-// At 25 the empty payload is sent in one frame, and one byte has no room: then nothing changes.
+// What it shows if the bytes are sent, and if they have no room: then nothing changes.
+fn standing(is_sent: bool) -> Standing {
+    if is_sent {
+        (SendAnswer::Unsettled, (0, 1, 1))
+    } else {
+        (SendAnswer::NoRoom, (1, 0, 0))
+    }
+}
+
+// At 25 the empty payload is sent in one frame, and one byte has no room.
 #[test]
 fn frames_have_room_or_nothing_changes(rt: HostRuntime) {
-    let refused = Standing {
-        answer: SendAnswer::NoRoom,
-        credit: 1,
-        count: 0,
-        pending: 0,
-    };
-    let sent = Standing {
-        answer: SendAnswer::Unsettled,
-        credit: 0,
-        count: 1,
-        pending: 1,
-    };
-    for (limit, bytes, wanted) in [
-        (0u32, 0usize, refused),
-        (3, 0, refused),
-        (24, 0, refused),
-        (25, 0, sent),
-        (25, 1, refused),
-        (26, 1, sent),
-    ] {
-        assert_equal_at(
-            &rt,
-            &sent_at(&rt, limit, &[7u8][..bytes]),
-            &wanted,
-            &(bytes, limit),
-        );
+    let rows: &[(u32, &'static [u8], bool)] = &[
+        (0, b"", false),
+        (3, b"", false),
+        (24, b"", false),
+        (25, b"", true),
+        (25, b"\x07", false),
+    ];
+    for (limit, bytes, is_sent) in rows {
+        let actual = sent_at(&rt, *limit, bytes);
+        assert_equal_at(&rt, &actual, &standing(*is_sent), &(limit, is_sent));
     }
 }
 
-// The handles of the first frame of a send that succeeded.
-fn first_handles(sending: &Result<Sending, LinkStateError>) -> Option<(InputHandle, Handle)> {
-    handles_in(frames_of(sending)?.first()?)
-}
-
-// The handles of the first frame of a link with output handle 9.
-fn handles_at_9(rt: &(impl Abort + AllocGlobal)) -> Option<(InputHandle, Handle)> {
-    let link = link(rt, SenderSettleMode::Mixed, 64, 1);
-    let mut link = link.with_output_handle(OutputHandle(9));
-    let payload = payload_of(rt, &[7]);
-    let sending = send_flagged(&mut link, &payload, None);
-    let handles = first_handles(&sending);
-    drop((sending, payload));
-    drop(link);
-    handles
-}
-
-// The transfer has the link's output handle, the frame its input handle.
-#[test]
-fn handles_are_kept_apart(rt: HostRuntime) {
-    assert_equal(&rt, &handles_at_9(&rt), &Some((InputHandle(0), Handle(9))));
-}
-
-// Whether a delivery of this mode and flag is sent settled, and whether it is pending then.
-fn settled_at(
-    rt: &(impl Abort + AllocGlobal),
-    mode: SenderSettleMode,
-    given: Option<bool>,
-) -> (SendAnswer, bool) {
-    let mut link = link(rt, mode, 64, 1);
-    let payload = payload_of(rt, &[7]);
-    let answer = answered_by(send_flagged(&mut link, &payload, given));
-    let tag = count_tag(rt, 0);
-    let is_pending = link.unsettled().contains_key(&tag);
-    drop((payload, tag));
-    drop(link);
-    (answer, is_pending)
-}
-
-#[test]
-fn settled_goes_by_mode(rt: HostRuntime) {
-    for (mode, given, settled) in [
-        (SenderSettleMode::Settled, None, true),
-        (SenderSettleMode::Settled, Some(false), true),
-        (SenderSettleMode::Unsettled, Some(true), false),
-        (SenderSettleMode::Mixed, None, false),
-        (SenderSettleMode::Mixed, Some(true), true),
-    ] {
-        let answer = if settled {
-            SendAnswer::Settled
-        } else {
-            SendAnswer::Unsettled
-        };
-        let wanted = (answer, !settled);
-        assert_equal_at(&rt, &settled_at(&rt, mode, given), &wanted, &(mode, given));
-    }
-}
-
-// A transfer of the delivery with this count, with a state, settled or not.
-fn transfer(rt: &(impl Abort + AllocGlobal), count: u8, settled: bool) -> Transfer {
+// An unsettled transfer of the delivery of count 1, with a state.
+fn transfer(rt: &(impl Abort + AllocGlobal)) -> Transfer {
     Transfer {
-        delivery_tag: Some(count_tag(rt, count)),
-        settled: Some(settled),
+        delivery_tag: Some(tag_of(rt, 1)),
+        settled: Some(false),
         state: Some(DeliveryState::Accepted),
         ..Transfer::default()
     }
 }
 
-fn answered_of_transfer(sent: &Result<(Settlement, Vec<LinkFrame>), LinkStateError>) -> SendAnswer {
-    match sent {
-        Ok((settlement, _)) => answered_by_settlement(settlement),
-        Err(error) => answered_by_error(error),
+// The count of a delivery that awaits its outcome.
+fn unsettled_in(settlement: &Settlement) -> Option<u32> {
+    match settlement {
+        Settlement::Unsettled(tag) => count_in(tag),
+        Settlement::Settled(_) => None,
     }
 }
 
-fn answered_by_transfer(sent: Result<(Settlement, Vec<LinkFrame>), LinkStateError>) -> SendAnswer {
-    let answer = answered_of_transfer(&sent);
-    drop(sent);
-    answer
-}
-
-// Sends one byte with a transfer, and returns the result.
-fn send_with(
+// Sends these bytes in format 3 with a transfer: the count of the delivery if it awaits its outcome, and its frames.
+fn sent_with(
     rt: &(impl Abort + AllocGlobal),
     link: &mut SenderLink<Target>,
     transfer: Transfer,
-) -> SendAnswer {
-    let payload = payload_of(rt, &[7]);
-    let answer = answered_by_transfer(link.send_payload_with_transfer(3, transfer, &payload));
-    drop(payload);
-    answer
-}
-
-// Whether the delivery with count 1 has an entry with format 3 and no state.
-fn is_plainly_kept(rt: &(impl Abort + AllocGlobal), link: &SenderLink<Target>) -> bool {
-    let tag = count_tag(rt, 1);
-    let entry = link.unsettled().get(&tag);
-    let is_plain = entry.is_some_and(|kept| kept.state.is_none() && kept.message_format == 3);
-    drop(tag);
-    is_plain
-}
-
-// The results of an unsettled transfer, the same again and a settled one, whether the first has a plain
-// entry, and how many deliveries are pending at last.
-fn sent_thrice(rt: &(impl Abort + AllocGlobal)) -> ([SendAnswer; 3], bool, usize) {
-    let mut link = link(rt, SenderSettleMode::Mixed, 64, 0);
-    let first = send_with(rt, &mut link, transfer(rt, 1, false));
-    let is_plain = is_plainly_kept(rt, &link);
-    let again = send_with(rt, &mut link, transfer(rt, 1, false));
-    let settled = send_with(rt, &mut link, transfer(rt, 1, true));
-    let pending = pending_in(&link);
-    drop(link);
-    ([first, again, settled], is_plain, pending)
-}
-
-// A pending tag refuses an unsettled transfer, not a settled one; the entry has no state.
-#[test]
-fn transfers_name_their_delivery(rt: HostRuntime) {
-    let answers = [
-        SendAnswer::Unsettled,
-        SendAnswer::TagPending,
-        SendAnswer::Settled,
-    ];
-    assert_equal(&rt, &sent_thrice(&rt), &(answers, true, 1));
-}
-
-// What the frames of a transfer of two bytes show.
-fn shown_with(rt: &(impl Abort + AllocGlobal), transfer: Transfer) -> Option<[Option<Shown>; 3]> {
-    let mut link = link(rt, SenderSettleMode::Mixed, 64, 0);
-    let payload = payload_of(rt, &[7, 8]);
+    bytes: &[u8],
+) -> Option<(Option<u32>, Frames)> {
+    let payload = payload_of(rt, bytes);
     let sent = link.send_payload_with_transfer(3, transfer, &payload);
-    let shown = sent
-        .as_ref()
-        .ok()
-        .map(|(_, frames)| shown_in(frames.as_slice()));
+    let shown = match &sent {
+        Ok((settlement, frames)) => Some((unsettled_in(settlement), shown_in(frames.as_slice()))),
+        Err(_) => None,
+    };
+    drop((sent, payload));
+    shown
+}
+
+// The one frame of a transfer has the fields of the transfer; the delivery is pending without a state.
+#[test]
+fn frames_go_with_their_transfer(rt: HostRuntime) {
+    let bytes: &[u8] = &[7, 8];
+    let mut link = link(&rt, 64, 0);
+    let sent = sent_with(&rt, &mut link, transfer(&rt), bytes);
+    let is_kept = is_kept(&rt, &link, 1, entry_of(&rt, bytes, 3));
+    drop(link);
+    let only = Some(Shown {
+        message_format: None,
+        ..first_with(2, false)
+    });
+    assert_equal(&rt, &sent, &Some((Some(1), (1, [only, None, only]))));
+    assert_holds_at(&rt, is_kept, &"the delivery is pending");
+}
+
+// The frames of one byte with a transfer that names nothing, and whether it is sent settled.
+fn frames_alone(rt: &(impl Abort + AllocGlobal)) -> Option<(bool, Frames)> {
+    let link = link(rt, 64, 0);
+    let payload = payload_of(rt, &[7]);
+    let sent = link.send_transfer_without_modifying_unsettled_map(Transfer::default(), &payload);
+    let shown = match &sent {
+        Ok((is_settled, frames)) => Some((*is_settled, shown_in(frames.as_slice()))),
+        Err(_) => None,
+    };
     drop((sent, payload));
     drop(link);
     shown
 }
 
-// The one frame of a transfer has the fields of the transfer.
-#[test]
-fn frames_go_with_their_transfer(rt: HostRuntime) {
-    let only = Shown {
-        first: true,
-        payload: 2,
-        more: false,
-        tagged: true,
-        message_format: None,
-        settled: Some(false),
-        delivery_id: None,
-    };
-    let shown = shown_with(&rt, transfer(&rt, 1, false));
-    assert_equal(&rt, &shown, &Some([Some(only), None, None]));
-}
-
-// Without a tag there is nothing to register.
-#[test]
-fn unnamed_transfer_is_refused(rt: HostRuntime) {
-    let mut link = link(&rt, SenderSettleMode::Mixed, 64, 0);
-    let answer = send_with(&rt, &mut link, Transfer::default());
-    assert_equal(&rt, &answer, &SendAnswer::IllegalState);
-    drop(link);
-}
-
 // The frames alone need no tag.
 #[test]
 fn frames_alone_need_no_tag(rt: HostRuntime) {
-    let link = link(&rt, SenderSettleMode::Mixed, 64, 0);
-    let bytes = payload_of(&rt, &[7]);
-    let sent = link.send_transfer_without_modifying_unsettled_map(Transfer::default(), &bytes);
-    let answer = sent.ok().map(|(settled, frames)| (settled, frames.len()));
-    assert_equal(&rt, &answer, &Some((false, 1)));
+    let only = Some(Shown {
+        first: true,
+        ..next_with(1, false)
+    });
+    let wanted = Some((false, (1, [only, None, only])));
+    assert_equal(&rt, &frames_alone(&rt), &wanted);
+}
+
+const MESSAGE: [u8; 16] = [0, 83, 117, 160, 11, 1, 2, 3, 4, 5, 6, 7, 8, 9, 10, 11];
+
+// The entry of a delivery of sixteen bytes, of which the receiver has four.
+fn begun(rt: &(impl Abort + AllocGlobal)) -> UnsettledMessage {
+    let received = DeliveryState::Received {
+        section_number: 0,
+        section_offset: 4,
+    };
+    UnsettledMessage::new(payload_of(rt, &MESSAGE), Some(received), 0)
+}
+
+// The transfer that resumes the delivery of count 7.
+fn resuming(rt: &(impl Abort + AllocGlobal), link: &SenderLink<Target>) -> Transfer {
+    let transfer = link.generate_resuming_transfer_performative(tag_of(rt, 7), 0, None, false);
+    transfer.expect(rt, "a transfer")
+}
+
+// Sends the last twelve bytes of that delivery with this transfer: its frames.
+fn rest_sent(
+    rt: &(impl Abort + AllocGlobal),
+    link: &mut SenderLink<Target>,
+    transfer: Transfer,
+) -> Option<Frames> {
+    let rest = payload_of(rt, &MESSAGE[4..]);
+    let sent = link.send_unsettled_transfer(transfer, &rest, tag_of(rt, 7), begun(rt));
+    let shown = match &sent {
+        Ok(frames) => Some(shown_in(frames.as_slice())),
+        Err(_) => None,
+    };
+    drop((sent, rest));
+    shown
+}
+
+// A frame of 30 bytes has two beside a resuming transfer. The entry is registered with all its bytes, and
+// the one credit is left.
+#[test]
+fn rest_of_a_delivery_is_sent(rt: HostRuntime) {
+    let mut link = link(&rt, 30, 1);
+    let transfer = resuming(&rt, &link);
+    let frames = rest_sent(&rt, &mut link, transfer);
+    let is_kept = is_kept(&rt, &link, 7, begun(&rt));
+    let numbers = numbers_of(&link);
     drop(link);
+    let first = Shown {
+        resume: true,
+        ..first_with(2, true)
+    };
+    let second = Shown {
+        resume: true,
+        ..next_with(2, true)
+    };
+    let last = Shown {
+        more: false,
+        ..second
+    };
+    let wanted = Some((6, [Some(first), Some(second), Some(last)]));
+    assert_equal(&rt, &frames, &wanted);
+    assert_holds_at(&rt, is_kept, &"the whole entry is registered");
+    assert_equal(&rt, &numbers, &(1, 0, 1));
+}
+
+// A detach that closes the link arrives while a payload is to be sent: the credit is kept.
+#[test]
+fn waiting_detach_is_recorded(rt: HostRuntime) {
+    let mut link = link(&rt, 512, 1);
+    let waiting = Waiting::Frame(LinkFrame::Detach(detach(true)));
+    let answer = answered(&rt, &mut link, waiting, &[7]);
+    let left = (
+        answer,
+        local_state(&link),
+        handle_of(&link),
+        numbers_of(&link),
+    );
+    drop(link);
+    let wanted = (SendAnswer::RemoteClosed, LinkState::Closed, None, (1, 0, 0));
+    assert_equal(&rt, &left, &wanted);
 }

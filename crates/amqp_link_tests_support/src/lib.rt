@@ -5,6 +5,5 @@
 
 pub mod calls;
 pub mod links;
-pub mod nowhere;
 pub mod refusals;
 pub mod table;

@@ -13,7 +13,6 @@ pub enum Refusal {
     SndSettleModeNotSupported,
     SourceAddress,
     TargetAddress,
-    NodeProperties,
     MissingFilters,
     AttachTooLarge,
     DuplicatedLinkName,
@@ -29,7 +28,6 @@ pub fn at_sender(error: &SenderAttachError) -> Refusal {
         SenderAttachError::SndSettleModeNotSupported => Refusal::SndSettleModeNotSupported,
         SenderAttachError::SourceAddressIsSomeWhenDynamicIsTrue => Refusal::SourceAddress,
         SenderAttachError::TargetAddressIsNoneWhenDynamicIsTrue => Refusal::TargetAddress,
-        SenderAttachError::DynamicNodePropertiesIsSomeWhenDynamicIsFalse => Refusal::NodeProperties,
         SenderAttachError::AttachTooLarge => Refusal::AttachTooLarge,
         SenderAttachError::DuplicatedLinkName => Refusal::DuplicatedLinkName,
         _ => Refusal::Other,
@@ -46,9 +44,6 @@ pub fn at_receiver(error: &ReceiverAttachError) -> Refusal {
         ReceiverAttachError::DesiredFilterNotSupported(_) => Refusal::MissingFilters,
         ReceiverAttachError::SourceAddressIsNoneWhenDynamicIsTrue => Refusal::SourceAddress,
         ReceiverAttachError::TargetAddressIsSomeWhenDynamicIsTrue => Refusal::TargetAddress,
-        ReceiverAttachError::DynamicNodePropertiesIsSomeWhenDynamicIsFalse => {
-            Refusal::NodeProperties
-        }
         ReceiverAttachError::AttachTooLarge => Refusal::AttachTooLarge,
         ReceiverAttachError::DuplicatedLinkName => Refusal::DuplicatedLinkName,
         _ => Refusal::Other,

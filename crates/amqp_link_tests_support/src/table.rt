@@ -3,9 +3,7 @@
 use crate::links::{attach_of, went};
 use amqp_link_core::endpoint::LinkExt;
 use amqp_link_state::state::LinkState;
-use amqp_link_types::types::{
-    ApplyRemoteDetachError, Attach, Detach, DetachError, Handle, Role, SenderSettleMode,
-};
+use amqp_link_types::types::{Attach, Detach, DetachError, Handle, Role, SenderSettleMode};
 use std::alloc::{AllocError, Global};
 
 /// A call, with its flag: an attach that is incomplete, a detach that closes.
@@ -118,13 +116,6 @@ fn ended<L: LinkExt + Drop>(link: L, goes: bool) -> (bool, LinkState) {
 /// Whether a detach is refused for its state.
 pub fn is_illegal<T: Drop>(answer: Result<T, DetachError>) -> bool {
     let is_illegal = matches!(&answer, Err(DetachError::IllegalState));
-    drop(answer);
-    is_illegal
-}
-
-/// The same of one that the peer has initiated.
-pub fn is_illegal_outcome(answer: Result<(), ApplyRemoteDetachError>) -> bool {
-    let is_illegal = matches!(&answer, Err(ApplyRemoteDetachError::IllegalState));
     drop(answer);
     is_illegal
 }

@@ -7,8 +7,8 @@ use amqp_link_receiver::receiver_link::ReceiverLink;
 use amqp_link_types::delivery::DeliveryInfo;
 use amqp_link_types::frame::LinkFrame;
 use amqp_link_types::types::{
-    DeliveryState, Detach, Error, Handle, LinkRelayError, OutputHandle, ReceiverSettleMode,
-    SenderSettleMode, Target,
+    DeliveryState, Detach, Error, Handle, OutputHandle, ReceiverSettleMode, SenderSettleMode,
+    Target,
 };
 use std::process::Abort;
 
@@ -203,44 +203,6 @@ fn long_batch_is_named_in_order(rt: HostRuntime) {
 }
 
 #[test]
-fn ends_of_the_numbers_are_no_run(rt: HostRuntime) {
-    let last = u32::MAX;
-    let infos = [(last, 0, None), (0, 1, None), (last - 1, 2, None)];
-    let (fields, _, _) = all_accepted(&rt, 3, Some(false), &infos);
-    let frames = [
-        Some((0, Some(0), false)),
-        Some((last - 1, Some(last), false)),
-        None,
-        None,
-    ];
-    assert_equal(&rt, &fields, &Some((2, frames)));
-}
-
-#[test]
-fn no_disposition_for_what_is_not_kept(rt: HostRuntime) {
-    let (fields, tags, actual) = all_accepted(&rt, 1, None, &[(4, 9, None), (4, 0, SECOND)]);
-    assert_equal(
-        &rt,
-        &fields,
-        &Some((1, [Some((4, Some(4), false)), None, None, None])),
-    );
-    assert_equal(&rt, &tags, &[Some(0), None, None]);
-    assert_equal(
-        &rt,
-        &actual,
-        &[Shown::Accepted, Shown::Absent, Shown::Absent],
-    );
-    let (fields, tags, _) = all_accepted(&rt, 1, None, &[]);
-    assert_equal_at(
-        &rt,
-        &fields,
-        &Some((0, [None, None, None, None])),
-        &"nothing is listed",
-    );
-    assert_equal(&rt, &tags, &[Some(0), None, None]);
-}
-
-#[test]
 fn settled_delivery_does_not_come_back(rt: HostRuntime) {
     let infos = [(1, 0, None), (2, 0, SECOND), (2, 0, SECOND)];
     let (fields, tags, _) = all_accepted(&rt, 1, None, &infos);
@@ -275,13 +237,11 @@ fn release(
 // The disposition of one delivery, released, and what is known of it then.
 fn released(
     rt: &(impl Abort + AllocGlobal),
-    settled: Option<bool>,
-    count: u8,
     mode: Option<ReceiverSettleMode>,
 ) -> (Option<DispositionFields>, Shown) {
     let mut link = link(rt, 1);
-    let info = DeliveryInfo::new(7, count_tag(rt, count), mode);
-    let actual = release(&mut link, &info, settled);
+    let info = DeliveryInfo::new(7, count_tag(rt, 0), mode);
+    let actual = release(&mut link, &info, None);
     let after = known(rt, &link, 0);
     drop(info);
     drop(link);
@@ -289,105 +249,41 @@ fn released(
 }
 
 #[test]
-fn one_is_settled_by_flag_or_mode(rt: HostRuntime) {
-    let actual = released(&rt, None, 0, None);
+fn one_is_settled_by_the_mode_of_its_delivery(rt: HostRuntime) {
+    let actual = released(&rt, None);
     assert_equal_at(
         &rt,
         &actual,
         &(Some(Some((7, None, true))), Shown::Absent),
-        &"the link's mode",
+        &"of a delivery without one, the link's",
     );
-    let actual = released(&rt, None, 0, SECOND);
+    let actual = released(&rt, SECOND);
     assert_equal(
         &rt,
         &actual,
         &(Some(Some((7, None, false))), Shown::Released),
     );
-    let actual = released(&rt, Some(true), 0, SECOND);
-    assert_equal(&rt, &actual, &(Some(Some((7, None, true))), Shown::Absent));
-    let actual = released(&rt, None, 5, None);
-    assert_equal_at(
-        &rt,
-        &actual,
-        &(Some(None), Shown::Received(0, 0)),
-        &"a tag that is not kept",
-    );
 }
 
-// The result of the sender's disposition, and what is known then.
-fn shown_after(
-    rt: &(impl Abort + AllocGlobal),
-    settled: bool,
-    state: Option<DeliveryState>,
-) -> (bool, Shown) {
-    let mut link = link(rt, 1);
-    let tag = count_tag(rt, 0);
-    let echo = link.on_incoming_disposition(settled, state, &tag);
-    let after = known(rt, &link, 0);
-    drop(tag);
-    drop(link);
-    (echo, after)
-}
-
-#[test]
-fn incoming_dispositions_are_never_answered(rt: HostRuntime) {
-    let actual = shown_after(&rt, true, Some(DeliveryState::Accepted));
-    assert_equal(&rt, &actual, &(false, Shown::Absent));
-    let actual = shown_after(&rt, false, Some(DeliveryState::Accepted));
-    assert_equal_at(
-        &rt,
-        &actual,
-        &(false, Shown::Accepted),
-        &"a terminal state alone ends nothing",
-    );
-    assert_equal(
-        &rt,
-        &shown_after(&rt, false, None),
-        &(false, Shown::NoState),
-    );
-}
-
-#[test]
-fn disposition_of_an_unknown_tag_enters_nothing(rt: HostRuntime) {
-    let mut link = link(&rt, 1);
-    let tag = count_tag(&rt, 9);
-    let echo = link.on_incoming_disposition(false, Some(DeliveryState::Accepted), &tag);
-    let kept = link.unsettled().len();
-    drop(tag);
-    drop(link);
-    assert_equal(&rt, &(echo, kept), &(false, 1));
-}
-
-// The reply to a detach: the handle, whether it closes and whether there is an error.
-fn detached(
-    link: &ReceiverLink<Target>,
-    error: Option<Error>,
-    remote_initiated: bool,
-) -> Result<Option<(u32, bool, bool)>, LinkRelayError> {
+// The reply to the peer's detach: the handle, whether it closes and whether there is an error.
+fn answered(link: &ReceiverLink<Target>, error: Error) -> Option<(u32, bool, bool)> {
     let detach = Detach {
         handle: Handle(7),
         closed: true,
-        error,
+        error: Some(error),
     };
-    let reply = link.on_incoming_detach(&detach, remote_initiated);
+    let answer = link.on_incoming_detach(&detach, true);
     drop(detach);
-    let reply = reply?;
-    let fields = reply.as_ref().map(|reply| (reply.handle.0, reply.closed, reply.error.is_some()));
+    let reply = answer.ok()??;
+    let shown = (reply.handle.0, reply.closed, reply.error.is_some());
     drop(reply);
-    Ok(fields)
+    Some(shown)
 }
 
 #[test]
 fn detach_is_answered_at_the_own_handle(rt: HostRuntime) {
-    let link = link(&rt, 1);
-    let unattached = detached(&link, None, true);
-    let own = detached(&link, None, false);
-    let link = link.with_output_handle(OutputHandle(3));
-    let answered = detached(&link, None, true);
-    let with_error = detached(&link, Some(error(&rt)), true);
+    let link = link(&rt, 1).with_output_handle(OutputHandle(3));
+    let reply = answered(&link, error(&rt));
     drop(link);
-    assert_equal(&rt, &unattached, &Err(LinkRelayError::UnattachedHandle));
-    assert_equal(&rt, &own, &Ok(None));
-    assert_equal(&rt, &answered, &Ok(Some((3, true, false))));
-    assert_equal(&rt, &with_error, &Ok(Some((3, true, true))));
+    assert_equal(&rt, &reply, &Some((3, true, true)));
 }

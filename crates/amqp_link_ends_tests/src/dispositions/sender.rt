@@ -140,21 +140,15 @@ fn stored_state_is_the_outcome(rt: HostRuntime) {
     let set = dispose(&mut link, 9, &tag, false, DeliveryState::Accepted);
     let between = known(&rt, &link, 0);
     let settled = dispose(&mut link, 9, &tag, true, DeliveryState::Released);
-    let unknown = dispose(&mut link, 9, &tag, true, DeliveryState::Released);
     let after = known(&rt, &link, 0);
     drop(tag);
     drop(link);
-    let alone = |settled| [Some((9, None, settled)), None, None, None];
-    assert_equal(&rt, &set, &Some((1, alone(false), 0, NONE)));
+    let unsettled = [Some((9, None, false)), None, None, None];
+    assert_equal(&rt, &set, &Some((1, unsettled, 0, NONE)));
     assert_equal(&rt, &between, &(1, Shown::Accepted));
+    let alone = [Some((9, None, true)), None, None, None];
     let accepted = [Shown::Accepted, Shown::Absent, Shown::Absent];
-    assert_equal(&rt, &settled, &Some((1, alone(true), 1, accepted)));
-    assert_equal_at(
-        &rt,
-        &unknown,
-        &Some((1, alone(true), 0, NONE)),
-        &"a tag that is not kept",
-    );
+    assert_equal(&rt, &settled, &Some((1, alone, 1, accepted)));
     assert_equal(&rt, &after, &(0, Shown::Absent));
 }
 
@@ -236,18 +230,10 @@ fn mode_settled_sends_no_disposition(rt: HostRuntime) {
     let mut link = link(&rt, SenderSettleMode::Settled, ReceiverSettleMode::First, 2);
     let pairs = listed(&rt, &[(1, 0), (2, 1)]);
     let batch = accept(&mut link, &pairs, true);
-    let one = dispose(
-        &mut link,
-        1,
-        &count_tag(&rt, 0),
-        true,
-        DeliveryState::Accepted,
-    );
     drop(pairs);
     drop(link);
     let nothing = Some((0, [None, None, None, None], 0, NONE));
     assert_equal(&rt, &batch, &nothing);
-    assert_equal(&rt, &one, &nothing);
 }
 
 // The dispositions of a sender without pending deliveries for these ids.
@@ -285,46 +271,6 @@ fn dispositions_name_runs(rt: HostRuntime) {
         None,
     ];
     assert_equal_at(&rt, &runs, &Some((2, fields)), &"the ends of the numbers");
-    assert_equal(&rt, &batch(&rt, &[]), &Some((0, [None, None, None, None])));
-}
-
-#[test]
-fn outcomes_are_by_number_and_once(rt: HostRuntime) {
-    let mut link = mixed(&rt, 3);
-    let tag = count_tag(&rt, 2);
-    drop(dispose(&mut link, 8, &tag, false, DeliveryState::Released));
-    drop(tag);
-    // the third by the smallest id, the first twice, and one that is not pending
-    let pairs = listed(&rt, &[(6, 0), (5, 2), (7, 0), (8, 9)]);
-    let actual = accept(&mut link, &pairs, true);
-    let left = known(&rt, &link, 1);
-    drop(pairs);
-    drop(link);
-    let ended = [Shown::Released, Shown::NoState, Shown::Absent];
-    assert_equal(
-        &rt,
-        &actual,
-        &Some((1, [Some((5, Some(8), true)), None, None, None], 2, ended)),
-    );
-    assert_equal(&rt, &left, &(1, Shown::NoState));
-}
-
-#[test]
-fn states_are_set_of_those_that_are_kept(rt: HostRuntime) {
-    let mut link = mixed(&rt, 2);
-    let pairs = listed(&rt, &[(1, 1), (2, 9), (3, 1)]);
-    let actual = accept(&mut link, &pairs, false);
-    let set = known(&rt, &link, 1);
-    let other = known(&rt, &link, 0);
-    drop(pairs);
-    drop(link);
-    assert_equal(
-        &rt,
-        &actual,
-        &Some((1, [Some((1, Some(3), false)), None, None, None], 0, NONE)),
-    );
-    assert_equal(&rt, &set, &(2, Shown::Accepted));
-    assert_equal(&rt, &other, &(2, Shown::NoState));
 }
 
 // The result of the receiver's disposition of the first delivery, and what is known of it then.
@@ -363,22 +309,6 @@ fn incoming_dispositions_end_or_are_kept(rt: HostRuntime) {
         &(false, Shown::NoState, Shown::Absent),
         &"settled without a state",
     );
-    let actual = shown_after(&rt, second, false, None);
-    assert_equal(&rt, &actual, &(true, Shown::Absent, Shown::NoState));
-}
-
-// One of a tag that is not pending ends nothing, enters nothing, and is answered all the same.
-#[test]
-fn disposition_of_an_unknown_tag_ends_nothing(rt: HostRuntime) {
-    let mut link = link(&rt, SenderSettleMode::Mixed, ReceiverSettleMode::Second, 1);
-    let tag = count_tag(&rt, 9);
-    let state = Some(DeliveryState::Accepted);
-    let DispositionAnswer { echo, outcome } = link.on_incoming_disposition(false, state, &tag);
-    let actual = shown_by(outcome.as_ref());
-    let pending = pending_in(&link);
-    drop((tag, outcome));
-    drop(link);
-    assert_equal(&rt, &(echo, actual, pending), &(true, Shown::Absent, 1));
 }
 
 // How many deliveries ended, and the tag's last byte and the outcome of the first three.
@@ -403,8 +333,6 @@ fn ends_in(outcomes: &Outcomes) -> Ends {
 pub(super) const fn all_ended(so: Shown) -> Ends {
     (3, [(Some(0), so), (Some(1), so), (Some(2), so)])
 }
-
-pub(super) const NO_END: Ends = (0, [(None, Shown::Absent); 3]);
 
 pub(super) fn detach(closed: bool, error: Option<Error>) -> Detach {
     Detach {
@@ -433,38 +361,6 @@ pub(super) fn detached(
     Ok(actual)
 }
 
-#[test]
-fn closing_detach_ends_all(rt: HostRuntime) {
-    let mut link = mixed(&rt, 3);
-    let own = detached(&mut link, detach(true, None), false);
-    let open = detached(&mut link, detach(false, None), true);
-    let closing = detached(&mut link, detach(true, None), true);
-    *link.output_handle_mut() = None;
-    let unattached = detached(&mut link, detach(true, None), true);
-    drop(link);
-    assert_equal_at(
-        &rt,
-        &own,
-        &Ok((None, NO_END, 3)),
-        &"an answer to an own one",
-    );
-    assert_equal(&rt, &open, &Ok((Some((0, false, false)), NO_END, 3)));
-    let closed = all_ended(Shown::RemoteClosed);
-    assert_equal(&rt, &closing, &Ok((Some((0, true, false)), closed, 0)));
-    assert_equal(&rt, &unattached, &Err(LinkRelayError::UnattachedHandle));
-}
-
-#[test]
-fn detach_with_an_error_is_answered_with_it(rt: HostRuntime) {
-    let mut link = mixed(&rt, 3);
-    let open = detached(&mut link, detach(false, Some(error(&rt))), true);
-    let closing = detached(&mut link, detach(true, Some(error(&rt))), true);
-    drop(link);
-    assert_equal(&rt, &open, &Ok((Some((0, false, true)), NO_END, 3)));
-    let closed = all_ended(Shown::RemoteClosedWithError);
-    assert_equal(&rt, &closing, &Ok((Some((0, true, true)), closed, 0)));
-}
-
 // What ends as a detach with an error fails the deliveries, and how many are left.
 pub(super) fn failed(
     rt: &(impl Abort + AllocGlobal),
@@ -477,15 +373,4 @@ pub(super) fn failed(
     let actual = (ends_in(&outcomes), pending_in(link));
     drop(outcomes);
     Some(actual)
-}
-
-#[test]
-fn deliveries_fail_with_the_error(rt: HostRuntime) {
-    let mut link = mixed(&rt, 3);
-    let actual = failed(&rt, &mut link);
-    let again = failed(&rt, &mut link);
-    drop(link);
-    let closed = all_ended(Shown::RemoteClosedWithError);
-    assert_equal(&rt, &actual, &Some((closed, 0)));
-    assert_equal_at(&rt, &again, &Some((NO_END, 0)), &"nothing is pending");
 }
