@@ -1,5 +1,5 @@
 //! Worked values of a pair.
-use crate::assertions::{assert_equal, assert_equal_at, assert_holds_at};
+use crate::assertions::assert_equal;
 use crate::script::{TWELVE, tag};
 use amqp_link::types::DataBody;
 use amqp_link::{DeliveryTag, LinkExt, Pair, PairError, Payload};
@@ -29,55 +29,6 @@ fn arrive(pair: &mut Pair, id: u32) -> Result<(u32, u64, bool), PairError> {
 // How many bytes are held of a delivery.
 fn held_bytes(pair: &Pair, tag: &DeliveryTag) -> Option<u64> {
     Some(pair.held(tag)?.accumulated_payload_size())
-}
-
-// Refusals of an attach, a grant, a send and an arrival, in their order.
-#[test]
-fn refusals_come_in_order(rt: HostRuntime) {
-    let alloc = rt.alloc();
-    let mut pair = Pair::new(alloc, 0).expect(&rt, "memory");
-    let bytes = Payload::copy_from_slice(alloc, &TWELVE).expect(&rt, "memory");
-    assert_equal(&rt, &send(&mut pair, &bytes), &Err(PairError::NotAttached));
-    assert_equal(&rt, &grant(&mut pair, 1), &Err(PairError::NotAttached));
-    assert_equal(&rt, &arrive(&mut pair, 7), &Err(PairError::NotAttached));
-    assert_equal(&rt, &attach(&mut pair, 28), &Err(PairError::LimitTooSmall));
-    assert_equal(&rt, &attach(&mut pair, 30), &Ok(0));
-    assert_equal(
-        &rt,
-        &attach(&mut pair, 28),
-        &Err(PairError::AlreadyAttached),
-    );
-    assert_equal(&rt, &arrive(&mut pair, 7), &Err(PairError::WireEmpty));
-    assert_equal(
-        &rt,
-        &send(&mut pair, &bytes),
-        &Err(PairError::CreditMissing),
-    );
-    drop((pair, bytes));
-}
-
-// Twelve bytes at a limit of 30 go as five, five and two.
-#[test]
-fn payload_is_delivered_complete(rt: HostRuntime) {
-    let alloc = rt.alloc();
-    let mut pair = Pair::new(alloc, 0).expect(&rt, "memory");
-    let bytes = Payload::copy_from_slice(alloc, &TWELVE).expect(&rt, "memory");
-    let first = tag(alloc).expect(&rt, "memory");
-    assert_equal(&rt, &attach(&mut pair, 30), &Ok(0));
-    assert_equal(&rt, &grant(&mut pair, 1), &Ok(1));
-    assert_equal(&rt, &send(&mut pair, &bytes), &Ok(3));
-    assert_equal_at(&rt, &held_bytes(&pair, &first), &None, &"nothing came yet");
-    assert_equal(&rt, &arrive(&mut pair, 7), &Ok((0, 5, false)));
-    assert_equal(&rt, &held_bytes(&pair, &first), &Some(5));
-    assert_equal(&rt, &arrive(&mut pair, 0), &Ok((0, 10, false)));
-    assert_equal(&rt, &arrive(&mut pair, 0), &Ok((0, 12, true)));
-    let held = pair.held(&first).expect(&rt, "it came");
-    assert_equal(&rt, &held.performative().delivery_id, &Some(7));
-    let pieces = held.pieces();
-    assert_holds_at(&rt, pieces.len() == 3, &"three pieces");
-    assert_equal(&rt, &pieces[2].as_slice(), &[11, 12].as_slice());
-    drop((pair, bytes));
-    drop(first);
 }
 
 // A message that cannot be decoded costs its credit, counts as handed out, and is settled.

@@ -118,17 +118,6 @@ fn scripts_run_to_their_end(rt: HostRuntime) {
     drop(sample);
 }
 
-// Without events nothing is done.
-#[test]
-fn no_events_are_all_done(rt: HostRuntime) {
-    let mut pair = Pair::new(rt.alloc(), 0).expect(&rt, "memory");
-    let (answers, finished) = pair.run(&[]);
-    assert_holds_at(&rt, answers.is_empty(), &"no answer");
-    assert_holds_at(&rt, finished, &"all is done");
-    drop(answers);
-    drop(pair);
-}
-
 // A delivery of three bytes from its grant to its settlement.
 fn add_delivery(alloc: Global, events: &mut Vec<Event>, number: u32) -> Result<(), AllocError> {
     let tag = DeliveryTag::from(number.to_be_bytes().to_vec(alloc)?);

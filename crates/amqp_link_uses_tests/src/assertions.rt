@@ -26,10 +26,3 @@ pub(crate) fn assert_holds(rt: &impl Abort, holds: bool)
 {
     assert!(rt; holds);
 }
-
-// The test holds. If it does not, `place` says in which row, or what was tested.
-pub(crate) fn assert_holds_at<P: Debug>(rt: &impl Abort, holds: bool, place: &P)
-    ensures { IsTrue holds }
-{
-    assert!(rt; holds, "at {place:?}");
-}

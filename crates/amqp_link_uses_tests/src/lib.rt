@@ -15,7 +15,3 @@ mod relay;
 mod samples;
 #[cfg(test)]
 mod short;
-#[cfg(test)]
-mod walk;
-#[cfg(test)]
-mod window;

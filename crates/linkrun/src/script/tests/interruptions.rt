@@ -7,7 +7,7 @@ use std::process::Abort;
 
 #[test]
 fn an_interrupted_delivery_is_sent_again(rt: HostRuntime) {
-    let table = [
+    let table = &[
         (
             "put back, then sent again",
             "attach 30\ngrant 1\nsend 0102030405060708090a0b0c\ncut\nattach 37\nattach 38\ncut\n\
@@ -29,12 +29,12 @@ fn an_interrupted_delivery_is_sent_again(rt: HostRuntime) {
                 pending\n",
         ),
     ];
-    expect_output(&rt, rt.alloc(), table.as_slice());
+    expect_output(&rt, rt.alloc(), table);
 }
 
 #[test]
 fn a_delivery_is_resumed_where_it_was_cut(rt: HostRuntime) {
-    let table = [
+    let table = &[
         (
             "cut once, resumed, handed out and settled",
             "attach 30\ngrant 1\nsend 0102030405060708090a0b0c\narrive 7\ncut\nattach 45\n\
@@ -67,12 +67,12 @@ fn a_delivery_is_resumed_where_it_was_cut(rt: HostRuntime) {
                 handed-out\nresolved accepted\nunknown\n",
         ),
     ];
-    expect_output(&rt, rt.alloc(), table.as_slice());
+    expect_output(&rt, rt.alloc(), table);
 }
 
 #[test]
 fn each_call_is_refused_by_name(rt: HostRuntime) {
-    let table = [
+    let table = &[
         (
             "before an attach",
             "cut\nresume\nputback\nhandout 00000000\nsettle 00000000\nshow 00000000\nfate 0\n\
@@ -122,7 +122,7 @@ fn each_call_is_refused_by_name(rt: HostRuntime) {
                 handed-out\npending\nresolved accepted\n",
         ),
     ];
-    expect_output(&rt, rt.alloc(), table.as_slice());
+    expect_output(&rt, rt.alloc(), table);
 }
 
 // The fate is printed as this text.
