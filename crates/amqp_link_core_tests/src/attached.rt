@@ -1,10 +1,14 @@
-//! What follows once an attach has arrived: the properties of the link (2.7.3), and how each delivery is
-//! resolved, by rows of the table that were worked out by hand (2.6.13).
+//! What an attach sends of the endpoint's own (2.7.3), and what follows once one has arrived: the properties of
+//! the link, and how each delivery is resolved, by rows of the table that were worked out by hand (2.6.13).
 use crate::assertions::{assert_equal_at, assert_holds_at};
-use amqp_link_core::endpoint::attached::merged_with;
+use amqp_link_core::endpoint::attached::{
+    archetype_of, merged_with, name_and_properties_of, termini_of,
+};
 use amqp_link_core::resumption::{Resolution, ResumingDelivery, resume_delivery};
 use amqp_link_types::delivery::UnsettledMessage;
-use amqp_link_types::types::{DeliveryState, DeliveryTag, Fields, Symbol, Value};
+use amqp_link_types::types::{
+    DeliveryState, DeliveryTag, Fields, Source, Symbol, Target, TargetArchetype, Text, Value,
+};
 use bytes::Bytes;
 use std::process::Abort;
 
@@ -65,6 +69,67 @@ fn properties_that_arrive_are_put_one_by_one(rt: HostRuntime) {
     assert_holds_at(&rt, is_joined(&rt, own, None, own), &"the own ones alone");
     let empty = Some(NO_PAIRS);
     assert_holds_at(&rt, is_joined(&rt, own, empty, own), &"none that arrive");
+}
+
+fn text(rt: &(impl Abort + AllocGlobal), words: &str) -> Text {
+    let words = String::from_str(rt.alloc(), words);
+    Text::from(words.expect(rt, "memory"))
+}
+
+fn source_at(rt: &(impl Abort + AllocGlobal), address: &str) -> Source {
+    Source {
+        address: Some(text(rt, address)),
+        ..Source::default()
+    }
+}
+
+fn target_at(rt: &(impl Abort + AllocGlobal), address: &str) -> Target {
+    Target {
+        address: Some(text(rt, address)),
+        ..Target::default()
+    }
+}
+
+fn is_target_sent(sent: &Option<TargetArchetype>, target: &Option<Target>) -> bool {
+    match (sent, target) {
+        (Some(TargetArchetype::Target(sent)), Some(target)) => sent == target,
+        _ => false,
+    }
+}
+
+// Whether the target alone is sent as it is.
+fn is_copied_as_sent(rt: &impl Abort, target: Option<Target>) -> bool {
+    let sent = archetype_of(&target).expect(rt, "memory");
+    let is_equal = is_target_sent(&sent, &target);
+    drop((sent, target));
+    is_equal
+}
+
+// Whether the termini that are sent are equal to these.
+fn are_termini_sent(rt: &impl Abort, source: Option<Source>, target: Option<Target>) -> bool {
+    let termini = termini_of(&source, &target).expect(rt, "memory");
+    let are_equal = termini.0 == source && is_target_sent(&termini.1, &target);
+    drop((termini, source, target));
+    are_equal
+}
+
+// Whether the name and the properties that are sent are equal to these.
+fn is_name_sent(rt: &impl Abort, name: Text, properties: Option<Fields>) -> bool {
+    let sent = name_and_properties_of(&name, &properties).expect(rt, "memory");
+    let is_equal = sent.0 == name && sent.1 == properties;
+    drop((sent, name, properties));
+    is_equal
+}
+
+#[test]
+fn own_terms_are_sent(rt: HostRuntime) {
+    let (source, target) = (source_at(&rt, "a"), target_at(&rt, "b"));
+    let are_sent = are_termini_sent(&rt, Some(source), Some(target));
+    assert_holds_at(&rt, are_sent, &"the termini");
+    let is_copied = is_copied_as_sent(&rt, Some(target_at(&rt, "b")));
+    assert_holds_at(&rt, is_copied, &"the target alone");
+    let is_sent = is_name_sent(&rt, text(&rt, "l"), named(&rt, Some(OWN)));
+    assert_holds_at(&rt, is_sent, &"the name and the properties");
 }
 
 // What an endpoint reports of a delivery.

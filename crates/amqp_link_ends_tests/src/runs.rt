@@ -1,6 +1,6 @@
-//! More pairs are sorted than the sort of few takes without memory.
+//! Ids in runs, and more pairs sorted than the sort of few takes without memory.
 use crate::assertions::{assert_equal_at, assert_holds_at};
-use amqp_link_runs::sort_by_id;
+use amqp_link_runs::{Run, runs_of, sort_by_id};
 use std::process::Abort;
 
 // The id of the pair that is listed at a place: ids repeat, and do not rise.
@@ -32,4 +32,22 @@ fn more_than_twenty_pairs_are_sorted(rt: HostRuntime) {
     let is_wanted = pairs.as_slice() == wanted.as_slice();
     assert_equal_at(&rt, &wanted.len(), &30, &"all pairs");
     assert_holds_at(&rt, is_wanted, &"by id, then as listed");
+}
+
+// Whether the runs of the ids are these.
+fn are_runs(rt: &(impl Abort + AllocGlobal), ids: &[u32], wanted: &[Run]) -> bool {
+    let runs = runs_of(rt.alloc(), ids).expect(rt, "memory");
+    runs.as_slice() == wanted
+}
+
+const OF_SIX: &[Run] = &[
+    Run { first: 1, last: 3 },
+    Run { first: 5, last: 5 },
+    Run { first: 5, last: 6 },
+];
+
+#[test]
+fn ids_are_in_their_longest_runs(rt: HostRuntime) {
+    let are_runs = are_runs(&rt, &[1, 2, 3, 5, 5, 6], OF_SIX);
+    assert_holds_at(&rt, are_runs, &"a gap, and an id twice");
 }

@@ -18,6 +18,8 @@ mod ledgers;
 #[cfg(test)]
 mod many;
 #[cfg(test)]
+mod parts;
+#[cfg(test)]
 mod resolving;
 #[cfg(test)]
 mod samples;

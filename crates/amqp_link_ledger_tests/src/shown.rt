@@ -33,7 +33,7 @@ pub(crate) fn fate_shown(fate: Option<&Fate>) -> Shown {
     }
 }
 
-fn outcome_shown(outcome: &DeliveryOutcome) -> Shown {
+pub(crate) fn outcome_shown(outcome: &DeliveryOutcome) -> Shown {
     match outcome {
         Ok(state) => state_shown(state.as_ref()),
         Err(error) => error_shown(error),

@@ -3,9 +3,10 @@ use crate::assertions::assert_holds_at;
 use crate::samples::{attach, boxed, error, fields, tag};
 use amqp_link_types::delivery::{DeliveryOutcome, copy_of_outcome};
 use amqp_link_types::types::{
-    ConnectionStopReason, DeliveryState, Detach, Disposition, Handle, LinkFlow, LinkStateError,
-    Role, SessionStopReason, Transfer,
+    ConnectionStopReason, DeliveryState, DeliveryTag, Detach, Disposition, Fields, Handle,
+    LinkFlow, LinkStateError, Role, SessionStopReason, Transfer,
 };
+use amqp_link_values::copy::copies_of;
 use std::process::Abort;
 
 // Whether a copy is equal to its original.
@@ -86,6 +87,20 @@ fn is_outcome_copied(rt: &impl Abort, original: DeliveryOutcome) -> bool {
     let is_equal = copy == original;
     drop((copy, original));
     is_equal
+}
+
+// Whether the copies of two parts that may be absent are equal to them.
+fn are_both_copied(rt: &impl Abort, tag: Option<DeliveryTag>, fields: Option<Fields>) -> bool {
+    let copies = copies_of(&tag, &fields).expect(rt, "memory");
+    let are_equal = copies.0 == tag && copies.1 == fields;
+    drop((copies, tag, fields));
+    are_equal
+}
+
+#[test]
+fn copied_parts_are_equal(rt: HostRuntime) {
+    let are_both = are_both_copied(&rt, Some(tag(&rt, 1)), Some(fields(&rt, 5)));
+    assert_holds_at(&rt, are_both, &"a tag and fields");
 }
 
 #[test]
