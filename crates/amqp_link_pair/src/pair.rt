@@ -525,16 +525,11 @@ impl Pair {
         ensures sender { result.0 ≡ self.ledger.link }
         ensures receiver { result.1 ≡ self.receiver }
     {
-        let Pair {
-            ends,
-            deliveries,
-            resuming,
-            wire,
+        let Ends {
+            ledger,
+            receiver,
             ..
-        } = self;
-        drop(deliveries);
-        drop(resuming);
-        drop(wire);
-        ends.into_links()
+        } = self.ends;
+        (ledger.into_link(), receiver)
     }
 }
