@@ -4,7 +4,11 @@ use crate::assertions::{assert_equal_at, assert_holds_at};
 use amqp_link_core::endpoint::attached::{
     archetype_of, merged_with, name_and_properties_of, termini_of,
 };
-use amqp_link_core::resumption::{Resolution, ResumingDelivery, resume_delivery};
+use amqp_link_core::endpoint::failing::{Remedy, error_to_send};
+use amqp_link_core::resumption::{
+    PlannedResolution, Resolution, ResumingDelivery, plan_resumption, resume_delivery,
+};
+use amqp_link_state::state::LinkState;
 use amqp_link_types::delivery::UnsettledMessage;
 use amqp_link_types::types::{
     DeliveryState, DeliveryTag, Fields, Source, Symbol, Target, TargetArchetype, Text, Value,
@@ -130,6 +134,15 @@ fn own_terms_are_sent(rt: HostRuntime) {
     assert_holds_at(&rt, is_copied, &"the target alone");
     let is_sent = is_name_sent(&rt, text(&rt, "l"), named(&rt, Some(OWN)));
     assert_holds_at(&rt, is_sent, &"the name and the properties");
+}
+
+#[test]
+fn name_in_use_ends_the_session(rt: HostRuntime) {
+    let error = error_to_send(rt.alloc(), Remedy::EndSession, LinkState::Attached, None);
+    let error = error.expect(&rt, "memory").expect(&rt, "an error");
+    let is_named = error.condition.as_str() == "amqp:session:handle-in-use";
+    drop(error);
+    assert_holds_at(&rt, is_named, &"the condition");
 }
 
 // What an endpoint reports of a delivery.
@@ -381,4 +394,21 @@ fn rest_has_the_bytes_from_there(rt: HostRuntime) {
     }
     // A delivery without bytes has an empty rest.
     assert_rows(&rt, b"", 0, &[(FRONT, FRONT, Answer::Resumed(FRONT, 0, 0))]);
+}
+
+// Whether the plan of a resumption from the second section has these bytes.
+fn is_planned(rt: &impl Abort, want: &[u8]) -> bool {
+    let entry = UnsettledMessage::new(Bytes::from_static(EIGHT), None, 5);
+    let plan = plan_resumption(&entry, remote_of(Shown::Front(1, 0))).expect(rt, "memory");
+    let is_planned = match &plan {
+        PlannedResolution::Resume(rest) => rest.as_slice() == want,
+        _ => false,
+    };
+    drop((plan, entry));
+    is_planned
+}
+
+#[test]
+fn plan_has_the_rest(rt: HostRuntime) {
+    assert_holds_at(&rt, is_planned(&rt, b"\x00\x53\x77\x41"), &"a section");
 }

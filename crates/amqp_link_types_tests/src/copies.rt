@@ -2,6 +2,7 @@
 use crate::assertions::assert_holds_at;
 use crate::samples::{attach, boxed, error, fields, tag};
 use amqp_link_types::delivery::{DeliveryOutcome, copy_of_outcome};
+use amqp_link_types::frame::continuation_of;
 use amqp_link_types::types::{
     ConnectionStopReason, DeliveryState, DeliveryTag, Detach, Disposition, Fields, Handle,
     LinkFlow, LinkStateError, Role, SessionStopReason, Transfer,
@@ -95,6 +96,19 @@ fn are_both_copied(rt: &impl Abort, tag: Option<DeliveryTag>, fields: Option<Fie
     let are_equal = copies.0 == tag && copies.1 == fields;
     drop((copies, tag, fields));
     are_equal
+}
+
+// Whether the further transfers of a delivery have its state, and not its tag.
+fn is_continued(rt: &impl Abort, first: Transfer) -> bool {
+    let further = continuation_of(&first).expect(rt, "memory");
+    let is_continued = further.state == first.state && further.delivery_tag.is_none();
+    drop((further, first));
+    is_continued
+}
+
+#[test]
+fn further_transfers_have_the_state(rt: HostRuntime) {
+    assert_holds_at(&rt, is_continued(&rt, transfer(&rt)), &"a rejection");
 }
 
 #[test]
