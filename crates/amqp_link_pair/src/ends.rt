@@ -91,6 +91,21 @@ impl Ends {
         }
     }
 
+    /// The endpoints apart, the sender without the fates of its registrations.
+    pub(crate) fn into_links(self) -> (SenderLink<Target>, ReceiverLink<Target>)
+        ensures sender { result.0 ≡ self.ledger.link }
+        ensures receiver { result.1 ≡ self.receiver }
+    {
+        let Ends {
+            attach,
+            ledger,
+            receiver,
+            ..
+        } = self;
+        drop(attach);
+        (ledger.into_link(), receiver)
+    }
+
     /// Whether both are attached.
     pub(crate) fn are_together(&self) -> bool
         ensures { result ≡ is_together (phase_of self.now.stage self.now.limit) }

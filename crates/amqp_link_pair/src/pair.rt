@@ -525,11 +525,16 @@ impl Pair {
         ensures sender { result.0 ≡ self.ledger.link }
         ensures receiver { result.1 ≡ self.receiver }
     {
-        let Ends {
-            ledger,
-            receiver,
+        let Pair {
+            ends,
+            deliveries,
+            resuming,
+            wire,
             ..
-        } = self.ends;
-        (ledger.into_link(), receiver)
+        } = self;
+        drop(deliveries);
+        drop(resuming);
+        drop(wire);
+        ends.into_links()
     }
 }
