@@ -38,7 +38,7 @@ use Rattle.amqp_link_worlds.specs.declared.error.PairError.{PairError}
 use Rattle.amqp_link_worlds.specs.declared.progress.Progress.{Progress}
 use Rattle.amqp_link_worlds.specs.Steps.{Attaches, StopsAt, AttachStop, Asked, Taken, Answered, receiver_at, Grants, with_credit, Sends, Arrives, Cuts, Resumes, PutsBack, after_hand_out, Settles, received, initial_progress, after_registration, after_one_credit, list_to_resume, ledger_together, sender_together, sender_asking, receiver_together, receiver_half_attached, receiver_at_limit, new_world, attach_tests, send_tests, arrive_tests, cut_tests, next_tests, settle_tests, is_empty, attaches_fit}
 use Rattle.amqp_link_worlds.specs.Receiving.{CanReceive}
-use Rattle.amqp_link_worlds.specs.Invariants.{IsWorld, IsKept, IsKeptAs, IsUnderWay, IsListed, IsLatest, AreOver, HaveMoved, IsPlainReceiver, AreEnds, AreTogether, AreHalfway, IsOnWay}
+use Rattle.amqp_link_worlds.specs.Invariants.{IsWorld, IsTagKept, IsKeptAs, IsUnderWay, IsListed, IsLatest, AreOver, HaveMoved, IsPlainReceiver, AreEnds, AreTogether, AreHalfway, IsOnWay}
 use Rattle.std.specs.Map.{keys_of}
 use Rattle.amqp_link_worlds.proofs.EntriesOf.{keys-map, by_tag, IsMap-put, entry_at-behind, first_alone, others_are_map, each_pair, removed_here, removed_there}
 use Rattle.amqp_link_worlds.proofs.FateLemmas.{latest_is, have_moved, latest_entered, latest_moved, latest_over, none_pending, one_pending}
@@ -172,7 +172,7 @@ IsWorld-cuts old new k may c =
           let before : IsKeptAs (is_together old.phase) tag own None q reported (frames_of tag old.wire) fates =
           subst (λ l. IsKeptAs (is_together old.phase) tag own l q reported (frames_of tag old.wire) fates) unlisted (k.each tag) in
           let after : IsKeptAs false tag own None q reported [] fates = kept_cut (is_together old.phase) tag own q reported (frames_of tag old.wire) fates before in
-          subst (IsKept false tag) (stands refl (sym unlisted) refl refl refl refl) after;
+          subst (IsTagKept false tag) (stands refl (sym unlisted) refl refl refl refl) after;
     })
 
 -- ---- a grant
@@ -287,7 +287,7 @@ module _ (old new : World) (payload tag : Tag) (count : ℕ) (k : IsWorld old) (
   none_to_resume : old.resuming ≡ []
   none_to_resume = nothing_in old.resuming sending_tests.1.0
 
-  here_sent : IsKept (is_together old.phase) tag (standing sent tag)
+  here_sent : IsTagKept (is_together old.phase) tag (standing sent tag)
   unfolding sent
   here_sent =
       let free : entry_at old.ledger.link.unsettled tag ≡ None = ap (entry_at old.ledger.link.unsettled) a.tagged ∙ none_there (entry_at old.ledger.link.unsettled (next_tag old.ledger.link)) sending_tests.1.1.1.1.0 in
@@ -296,14 +296,14 @@ module _ (old new : World) (payload tag : Tag) (count : ℕ) (k : IsWorld old) (
       let short : length payload < 2 ^ 32 = below_by (length payload) sending_tests.1.1.0 in
       let four : length tag ≡ 4 = ap length a.tagged ∙ length-next_tag old.ledger.link in
       let frames : AreSent tag payload None false a.frames = are_sent old.ledger.link (record { 0 = 0 }) tag false payload None false a.frames (input_of old.phase old.ledger.link old.receiver together_sent k.ends) a.framed in
-      subst (λ b. IsKept b tag (standing sent tag)) (sym together_sent)
-      (subst (IsKept true tag) (stands (sym (entry_at-put old.ledger.link.unsettled tag (new_entry 0 payload))) (sym unlisted) (sym (entry_at-put old.deliveries tag initial_progress)) (sym before.1) (sym (frames_sent tag old.wire a.frames before.2)) (sym (fates_registered tag old.ledger.records)))
+      subst (λ b. IsTagKept b tag (standing sent tag)) (sym together_sent)
+      (subst (IsTagKept true tag) (stands (sym (entry_at-put old.ledger.link.unsettled tag (new_entry 0 payload))) (sym unlisted) (sym (entry_at-put old.deliveries tag initial_progress)) (sym before.1) (sym (frames_sent tag old.wire a.frames before.2)) (sym (fates_registered tag old.ledger.records)))
       (way_sent tag payload a.frames four short frames, latest_entered (fates_of tag old.ledger.records) before.3.before))
 
-  there_sent : (other : Tag) → other ≢ tag → IsKept (is_together old.phase) other (standing sent other)
+  there_sent : (other : Tag) → other ≢ tag → IsTagKept (is_together old.phase) other (standing sent other)
   unfolding sent
   there_sent other n =
-      subst (IsKept (is_together old.phase) other) (stands (sym (entry_at-put_other old.ledger.link.unsettled tag other (new_entry 0 payload) n)) refl (sym (entry_at-put_other old.deliveries tag other initial_progress n)) refl (sym (frames_sent_other other tag old.wire a.frames n)) (sym (fates_registered_other tag other old.ledger.records n)))
+      subst (IsTagKept (is_together old.phase) other) (stands (sym (entry_at-put_other old.ledger.link.unsettled tag other (new_entry 0 payload) n)) refl (sym (entry_at-put_other old.deliveries tag other initial_progress n)) refl (sym (frames_sent_other other tag old.wire a.frames n)) (sym (fates_registered_other tag other old.ledger.records n)))
       (k.each other)
 
   pub IsWorld-sends : IsWorld new
@@ -317,7 +317,7 @@ module _ (old new : World) (payload tag : Tag) (count : ℕ) (k : IsWorld old) (
     deliveries = IsMap-put old.deliveries tag initial_progress k.deliveries;
     resuming = k.resuming;
     apart = k.apart;
-    each = by_tag (λ t. IsKept (is_together old.phase) t (standing sent t)) tag here_sent there_sent;
+    each = by_tag (λ t. IsTagKept (is_together old.phase) t (standing sent t)) tag here_sent there_sent;
   })
 
 -- ---- an arrival
@@ -339,7 +339,7 @@ module _ (old new : World) (id : ℕ) (tag : Tag) (place : ℕ × ℕ) (whole : 
   together_arrived : is_together old.phase ≡ true
   together_arrived = not_is_false (is_together old.phase) (none_hold (arrive_tests old) may).0
 
-  here_arrived : IsKept (is_together old.phase) tag (standing arrived tag)
+  here_arrived : IsTagKept (is_together old.phase) tag (standing arrived tag)
   unfolding arrived
   here_arrived =
       let own = entry_at old.ledger.link.unsettled tag in
@@ -349,15 +349,15 @@ module _ (old new : World) (id : ℕ) (tag : Tag) (place : ℕ × ℕ) (whole : 
       let wire : frames_of tag old.wire ≡ a.first.frame ∷ frames_of tag a.rest =
       ap (frames_of tag) a.taken ∙ subst (λ t. frames_of t (a.first ∷ a.rest) ≡ a.first.frame ∷ frames_of t a.rest) (sym a.tagged) (frames_first a.first a.rest) in
       let before : IsKeptAs (is_together old.phase) tag own listed (Some a.before) reported (a.first.frame ∷ frames_of tag a.rest) fates =
-      subst (IsKept (is_together old.phase) tag) (stands refl refl a.known refl wire refl) (k.each tag) in
-      subst (IsKept (is_together old.phase) tag) (stands refl refl (sym (entry_at-put old.deliveries tag (received a.before id a.first.frame))) (sym (entry_at-put old.receiver.unsettled tag (Some (received_at place)))) refl refl)
+      subst (IsTagKept (is_together old.phase) tag) (stands refl refl a.known refl wire refl) (k.each tag) in
+      subst (IsTagKept (is_together old.phase) tag) (stands refl refl (sym (entry_at-put old.deliveries tag (received a.before id a.first.frame))) (sym (entry_at-put old.receiver.unsettled tag (Some (received_at place)))) refl refl)
       (kept_received (is_together old.phase) tag own listed a.before id place reported a.first.frame (frames_of tag a.rest) fates a.reported before)
 
-  there_arrived : (other : Tag) → other ≢ tag → IsKept (is_together old.phase) other (standing arrived other)
+  there_arrived : (other : Tag) → other ≢ tag → IsTagKept (is_together old.phase) other (standing arrived other)
   unfolding arrived
   there_arrived other n =
       let wire : frames_of other old.wire ≡ frames_of other a.rest = ap (frames_of other) a.taken ∙ frames_other other a.first a.rest (λ p. n (p ∙ sym a.tagged)) in
-      subst (IsKept (is_together old.phase) other) (stands refl refl (sym (entry_at-put_other old.deliveries tag other (received a.before id a.first.frame) n)) (sym (entry_at-put_other old.receiver.unsettled tag other (Some (received_at place)) n)) wire refl)
+      subst (IsTagKept (is_together old.phase) other) (stands refl refl (sym (entry_at-put_other old.deliveries tag other (received a.before id a.first.frame) n)) (sym (entry_at-put_other old.receiver.unsettled tag other (Some (received_at place)) n)) wire refl)
       (k.each other)
 
   pub IsWorld-arrives : IsWorld new
@@ -371,7 +371,7 @@ module _ (old new : World) (id : ℕ) (tag : Tag) (place : ℕ × ℕ) (whole : 
     deliveries = IsMap-put old.deliveries tag (received a.before id a.first.frame) k.deliveries;
     resuming = k.resuming;
     apart = k.apart;
-    each = by_tag (λ t. IsKept (is_together old.phase) t (standing arrived t)) tag here_arrived there_arrived;
+    each = by_tag (λ t. IsTagKept (is_together old.phase) t (standing arrived t)) tag here_arrived there_arrived;
   })
 
 -- ---- a delivery is resumed, or put back
@@ -418,7 +418,7 @@ module _ (old : World) (tag : Tag) (next : ResumingDelivery) (others : Entries R
       → (entry_at old.ledger.link.unsettled tag ≡ None) × IsListed tag next p (entry_at old.receiver.unsettled tag) (frames_of tag old.wire)
       × IsLatest HandedOut (fates_of tag old.ledger.records)
   listed_stands p known = listed_kept (is_together old.phase) tag (entry_at old.ledger.link.unsettled tag) (entry_at old.resuming tag) next p (entry_at old.receiver.unsettled tag) (frames_of tag old.wire) (fates_of tag old.ledger.records) in_list
-      (subst (IsKept (is_together old.phase) tag) (stands refl refl known refl refl refl) (k.each tag))
+      (subst (IsTagKept (is_together old.phase) tag) (stands refl refl known refl refl refl) (k.each tag))
 
   pub listed_quiet : (p : Progress) → entry_at old.deliveries tag ≡ Some p → frames_of tag old.wire ≡ []
   listed_quiet p known = let l = (listed_stands p known).1 in l.under_way.good.quiet refl
@@ -459,19 +459,19 @@ module _ (old new : World) (tag : Tag) (k : IsWorld old) (may : refusal (next_te
   together_back : is_together old.phase ≡ true
   together_back = not_is_false (is_together old.phase) (none_hold (next_tests old) may).0
 
-  here_back : IsKept (is_together old.phase) tag (standing back_world tag)
+  here_back : IsTagKept (is_together old.phase) tag (standing back_world tag)
   unfolding back_world
   here_back =
       let way = listed_way old tag a.next a.others k a.listed a.entry a.kept a.before a.known in
       let quiet = listed_quiet old tag a.next a.others k a.listed a.before a.known in
-      subst (λ b. IsKept b tag (standing back_world tag)) (sym together_back)
-      (subst (IsKept true tag) (stands (sym (entry_at-put old.ledger.link.unsettled tag a.entry)) (sym (out_of_list old tag a.next a.others k a.listed)) (sym (entry_at-put old.deliveries tag back_again)) refl (sym quiet) (sym (fates_registered tag old.ledger.records)))
+      subst (λ b. IsTagKept b tag (standing back_world tag)) (sym together_back)
+      (subst (IsTagKept true tag) (stands (sym (entry_at-put old.ledger.link.unsettled tag a.entry)) (sym (out_of_list old tag a.next a.others k a.listed)) (sym (entry_at-put old.deliveries tag back_again)) refl (sym quiet) (sym (fates_registered tag old.ledger.records)))
       (way_put_back tag a.entry a.before (entry_at old.receiver.unsettled tag) [] way, latest_entered (fates_of tag old.ledger.records) (listed_moved old tag a.next a.others k a.listed a.before a.known)))
 
-  there_back : (other : Tag) → other ≢ tag → IsKept (is_together old.phase) other (standing back_world other)
+  there_back : (other : Tag) → other ≢ tag → IsTagKept (is_together old.phase) other (standing back_world other)
   unfolding back_world
   there_back other n =
-      subst (IsKept (is_together old.phase) other) (stands (sym (entry_at-put_other old.ledger.link.unsettled tag other a.entry n)) (still_listed old tag a.next a.others k a.listed other n) (sym (entry_at-put_other old.deliveries tag other back_again n)) refl refl (sym (fates_registered_other tag other old.ledger.records n)))
+      subst (IsTagKept (is_together old.phase) other) (stands (sym (entry_at-put_other old.ledger.link.unsettled tag other a.entry n)) (still_listed old tag a.next a.others k a.listed other n) (sym (entry_at-put_other old.deliveries tag other back_again n)) refl refl (sym (fates_registered_other tag other old.ledger.records n)))
       (k.each other)
 
   pub IsWorld-puts_back : IsWorld new
@@ -485,7 +485,7 @@ module _ (old new : World) (tag : Tag) (k : IsWorld old) (may : refusal (next_te
     deliveries = IsMap-put old.deliveries tag back_again k.deliveries;
     resuming = IsMap-others old tag a.next a.others k a.listed;
     apart = λ off. absurd (false_is_not_true (sym off ∙ together_back));
-    each = by_tag (λ t. IsKept (is_together old.phase) t (standing back_world t)) tag here_back there_back;
+    each = by_tag (λ t. IsTagKept (is_together old.phase) t (standing back_world t)) tag here_back there_back;
   })
 
 module _ (old new : World) (tag : Tag) (count : ℕ) (resume : Bool) (k : IsWorld old) (may : refusal (next_tests old) ≡ None) (a : Resumes old tag count resume new) where
@@ -503,7 +503,7 @@ module _ (old new : World) (tag : Tag) (count : ℕ) (resume : Bool) (k : IsWorl
   together_resumed : is_together old.phase ≡ true
   together_resumed = not_is_false (is_together old.phase) (none_hold (next_tests old) may).0
 
-  here_resumed : IsKept (is_together old.phase) tag (standing resumed_world tag)
+  here_resumed : IsTagKept (is_together old.phase) tag (standing resumed_world tag)
   unfolding resumed_world
   here_resumed =
       let way = listed_way old tag a.next a.others k a.listed a.entry a.kept a.before a.known in
@@ -511,14 +511,14 @@ module _ (old new : World) (tag : Tag) (count : ℕ) (resume : Bool) (k : IsWorl
       let rest = listed_rest old tag a.next a.others k a.listed a.entry a.kept a.before a.rest a.known a.sends in
       let frames : AreSent tag a.rest a.before.held a.before.whole a.frames =
       are_sent old.ledger.link (record { 0 = 0 }) tag resume a.rest a.before.held a.before.whole a.frames (input_of old.phase old.ledger.link old.receiver together_resumed k.ends) a.framed in
-      subst (λ b. IsKept b tag (standing resumed_world tag)) (sym together_resumed)
-      (subst (IsKept true tag) (stands (sym (entry_at-put old.ledger.link.unsettled tag a.entry)) (sym (out_of_list old tag a.next a.others k a.listed)) (sym (entry_at-put old.deliveries tag out_again)) refl (sym (frames_sent tag old.wire a.frames quiet)) (sym (fates_registered tag old.ledger.records)))
+      subst (λ b. IsTagKept b tag (standing resumed_world tag)) (sym together_resumed)
+      (subst (IsTagKept true tag) (stands (sym (entry_at-put old.ledger.link.unsettled tag a.entry)) (sym (out_of_list old tag a.next a.others k a.listed)) (sym (entry_at-put old.deliveries tag out_again)) refl (sym (frames_sent tag old.wire a.frames quiet)) (sym (fates_registered tag old.ledger.records)))
       (way_resumed false tag a.entry a.before (entry_at old.receiver.unsettled tag) a.frames a.rest way rest frames, latest_entered (fates_of tag old.ledger.records) (listed_moved old tag a.next a.others k a.listed a.before a.known)))
 
-  there_resumed : (other : Tag) → other ≢ tag → IsKept (is_together old.phase) other (standing resumed_world other)
+  there_resumed : (other : Tag) → other ≢ tag → IsTagKept (is_together old.phase) other (standing resumed_world other)
   unfolding resumed_world
   there_resumed other n =
-      subst (IsKept (is_together old.phase) other) (stands (sym (entry_at-put_other old.ledger.link.unsettled tag other a.entry n)) (still_listed old tag a.next a.others k a.listed other n) (sym (entry_at-put_other old.deliveries tag other out_again n)) refl (sym (frames_sent_other other tag old.wire a.frames n)) (sym (fates_registered_other tag other old.ledger.records n)))
+      subst (IsTagKept (is_together old.phase) other) (stands (sym (entry_at-put_other old.ledger.link.unsettled tag other a.entry n)) (still_listed old tag a.next a.others k a.listed other n) (sym (entry_at-put_other old.deliveries tag other out_again n)) refl (sym (frames_sent_other other tag old.wire a.frames n)) (sym (fates_registered_other tag other old.ledger.records n)))
       (k.each other)
 
   pub IsWorld-resumes : IsWorld new
@@ -532,21 +532,21 @@ module _ (old new : World) (tag : Tag) (count : ℕ) (resume : Bool) (k : IsWorl
     deliveries = IsMap-put old.deliveries tag out_again k.deliveries;
     resuming = IsMap-others old tag a.next a.others k a.listed;
     apart = λ off. absurd (false_is_not_true (sym off ∙ together_resumed));
-    each = by_tag (λ t. IsKept (is_together old.phase) t (standing resumed_world t)) tag here_resumed there_resumed;
+    each = by_tag (λ t. IsTagKept (is_together old.phase) t (standing resumed_world t)) tag here_resumed there_resumed;
   })
 
 -- ---- a delivery is handed out to the receiver's user
 
 module _ (old new : World) (tag : Tag) (p : Progress) (k : IsWorld old) (on : is_together old.phase ≡ true) (known : entry_at old.deliveries tag ≡ Some p) (world : new ≡ after_hand_out old tag p) where
-  here_given : IsKept (is_together old.phase) tag (standing (after_hand_out old tag p) tag)
+  here_given : IsTagKept (is_together old.phase) tag (standing (after_hand_out old tag p) tag)
   here_given =
-      subst (IsKept (is_together old.phase) tag) (stands refl refl (sym (entry_at-put old.deliveries tag (taken_out p))) refl refl refl)
+      subst (IsTagKept (is_together old.phase) tag) (stands refl refl (sym (entry_at-put old.deliveries tag (taken_out p))) refl refl refl)
       (kept_taken (is_together old.phase) tag (entry_at old.ledger.link.unsettled tag) (entry_at old.resuming tag) p (entry_at old.receiver.unsettled tag) (frames_of tag old.wire) (fates_of tag old.ledger.records)
-      (subst (IsKept (is_together old.phase) tag) (stands refl refl known refl refl refl) (k.each tag)))
+      (subst (IsTagKept (is_together old.phase) tag) (stands refl refl known refl refl refl) (k.each tag)))
 
-  there_given : (other : Tag) → other ≢ tag → IsKept (is_together old.phase) other (standing (after_hand_out old tag p) other)
+  there_given : (other : Tag) → other ≢ tag → IsTagKept (is_together old.phase) other (standing (after_hand_out old tag p) other)
   there_given other n =
-      subst (IsKept (is_together old.phase) other) (stands refl refl (sym (entry_at-put_other old.deliveries tag other (taken_out p) n)) refl refl refl) (k.each other)
+      subst (IsTagKept (is_together old.phase) other) (stands refl refl (sym (entry_at-put_other old.deliveries tag other (taken_out p) n)) refl refl refl) (k.each other)
 
   pub IsWorld-hands_out : IsWorld new
   IsWorld-hands_out = subst IsWorld (sym world) (record {
@@ -558,7 +558,7 @@ module _ (old new : World) (tag : Tag) (p : Progress) (k : IsWorld old) (on : is
     deliveries = IsMap-put old.deliveries tag (taken_out p) k.deliveries;
     resuming = k.resuming;
     apart = k.apart;
-    each = by_tag (λ t. IsKept (is_together old.phase) t (standing (after_hand_out old tag p) t)) tag here_given there_given;
+    each = by_tag (λ t. IsTagKept (is_together old.phase) t (standing (after_hand_out old tag p) t)) tag here_given there_given;
   })
 
 -- ---- a delivery is settled
@@ -611,21 +611,21 @@ module _ (old new : World) (tag : Tag) (k : IsWorld old) (may : refusal (settle_
   accepted : Fate
   accepted = Resolved (Ok (Some Accepted))
 
-  here_settled : IsKept (is_together old.phase) tag (standing settled tag)
+  here_settled : IsTagKept (is_together old.phase) tag (standing settled tag)
   unfolding settled accepted
   here_settled =
       let over : AreOver (map (fate_given (Some accepted)) (fates_of tag old.ledger.records)) = latest_over accepted _ (latest_moved accepted (fates_of tag old.ledger.records) found_settled.2) refl closed_when_accepted in
       let fates : fates_of tag (after (Resolves ((tag, Ok (Some Accepted)) ∷ [])) old.ledger.records) ≡ map (fate_given (Some accepted)) (fates_of tag old.ledger.records) =
       fates_given tag ((tag, accepted) ∷ []) old.ledger.records ∙ ap (λ o. map (fate_given o) (fates_of tag old.ledger.records)) (resolved_only tag accepted) in
-      subst (IsKept (is_together old.phase) tag) (stands (sym (removed_here old.ledger.link.unsettled tag k.unsettled)) (sym (unlisted_settled tag)) (sym (removed_here old.deliveries tag k.deliveries)) (sym (removed_here old.receiver.unsettled tag k.reports)) (sym (nothing_in (frames_of tag old.wire) settling.1.1.1.1.0)) (sym fates))
+      subst (IsTagKept (is_together old.phase) tag) (stands (sym (removed_here old.ledger.link.unsettled tag k.unsettled)) (sym (unlisted_settled tag)) (sym (removed_here old.deliveries tag k.deliveries)) (sym (removed_here old.receiver.unsettled tag k.reports)) (sym (nothing_in (frames_of tag old.wire) settling.1.1.1.1.0)) (sym fates))
       (refl, refl, refl, over)
 
-  there_settled : (other : Tag) → other ≢ tag → IsKept (is_together old.phase) other (standing settled other)
+  there_settled : (other : Tag) → other ≢ tag → IsTagKept (is_together old.phase) other (standing settled other)
   unfolding settled accepted
   there_settled other n =
       let fates : fates_of other (after (Resolves ((tag, Ok (Some Accepted)) ∷ [])) old.ledger.records) ≡ fates_of other old.ledger.records =
       fates_given other ((tag, accepted) ∷ []) old.ledger.records ∙ ap (λ o. map (fate_given o) (fates_of other old.ledger.records)) (entry_at-behind tag other accepted [] n) ∙ none_given (fates_of other old.ledger.records) in
-      subst (IsKept (is_together old.phase) other) (stands (sym (removed_there old.ledger.link.unsettled tag other k.unsettled n)) refl (sym (removed_there old.deliveries tag other k.deliveries n)) (sym (removed_there old.receiver.unsettled tag other k.reports n)) refl (sym fates))
+      subst (IsTagKept (is_together old.phase) other) (stands (sym (removed_there old.ledger.link.unsettled tag other k.unsettled n)) refl (sym (removed_there old.deliveries tag other k.deliveries n)) (sym (removed_there old.receiver.unsettled tag other k.reports n)) refl (sym fates))
       (k.each other)
 
   pub IsWorld-settles : IsWorld new
@@ -639,7 +639,7 @@ module _ (old new : World) (tag : Tag) (k : IsWorld old) (may : refusal (settle_
     deliveries = IsMap-removed old.deliveries tag k.deliveries;
     resuming = k.resuming;
     apart = k.apart;
-    each = by_tag (λ t. IsKept (is_together old.phase) t (standing settled t)) tag here_settled there_settled;
+    each = by_tag (λ t. IsTagKept (is_together old.phase) t (standing settled t)) tag here_settled there_settled;
   })
 
 -- ---- an attach
@@ -699,7 +699,7 @@ module _ (old : World) (k : IsWorld old) (off : is_together old.phase ≡ false)
   before_attach : (tag : Tag) → IsKeptAs false tag (entry_at own_map tag) None (entry_at old.deliveries tag) (entry_at remote_map tag) (frames_of tag old.wire) (fates_of tag old.ledger.records)
   before_attach tag =
       subst (λ b. IsKeptAs b tag (entry_at own_map tag) None (entry_at old.deliveries tag) (entry_at remote_map tag) (frames_of tag old.wire) (fates_of tag old.ledger.records)) off
-      (subst (IsKept (is_together old.phase) tag) (stands refl (unlisted_before tag) refl refl refl refl) (k.each tag))
+      (subst (IsTagKept (is_together old.phase) tag) (stands refl (unlisted_before tag) refl refl refl refl) (k.each tag))
 
   all_go_on : AllByRecursion (λ e. IsResuming (answer_to remote_map e.0 e.1)) own_map
   all_go_on = each_pair (λ e. IsResuming (answer_to remote_map e.0 e.1)) own_map k.unsettled (λ tag entry found. resuming_kept false tag _ _ _ _ _ entry found (before_attach tag))
@@ -770,10 +770,10 @@ module _ (old new : World) (limit count : ℕ) (k : IsWorld old) (may : refusal 
       ∙ entry_moves tag (entry_at old.ledger.link.unsettled tag) (entry_at old.deliveries tag) (entry_at old.receiver.unsettled tag) (frames_of tag old.wire) (fates_of tag old.ledger.records) (before_attach old k off_before tag)
       ∙ ap (λ l. option_or (entry_at old.ledger.link.unsettled tag) (option_and_then entry_of l)) (sym (unlisted_before old k off_before tag))
 
-  kept_attached : (tag : Tag) → IsKept true tag (standing attached tag)
+  kept_attached : (tag : Tag) → IsTagKept true tag (standing attached tag)
   unfolding attached
   kept_attached tag =
-      subst (IsKept true tag) (stands {a = None} {c = entry_at old.deliveries tag} {d = entry_at old.receiver.unsettled tag} {e = frames_of tag old.wire} refl (sym (listed_at old.receiver.unsettled old.ledger.link.unsettled (all_go_on old k off_before) (all_known old k off_before) tag)) refl refl refl (sym (fates_attached tag)))
+      subst (IsTagKept true tag) (stands {a = None} {c = entry_at old.deliveries tag} {d = entry_at old.receiver.unsettled tag} {e = frames_of tag old.wire} refl (sym (listed_at old.receiver.unsettled old.ledger.link.unsettled (all_go_on old k off_before) (all_known old k off_before) tag)) refl refl refl (sym (fates_attached tag)))
       (attached_kept tag (entry_at old.ledger.link.unsettled tag) (entry_at old.deliveries tag) (entry_at old.receiver.unsettled tag) (frames_of tag old.wire) (fates_of tag old.ledger.records) (before_attach old k off_before tag))
 
   pub IsWorld-attaches : IsWorld new
@@ -863,7 +863,7 @@ IsWorld-stops stop old new limit k s =
       deliveries = k.deliveries;
       resuming = k.resuming;
       apart = λ _. k.apart off;
-      each = λ tag. subst (IsKept false tag) (stands refl refl refl (ap (λ m. entry_at m tag) (sym reports)) refl refl) (subst (λ b. IsKept b tag (standing old tag)) off (k.each tag));
+      each = λ tag. subst (IsTagKept false tag) (stands refl refl refl (ap (λ m. entry_at m tag) (sym reports)) refl refl) (subst (λ b. IsTagKept b tag (standing old tag)) off (k.each tag));
     })
 
 -- ---- what is open

@@ -115,8 +115,8 @@ IsKeptAs together tag None (Some next) (Some p) reported frames fates =
     IsListed tag next p reported frames × IsLatest HandedOut fates
 IsKeptAs together tag _ _ _ reported frames fates = ⊥
 
-abbrev pub IsKept : Bool → Tag → Standing → Type 0
-IsKept together tag s = IsKeptAs together tag s.own s.listed s.progress s.reported s.frames s.fates
+abbrev pub IsTagKept : Bool → Tag → Standing → Type 0
+IsTagKept together tag s = IsKeptAs together tag s.own s.listed s.progress s.reported s.frames s.fates
 
 -- ---- both endpoints
 
@@ -208,4 +208,4 @@ pub record IsWorld (w : World) : Type 0 where
   pub deliveries : IsMap w.deliveries
   pub resuming : IsMap w.resuming
   pub apart : is_together w.phase ≡ false → w.resuming ≡ []
-  pub each : (tag : Tag) → IsKept (is_together w.phase) tag (standing w tag)
+  pub each : (tag : Tag) → IsTagKept (is_together w.phase) tag (standing w tag)
