@@ -123,10 +123,19 @@ impl Fields {
         }
         let mut both = self.clone()?;
         for (name, value) in other.entries.iter() {
-            let name = name.clone()?;
-            both.insert(name, value.clone()?)?;
+            both.put_copy(name, value)?;
         }
         Ok(both)
+    }
+
+    // Puts a copy of a pair.
+    fn put_copy(&mut self, name: &Symbol, value: &Value) -> Result<(), AllocError>
+        ensures { OnOk result (self.new ≡ insert_entry bytes_eq self.old name.now (view value.now)) }
+    {
+        let name = name.clone()?;
+        let value = value.clone()?;
+        drop(self.insert(name, value)?);
+        Ok(())
     }
 
     // The pairs in order.
