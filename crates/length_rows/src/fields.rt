@@ -2,11 +2,13 @@
 use crate::error::RowError;
 use crate::reader::{ReadFrom, Reader};
 
-/// The fields that are still to be read. Fields after those that a row has are absent.
+/// The fields that are still to be read. Fields after those that a row has, and after one that cannot be read, are
+/// absent.
 #[derive(Drop)]
 pub struct FieldReader<'r, 'a> {
     reader: &'r mut Reader<'a>,
     left: u64,
+    refused: Option<RowError>,
 }
 
 impl<'r, 'a> FieldReader<'r, 'a> {
@@ -14,34 +16,45 @@ impl<'r, 'a> FieldReader<'r, 'a> {
     pub fn new(reader: &'r mut Reader<'a>, name: &[u8]) -> Result<FieldReader<'r, 'a>, RowError> {
         reader.expect(name)?;
         let left = reader.unsigned()?;
-        Ok(FieldReader { reader, left })
+        Ok(FieldReader {
+            reader,
+            left,
+            refused: None,
+        })
     }
 
-    /// The next field, which may be absent.
-    pub fn optional<T: ReadFrom>(&mut self) -> Result<Option<T>, RowError> {
-        if self.left == 0 {
-            return Ok(None);
+    /// The next field, which may be absent. `end` tells if it could not be read.
+    pub fn optional<T: ReadFrom>(&mut self) -> Option<T> {
+        if self.left == 0 || self.refused.is_some() {
+            return None;
         }
         self.left -= 1;
-        self.reader.optional()
+        match self.reader.optional() {
+            Ok(field) => field,
+            Err(error) => {
+                self.refused = Some(error);
+                None
+            }
+        }
     }
 
     /// The next field, which has to be there.
     pub fn required<T: ReadFrom>(&mut self) -> Result<T, RowError> {
-        self.optional()?.ok_or(RowError::NotARow)
+        let field = self.optional();
+        field.ok_or(self.refused.unwrap_or(RowError::NotARow))
     }
 
-    /// The next field, or its default where it is absent.
-    pub fn or_default<T: ReadFrom + Default>(&mut self) -> Result<T, RowError> {
-        Ok(self.optional()?.unwrap_or_default())
+    /// The next field, or its default where it is absent. `end` tells if it could not be read.
+    pub fn or_default<T: ReadFrom + Default>(&mut self) -> T {
+        self.optional().unwrap_or_default()
     }
 
-    /// No further field may be given.
+    /// All fields could be read, and no further one is given.
     pub fn end(&self) -> Result<(), RowError> {
-        if self.left == 0 {
-            Ok(())
-        } else {
-            Err(RowError::NotARow)
+        match self.refused {
+            Some(error) => Err(error),
+            None if self.left == 0 => Ok(()),
+            None => Err(RowError::NotARow),
         }
     }
 }

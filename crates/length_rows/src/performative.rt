@@ -4,7 +4,7 @@ use crate::fields::{FieldReader, if_read, none_before};
 use crate::reader::{ReadFrom, Reader};
 use crate::value::read_u8;
 use amqp_link_types::types::{
-    Attach, DeliveryState, DeliveryTag, Handle, ReceiverSettleMode, Role, SenderSettleMode, Text,
+    Attach, DeliveryState, DeliveryTag, Handle, ReceiverSettleMode, Role, SenderSettleMode,
     Transfer, UnsettledMap,
 };
 
@@ -84,89 +84,42 @@ fn read_entry(
 impl ReadFrom for Transfer {
     fn read(reader: &mut Reader) -> Result<Transfer, RowError> {
         let mut fields = FieldReader::new(reader, b"transfer")?;
-        let mut transfer = Transfer::default();
-        let read = fill_transfer(&mut transfer, &mut fields);
-        if_read(transfer, read)
+        let transfer = Transfer {
+            handle: fields.required()?,
+            delivery_id: fields.optional(),
+            delivery_tag: fields.optional(),
+            message_format: fields.optional(),
+            settled: fields.optional(),
+            more: fields.or_default(),
+            rcv_settle_mode: fields.optional(),
+            state: fields.optional(),
+            resume: fields.or_default(),
+            aborted: fields.or_default(),
+            batchable: fields.or_default(),
+        };
+        if_read(transfer, fields.end())
     }
-}
-
-fn fill_transfer(transfer: &mut Transfer, fields: &mut FieldReader) -> Result<(), RowError> {
-    transfer.handle = fields.required()?;
-    fill_delivery(transfer, fields)?;
-    fill_progress(transfer, fields)?;
-    fields.end()
-}
-
-fn fill_delivery(transfer: &mut Transfer, fields: &mut FieldReader) -> Result<(), RowError> {
-    transfer.delivery_id = fields.optional()?;
-    transfer.delivery_tag = fields.optional()?;
-    transfer.message_format = fields.optional()?;
-    transfer.settled = fields.optional()?;
-    transfer.more = fields.or_default()?;
-    Ok(())
-}
-
-fn fill_progress(transfer: &mut Transfer, fields: &mut FieldReader) -> Result<(), RowError> {
-    transfer.rcv_settle_mode = fields.optional()?;
-    transfer.state = fields.optional()?;
-    transfer.resume = fields.or_default()?;
-    transfer.aborted = fields.or_default()?;
-    transfer.batchable = fields.or_default()?;
-    Ok(())
 }
 
 impl ReadFrom for Attach {
     fn read(reader: &mut Reader) -> Result<Attach, RowError> {
         let mut fields = FieldReader::new(reader, b"attach")?;
-        let mut attach = bare_attach(fields.required()?);
-        let read = fill_attach(&mut attach, &mut fields);
-        if_read(attach, read)
+        let attach = Attach {
+            name: fields.required()?,
+            handle: fields.required()?,
+            role: fields.required()?,
+            snd_settle_mode: fields.or_default(),
+            rcv_settle_mode: fields.or_default(),
+            source: fields.optional(),
+            target: fields.optional(),
+            unsettled: fields.optional(),
+            incomplete_unsettled: fields.or_default(),
+            initial_delivery_count: fields.optional(),
+            max_message_size: fields.optional(),
+            offered_capabilities: fields.optional(),
+            desired_capabilities: fields.optional(),
+            properties: fields.optional(),
+        };
+        if_read(attach, fields.end())
     }
-}
-
-// An attach that has a name alone.
-fn bare_attach(name: Text) -> Attach {
-    Attach {
-        name,
-        handle: Handle(0),
-        role: Role::Sender,
-        snd_settle_mode: SenderSettleMode::default(),
-        rcv_settle_mode: ReceiverSettleMode::default(),
-        source: None,
-        target: None,
-        unsettled: None,
-        incomplete_unsettled: false,
-        initial_delivery_count: None,
-        max_message_size: None,
-        offered_capabilities: None,
-        desired_capabilities: None,
-        properties: None,
-    }
-}
-
-fn fill_attach(attach: &mut Attach, fields: &mut FieldReader) -> Result<(), RowError> {
-    attach.handle = fields.required()?;
-    attach.role = fields.required()?;
-    fill_link(attach, fields)?;
-    fill_terms(attach, fields)?;
-    fields.end()
-}
-
-fn fill_link(attach: &mut Attach, fields: &mut FieldReader) -> Result<(), RowError> {
-    attach.snd_settle_mode = fields.or_default()?;
-    attach.rcv_settle_mode = fields.or_default()?;
-    attach.source = fields.optional()?;
-    attach.target = fields.optional()?;
-    attach.unsettled = fields.optional()?;
-    attach.incomplete_unsettled = fields.or_default()?;
-    Ok(())
-}
-
-fn fill_terms(attach: &mut Attach, fields: &mut FieldReader) -> Result<(), RowError> {
-    attach.initial_delivery_count = fields.optional()?;
-    attach.max_message_size = fields.optional()?;
-    attach.offered_capabilities = fields.optional()?;
-    attach.desired_capabilities = fields.optional()?;
-    attach.properties = fields.optional()?;
-    Ok(())
 }

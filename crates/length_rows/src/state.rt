@@ -7,20 +7,13 @@ use amqp_link_types::types::{DeliveryState, Error, Outcome};
 impl ReadFrom for Error {
     fn read(reader: &mut Reader) -> Result<Error, RowError> {
         let mut fields = FieldReader::new(reader, b"error")?;
-        let mut error = Error {
+        let error = Error {
             condition: fields.required()?,
-            description: None,
-            info: None,
+            description: fields.optional(),
+            info: fields.optional(),
         };
-        let read = fill_error(&mut error, &mut fields);
-        if_read(error, read)
+        if_read(error, fields.end())
     }
-}
-
-fn fill_error(error: &mut Error, fields: &mut FieldReader) -> Result<(), RowError> {
-    error.description = fields.optional()?;
-    error.info = fields.optional()?;
-    fields.end()
 }
 
 impl ReadFrom for Outcome {
@@ -51,29 +44,25 @@ impl ReadFrom for DeliveryState {
 
 fn read_rejected(reader: &mut Reader) -> Result<Outcome, RowError> {
     let mut fields = FieldReader::new(reader, b"rejected")?;
-    let error = fields.optional()?;
+    let error = fields.optional();
     if_read(Outcome::Rejected { error }, fields.end())
 }
 
 fn read_modified(reader: &mut Reader) -> Result<Outcome, RowError> {
     let mut fields = FieldReader::new(reader, b"modified")?;
-    let delivery_failed = fields.optional()?;
-    let undeliverable_here = fields.optional()?;
     let modified = Outcome::Modified {
-        delivery_failed,
-        undeliverable_here,
-        message_annotations: fields.optional()?,
+        delivery_failed: fields.optional(),
+        undeliverable_here: fields.optional(),
+        message_annotations: fields.optional(),
     };
     if_read(modified, fields.end())
 }
 
 fn read_received(reader: &mut Reader) -> Result<DeliveryState, RowError> {
     let mut fields = FieldReader::new(reader, b"received")?;
-    let section_number = fields.required()?;
-    let section_offset = fields.required()?;
-    fields.end()?;
-    Ok(DeliveryState::Received {
-        section_number,
-        section_offset,
-    })
+    let received = DeliveryState::Received {
+        section_number: fields.required()?,
+        section_offset: fields.required()?,
+    };
+    if_read(received, fields.end())
 }

@@ -45,56 +45,37 @@ impl ReadFrom for DistributionMode {
 impl ReadFrom for Source {
     fn read(reader: &mut Reader) -> Result<Source, RowError> {
         let mut fields = FieldReader::new(reader, b"source")?;
-        let mut source = Source::default();
-        let read = fill_source(&mut source, &mut fields);
-        if_read(source, read)
+        let source = Source {
+            address: fields.optional(),
+            durable: fields.or_default(),
+            expiry_policy: fields.or_default(),
+            timeout: fields.or_default(),
+            dynamic: fields.or_default(),
+            dynamic_node_properties: fields.optional(),
+            distribution_mode: fields.optional(),
+            filter: fields.optional(),
+            default_outcome: fields.optional(),
+            outcomes: fields.optional(),
+            capabilities: fields.optional(),
+        };
+        if_read(source, fields.end())
     }
-}
-
-fn fill_source(source: &mut Source, fields: &mut FieldReader) -> Result<(), RowError> {
-    fill_source_node(source, fields)?;
-    fill_source_messages(source, fields)?;
-    fields.end()
-}
-
-// The fields that a source and a target have in common.
-fn fill_source_node(source: &mut Source, fields: &mut FieldReader) -> Result<(), RowError> {
-    source.address = fields.optional()?;
-    source.durable = fields.or_default()?;
-    source.expiry_policy = fields.or_default()?;
-    source.timeout = fields.or_default()?;
-    source.dynamic = fields.or_default()?;
-    source.dynamic_node_properties = fields.optional()?;
-    Ok(())
-}
-
-fn fill_source_messages(source: &mut Source, fields: &mut FieldReader) -> Result<(), RowError> {
-    source.distribution_mode = fields.optional()?;
-    source.filter = fields.optional()?;
-    source.default_outcome = fields.optional()?;
-    source.outcomes = fields.optional()?;
-    source.capabilities = fields.optional()?;
-    Ok(())
 }
 
 impl ReadFrom for Target {
     fn read(reader: &mut Reader) -> Result<Target, RowError> {
         let mut fields = FieldReader::new(reader, b"target")?;
-        let mut target = Target::default();
-        let read = fill_target(&mut target, &mut fields);
-        if_read(target, read)
+        let target = Target {
+            address: fields.optional(),
+            durable: fields.or_default(),
+            expiry_policy: fields.or_default(),
+            timeout: fields.or_default(),
+            dynamic: fields.or_default(),
+            dynamic_node_properties: fields.optional(),
+            capabilities: fields.optional(),
+        };
+        if_read(target, fields.end())
     }
-}
-
-fn fill_target(target: &mut Target, fields: &mut FieldReader) -> Result<(), RowError> {
-    target.address = fields.optional()?;
-    target.durable = fields.or_default()?;
-    target.expiry_policy = fields.or_default()?;
-    target.timeout = fields.or_default()?;
-    target.dynamic = fields.or_default()?;
-    target.dynamic_node_properties = fields.optional()?;
-    target.capabilities = fields.optional()?;
-    fields.end()
 }
 
 impl ReadFrom for TargetArchetype {
