@@ -208,40 +208,49 @@ fn other_lines_are_no_events(rt: HostRuntime) {
     expect_no_events(&rt, rt.alloc(), NO_EVENTS);
 }
 
+const STOPPED: &[(&str, &str, &str)] = &[
+    (
+        "\n\nattach 30\n\r\ngrant\n",
+        "attached 0\n",
+        "line 5: not an event\n",
+    ),
+    (
+        "attach 30\ngrant 1\r",
+        "attached 0\n",
+        "line 2: not an event\n",
+    ),
+];
+
 #[test]
 fn a_line_that_is_no_event_ends_the_run(rt: HostRuntime) {
-    for (script, output, faults) in &[
-        (
-            "\n\nattach 30\n\r\ngrant\n",
-            "attached 0\n",
-            "line 5: not an event\n",
-        ),
-        (
-            "attach 30\ngrant 1\r",
-            "attached 0\n",
-            "line 2: not an event\n",
-        ),
-    ] {
+    for (script, output, faults) in STOPPED {
         expect(&rt, rt.alloc(), script, output, faults, Status::Stopped);
     }
 }
 
+// A run of the script whose next read fails has printed this.
+fn expect_failed_read(rt: &impl Abort, alloc: Global, script: &str, output: &str) {
+    let mut input = script.as_bytes().chain(Broken);
+    let ran = run(alloc, &mut input);
+    assert_ran(
+        rt,
+        ran,
+        output.as_bytes(),
+        b"input failed\n",
+        Status::Failed,
+        &script,
+    );
+}
+
+const READ_IN_PART: &[(&str, &str)] = &[
+    ("", ""),
+    ("attach 30\n\ngrant 1\ngra", "attached 0\ncredit 1\n"),
+];
+
 #[test]
 fn a_failed_read_is_reported(rt: HostRuntime) {
-    for (script, output) in &[
-        ("", ""),
-        ("attach 30\n\ngrant 1\ngra", "attached 0\ncredit 1\n"),
-    ] {
-        let mut input = script.as_bytes().chain(Broken);
-        let ran = run(rt.alloc(), &mut input);
-        assert_ran(
-            &rt,
-            ran,
-            output.as_bytes(),
-            b"input failed\n",
-            Status::Failed,
-            &script,
-        );
+    for (script, output) in READ_IN_PART {
+        expect_failed_read(&rt, rt.alloc(), script, output);
     }
 }
 
@@ -251,46 +260,62 @@ fn assert_silent(rt: &impl Abort, faults: Vec<u8>, status: Status, what: &str) {
     assert_eq!(rt; status, Status::Failed, "{what}");
 }
 
+// A run over this output has failed, and wrote no fault.
+fn expect_failed_write(rt: &impl Abort, alloc: Global, script: &str, output: Narrow, what: &str) {
+    let mut input = script.as_bytes();
+    let mut output = output;
+    let mut faults = Vec::new(alloc);
+    let status = run_script(alloc, &mut input, &mut output, &mut faults);
+    assert_silent(rt, faults, status, what);
+}
+
+const WRITTEN_IN_PART: &[(&str, &str, usize, bool)] = &[
+    ("inside the first answer", "attach 30\n", 3, true),
+    ("before the last line end", "attach 30\n", 10, true),
+    ("at a refusal", "grant 1\n", 4, true),
+    ("at the flush", "attach 30\n", 100, false),
+    (
+        "at the flush after a line that is no event",
+        "stop\n",
+        100,
+        false,
+    ),
+];
+
 #[test]
 fn a_failed_write_is_not_spoken_of(rt: HostRuntime) {
-    for (what, script, room, flushes) in &[
-        ("inside the first answer", "attach 30\n", 3, true),
-        ("before the last line end", "attach 30\n", 10, true),
-        ("at a refusal", "grant 1\n", 4, true),
-        ("at the flush", "attach 30\n", 100, false),
-        (
-            "at the flush after a line that is no event",
-            "stop\n",
-            100,
-            false,
-        ),
-    ] {
-        let mut input = script.as_bytes();
-        let mut output = Narrow {
+    for (what, script, room, flushes) in WRITTEN_IN_PART {
+        let output = Narrow {
             room: *room,
             flushes: *flushes,
         };
-        let mut faults = Vec::new(rt.alloc());
-        let status = run_script(rt.alloc(), &mut input, &mut output, &mut faults);
-        assert_silent(&rt, faults, status, what);
+        expect_failed_write(&rt, rt.alloc(), script, output, what);
     }
 }
 
+// The status of a run over these faults.
+fn status_over(alloc: Global, script: &str, faults: Narrow) -> Status {
+    let mut input = script.as_bytes();
+    let mut output = Vec::new(alloc);
+    let mut faults = faults;
+    run_script(alloc, &mut input, &mut output, &mut faults)
+}
+
+const FAULTS_IN_PART: &[(&str, usize, bool, Status)] = &[
+    ("stop\n", 20, true, Status::Failed),
+    ("stop\n", 21, false, Status::Failed),
+    ("stop\n", 21, true, Status::Stopped),
+    ("attach 30\n", 0, false, Status::Complete),
+];
+
 #[test]
 fn a_fault_that_cannot_be_printed_is_a_failed_write(rt: HostRuntime) {
-    for (script, room, flushes, status) in &[
-        ("stop\n", 20, true, Status::Failed),
-        ("stop\n", 21, false, Status::Failed),
-        ("stop\n", 21, true, Status::Stopped),
-        ("attach 30\n", 0, false, Status::Complete),
-    ] {
-        let mut input = script.as_bytes();
-        let mut output = Vec::new(rt.alloc());
-        let mut faults = Narrow {
+    for (script, room, flushes, status) in FAULTS_IN_PART {
+        let faults = Narrow {
             room: *room,
             flushes: *flushes,
         };
-        let ended = run_script(rt.alloc(), &mut input, &mut output, &mut faults);
+        let ended = status_over(rt.alloc(), script, faults);
         assert_status(&rt, ended, *status, script, *room);
     }
 }
