@@ -4,6 +4,7 @@ use amqp_link_types::frame::LinkFrame;
 use amqp_link_types::types::{DeliveryState, DeliveryTag, Error, LinkStateError, Symbol};
 use std::process::Abort;
 
+mod closing;
 mod receiver;
 mod refused;
 mod sender;

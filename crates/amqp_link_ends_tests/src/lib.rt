@@ -7,6 +7,8 @@ mod assertions;
 #[cfg(test)]
 mod dispositions;
 #[cfg(test)]
+mod frames;
+#[cfg(test)]
 mod generic;
 #[cfg(test)]
 mod runs;

@@ -149,18 +149,21 @@ fn second(rt: &(impl Abort + AllocGlobal)) -> ReceiverLink<Target> {
     link_of(rt, parts)
 }
 
-// The session gets the id and the tag of a transfer that begins a delivery: the first, one after the last of
-// another, and one after an attach.
+// Transfers by id, tag and `more`, and what the session gets: the first begins a delivery, and so do the two after
+// the last of another.
+const IN_MODE_SECOND: &[((u32, u8, bool), Option<(u32, Option<u8>)>)] = &[
+    ((3, 1, true), Some((3, Some(1)))),
+    ((3, 1, true), None),
+    ((3, 1, false), None),
+    ((4, 2, false), Some((4, Some(2)))),
+    ((5, 3, true), Some((5, Some(3)))),
+];
+
+// The session gets the id and the tag of each transfer that begins a delivery; the first after an attach begins one.
 #[test]
-fn session_gets_each_delivery_once(rt: HostRuntime) {
+fn session_gets_transfers_that_begin_deliveries_in_mode_second(rt: HostRuntime) {
     let mut link = second(&rt);
-    for (transfer, name) in &[
-        ((3, 1, true), Some((3, Some(1)))),
-        ((3, 1, true), None),
-        ((3, 1, false), None),
-        ((4, 2, false), Some((4, Some(2)))),
-        ((5, 3, true), Some((5, Some(3)))),
-    ] {
+    for (transfer, name) in IN_MODE_SECOND {
         let shown = transfer_arrives(&rt, &mut link, *transfer);
         assert_equal_at(&rt, &shown, &Some((Some((6, 6, 2)), *name)), transfer);
     }

@@ -9,6 +9,7 @@ use amqp_link_core::endpoint::LinkExt;
 use amqp_link_payloads::Message;
 use amqp_link_receiver::ReceiverLink;
 use amqp_link_state::state::{LinkFlowStateInner, LinkState};
+use amqp_link_tests_support::calls::set_output_handle;
 use amqp_link_tests_support::table::STATES;
 use amqp_link_types::delivery::Delivery;
 use amqp_link_types::types::{
@@ -195,6 +196,17 @@ fn wrong_transfers_cost_the_credit(rt: HostRuntime) {
     let spent = (0, 0, 0, None);
     assert_equal(&rt, &first, &(Shown::DeliveryIdIsNone, spent));
     assert_equal(&rt, &again, &(Shown::TransferLimitExceeded, spent));
+}
+
+// A delivery cannot be given without the handle by which it is disposed of; it is kept, and costs the credit.
+#[test]
+fn without_output_handle_the_delivery_is_kept(rt: HostRuntime) {
+    let mut link = link_in(&rt, LinkState::Attached, 2);
+    set_output_handle(&mut link, None);
+    let (shown, left) = shown_on::<Whole>(&rt, &mut link, Some(3));
+    drop(link);
+    let kept = (0, 1, 1, Some(Some((0, 1))));
+    assert_equal(&rt, &(shown, left), &(Shown::IllegalState, kept));
 }
 
 // Once both attaches were exchanged, a delivery takes one of two credits.

@@ -146,6 +146,17 @@ fn each_call_goes_by_the_table(rt: HostRuntime) {
     }
 }
 
+// Without its delivery, but with an empty map and the mark, an attach has 26 bytes, and four of the frame's header.
+#[test]
+fn attach_that_fits_no_frame_is_refused(rt: HostRuntime) {
+    let mut link = link_in(&rt, LinkState::Detached, 29);
+    let sent = send_attach(&mut link, false);
+    let is_too_large = matches!(sent, Err(ReceiverAttachError::AttachTooLarge));
+    let left = (is_too_large, local_state(&link));
+    drop((sent, link));
+    assert_equal(&rt, &left, &(true, LinkState::Detached));
+}
+
 // The length of an attach, and whether it has a map.
 type Stated = (Option<u64>, bool);
 

@@ -74,6 +74,22 @@ fn new_run(rt: &impl Abort, alloc: Global, count: u32, limit: u32) -> CreditRun 
         .expect(rt, "memory")
 }
 
+// Why there is no run at the largest count with this frame limit.
+fn refused_at(alloc: Global, limit: u32) -> Option<CreditRunError> {
+    let run = CreditRun::new(alloc, u32::MAX, limit);
+    let refused = run.as_ref().err().copied();
+    drop(run);
+    refused
+}
+
+// Where the count takes five bytes, the sender's attach has 28, and four of the frame's header.
+#[test]
+fn run_needs_room_for_its_attaches(rt: HostRuntime) {
+    let too_small = Some(CreditRunError::LimitTooSmall);
+    assert_equal(&rt, &refused_at(rt.alloc(), 31), &too_small);
+    assert_equal(&rt, &refused_at(rt.alloc(), 32), &None);
+}
+
 #[test]
 fn credit_is_granted_past_the_wrap(rt: HostRuntime) {
     let alloc = rt.alloc();
