@@ -101,6 +101,12 @@ impl Builder<Uninitialized> {
 }
 
 impl Default for Builder<Uninitialized> {
+    ghost is_default = { λ builder. builder ≡ record {
+      message = record {};
+      message_format = 0;
+      settled = None;
+    } };
+
     fn default() -> Builder<Uninitialized> {
         Builder::new()
     }

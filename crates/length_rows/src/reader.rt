@@ -113,3 +113,13 @@ fn split_word(text: &[u8]) -> (&[u8], Option<&[u8]>) {
         None => (text, None),
     }
 }
+
+/// The value that a word stands for; no row if it is none of these words.
+pub fn value_of<T: Copy>(words: &[(&str, T)], word: &[u8]) -> Result<T, RowError> {
+    for (name, value) in words {
+        if name.as_bytes() == word {
+            return Ok(*value);
+        }
+    }
+    Err(RowError::NotARow)
+}

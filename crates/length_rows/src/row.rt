@@ -2,7 +2,7 @@
 ghost use Rattle.std.specs.Prelude.{◌≡◌, ◌↔◌, Some, IsTrue};
 
 use crate::error::RowError;
-use crate::reader::{ReadFrom, Reader};
+use crate::reader::{ReadFrom, Reader, value_of};
 use amqp_link_types::types::{Attach, DeliveryState, Error, Source, Target, Transfer, Value};
 use amqp_link_values::length::EncodedLen;
 use std::alloc::Global;
@@ -126,12 +126,17 @@ fn read_kind(reader: &mut Reader) -> Result<Kind, RowError> {
     Err(RowError::NotARow)
 }
 
+// The encoders, and rows that were worked by hand.
+const ENCODERS: &[(&str, ())] = &[
+    ("proton", ()),
+    ("uamqp", ()),
+    ("proton+uamqp", ()),
+    ("hand", ()),
+];
+
 // The encoder's name is only checked.
 fn read_encoder(reader: &mut Reader) -> Result<(), RowError> {
-    match reader.word()? {
-        b"proton" | b"uamqp" | b"proton+uamqp" | b"hand" => Ok(()),
-        _ => Err(RowError::NotARow),
-    }
+    value_of(ENCODERS, reader.word()?)
 }
 
 fn computed_len(kind: Kind, reader: &mut Reader) -> Result<Option<u64>, RowError> {

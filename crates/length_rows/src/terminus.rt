@@ -1,7 +1,7 @@
 //! Sources and targets, as a row gives them.
 use crate::error::RowError;
 use crate::fields::{FieldReader, if_read};
-use crate::reader::{ReadFrom, Reader};
+use crate::reader::{ReadFrom, Reader, value_of};
 use amqp_link_types::types::{
     DistributionMode, Source, Symbol, Target, TargetArchetype, TerminusDurability,
     TerminusExpiryPolicy,
@@ -18,27 +18,29 @@ impl ReadFrom for TerminusDurability {
     }
 }
 
+const EXPIRY_POLICIES: &[(&str, TerminusExpiryPolicy)] = &[
+    ("link-detach", TerminusExpiryPolicy::LinkDetach),
+    ("session-end", TerminusExpiryPolicy::SessionEnd),
+    ("connection-close", TerminusExpiryPolicy::ConnectionClose),
+    ("never", TerminusExpiryPolicy::Never),
+];
+
+const DISTRIBUTION_MODES: &[(&str, DistributionMode)] = &[
+    ("move", DistributionMode::Move),
+    ("copy", DistributionMode::Copy),
+];
+
 impl ReadFrom for TerminusExpiryPolicy {
     fn read(reader: &mut Reader) -> Result<TerminusExpiryPolicy, RowError> {
         let name = Symbol::read(reader)?;
-        match name.as_str() {
-            "link-detach" => Ok(TerminusExpiryPolicy::LinkDetach),
-            "session-end" => Ok(TerminusExpiryPolicy::SessionEnd),
-            "connection-close" => Ok(TerminusExpiryPolicy::ConnectionClose),
-            "never" => Ok(TerminusExpiryPolicy::Never),
-            _ => Err(RowError::NotARow),
-        }
+        value_of(EXPIRY_POLICIES, name.as_str().as_bytes())
     }
 }
 
 impl ReadFrom for DistributionMode {
     fn read(reader: &mut Reader) -> Result<DistributionMode, RowError> {
         let name = Symbol::read(reader)?;
-        match name.as_str() {
-            "move" => Ok(DistributionMode::Move),
-            "copy" => Ok(DistributionMode::Copy),
-            _ => Err(RowError::NotARow),
-        }
+        value_of(DISTRIBUTION_MODES, name.as_str().as_bytes())
     }
 }
 

@@ -1,19 +1,71 @@
 //! Values of any type, as a row gives them.
 use crate::error::RowError;
 use crate::fields::{if_read, none_before};
-use crate::reader::{ReadFrom, Reader};
+use crate::reader::{ReadFrom, Reader, value_of};
 use amqp_link_types::types::{DeliveryTag, Descriptor, Fields, Symbol, Symbols, Text, Value};
 
 // How deep values may be nested.
 const MOST_NESTED: u32 = 16;
 
+// The types whose values contain no others; null, true and false are values by themselves.
+#[derive(Clone, Copy)]
+enum Plain {
+    Null,
+    True,
+    False,
+    Binary,
+    String,
+    Symbol,
+    Symbols,
+    Ubyte,
+    Ushort,
+    Uint,
+    Ulong,
+    Byte,
+    Short,
+    Int,
+    Long,
+    Timestamp,
+}
+
+// The types whose values contain others.
+#[derive(Clone, Copy)]
+enum Nested {
+    List,
+    Map,
+    Described,
+}
+
+const BOOLS: &[(&str, bool)] = &[("true", true), ("false", false)];
+
+const PLAIN: &[(&str, Plain)] = &[
+    ("_", Plain::Null),
+    ("true", Plain::True),
+    ("false", Plain::False),
+    ("binary", Plain::Binary),
+    ("string", Plain::String),
+    ("symbol", Plain::Symbol),
+    ("symbols", Plain::Symbols),
+    ("ubyte", Plain::Ubyte),
+    ("ushort", Plain::Ushort),
+    ("uint", Plain::Uint),
+    ("ulong", Plain::Ulong),
+    ("byte", Plain::Byte),
+    ("short", Plain::Short),
+    ("int", Plain::Int),
+    ("long", Plain::Long),
+    ("timestamp", Plain::Timestamp),
+];
+
+const NESTED: &[(&str, Nested)] = &[
+    ("list", Nested::List),
+    ("map", Nested::Map),
+    ("described", Nested::Described),
+];
+
 impl ReadFrom for bool {
     fn read(reader: &mut Reader) -> Result<bool, RowError> {
-        match reader.word()? {
-            b"true" => Ok(true),
-            b"false" => Ok(false),
-            _ => Err(RowError::NotARow),
-        }
+        value_of(BOOLS, reader.word()?)
     }
 }
 
@@ -107,17 +159,16 @@ impl ReadFrom for Value {
 #[cycle(read_value)]
 fn read_value(reader: &mut Reader, depth: u32) -> Result<Value, RowError> {
     let word = reader.word()?;
-    if let Some(value) = read_plain(reader, word)? {
-        return Ok(value);
+    if let Ok(plain) = value_of(PLAIN, word) {
+        return read_plain(reader, plain);
     }
     if depth == 0 {
         return Err(RowError::NotARow);
     }
-    match word {
-        b"list" => read_list(reader, depth - 1),
-        b"map" => read_map(reader, depth - 1),
-        b"described" => read_described(reader, depth - 1),
-        _ => Err(RowError::NotARow),
+    match value_of(NESTED, word)? {
+        Nested::List => read_list(reader, depth - 1),
+        Nested::Map => read_map(reader, depth - 1),
+        Nested::Described => read_described(reader, depth - 1),
     }
 }
 
@@ -147,44 +198,43 @@ fn read_described(reader: &mut Reader, depth: u32) -> Result<Value, RowError> {
     Ok(Value::Described(descriptor, value))
 }
 
-// The value after the word that names its type, if that type contains no other value.
-fn read_plain(reader: &mut Reader, word: &[u8]) -> Result<Option<Value>, RowError> {
-    match word {
-        b"_" => Ok(Some(Value::Null)),
-        b"true" => Ok(Some(Value::Bool(true))),
-        b"false" => Ok(Some(Value::Bool(false))),
-        b"binary" | b"string" | b"symbol" | b"symbols" => read_bytes(reader, word),
-        b"ubyte" | b"ushort" | b"uint" | b"ulong" => read_unsigned(reader, word),
-        _ => read_signed(reader, word),
+// The value after the word that names its type.
+fn read_plain(reader: &mut Reader, plain: Plain) -> Result<Value, RowError> {
+    match plain {
+        Plain::Null => Ok(Value::Null),
+        Plain::True => Ok(Value::Bool(true)),
+        Plain::False => Ok(Value::Bool(false)),
+        Plain::Binary | Plain::String | Plain::Symbol | Plain::Symbols => read_bytes(reader, plain),
+        Plain::Ubyte | Plain::Ushort | Plain::Uint | Plain::Ulong => read_unsigned(reader, plain),
+        _ => read_signed(reader, plain),
     }
 }
 
-fn read_bytes(reader: &mut Reader, word: &[u8]) -> Result<Option<Value>, RowError> {
-    match word {
-        b"binary" => Ok(Some(Value::Binary(reader.bytes()?))),
-        b"string" => Ok(Some(Value::String(reader.text()?))),
-        b"symbol" => Ok(Some(Value::Symbol(Symbol::from(reader.text()?)))),
-        _ => Ok(Some(Value::SymbolArray(read_names(reader)?))),
+fn read_bytes(reader: &mut Reader, plain: Plain) -> Result<Value, RowError> {
+    match plain {
+        Plain::Binary => Ok(Value::Binary(reader.bytes()?)),
+        Plain::String => Ok(Value::String(reader.text()?)),
+        Plain::Symbol => Ok(Value::Symbol(Symbol::from(reader.text()?))),
+        _ => Ok(Value::SymbolArray(read_names(reader)?)),
     }
 }
 
-fn read_unsigned(reader: &mut Reader, word: &[u8]) -> Result<Option<Value>, RowError> {
-    match word {
-        b"ubyte" => Ok(Some(Value::Ubyte(read_u8(reader)?))),
-        b"ushort" => Ok(Some(Value::Ushort(read_u16(reader)?))),
-        b"uint" => Ok(Some(Value::Uint(read_u32(reader)?))),
-        _ => Ok(Some(Value::Ulong(reader.unsigned()?))),
+fn read_unsigned(reader: &mut Reader, plain: Plain) -> Result<Value, RowError> {
+    match plain {
+        Plain::Ubyte => Ok(Value::Ubyte(read_u8(reader)?)),
+        Plain::Ushort => Ok(Value::Ushort(read_u16(reader)?)),
+        Plain::Uint => Ok(Value::Uint(read_u32(reader)?)),
+        _ => Ok(Value::Ulong(reader.unsigned()?)),
     }
 }
 
-fn read_signed(reader: &mut Reader, word: &[u8]) -> Result<Option<Value>, RowError> {
-    match word {
-        b"byte" => Ok(Some(Value::Byte(read_i8(reader)?))),
-        b"short" => Ok(Some(Value::Short(read_i16(reader)?))),
-        b"int" => Ok(Some(Value::Int(read_i32(reader)?))),
-        b"long" => Ok(Some(Value::Long(reader.signed()?))),
-        b"timestamp" => Ok(Some(Value::Timestamp(reader.signed()?))),
-        _ => Ok(None),
+fn read_signed(reader: &mut Reader, plain: Plain) -> Result<Value, RowError> {
+    match plain {
+        Plain::Byte => Ok(Value::Byte(read_i8(reader)?)),
+        Plain::Short => Ok(Value::Short(read_i16(reader)?)),
+        Plain::Int => Ok(Value::Int(read_i32(reader)?)),
+        Plain::Long => Ok(Value::Long(reader.signed()?)),
+        _ => Ok(Value::Timestamp(reader.signed()?)),
     }
 }
 
