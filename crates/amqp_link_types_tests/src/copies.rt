@@ -5,7 +5,7 @@ use amqp_link_types::delivery::{DeliveryOutcome, copy_of_outcome};
 use amqp_link_types::frame::continuation_of;
 use amqp_link_types::types::{
     ConnectionStopReason, DeliveryState, DeliveryTag, Detach, Disposition, Fields, Handle,
-    LinkFlow, LinkStateError, Role, SessionStopReason, Transfer,
+    LinkFlow, LinkStateError, Outcome, Role, SessionStopReason, Source, Target, Transfer,
 };
 use amqp_link_values::copy::copies_of;
 use std::process::Abort;
@@ -123,4 +123,81 @@ fn copied_outcomes_are_equal(rt: HostRuntime) {
     assert_holds_at(&rt, is_copied(&rt, closed(&rt)), &"closed with an error");
     let outcome = Ok(Some(rejected(&rt)));
     assert_holds_at(&rt, is_outcome_copied(&rt, outcome), &"an outcome");
+}
+
+fn is_error_copied(rt: &impl Abort, error: LinkStateError, name: &str) {
+    assert_holds_at(rt, is_copied(rt, error), &name);
+}
+
+// The copies from here on take no memory, so none is refused.
+#[test]
+fn copied_errors_without_more_are_equal(rt: HostRuntime) {
+    is_error_copied(&rt, LinkStateError::IllegalState, "illegal state");
+    is_error_copied(&rt, LinkStateError::RemoteDetached, "detached");
+    is_error_copied(&rt, LinkStateError::RemoteClosed, "closed");
+    is_error_copied(
+        &rt,
+        LinkStateError::ExpectImmediateDetach,
+        "detach expected",
+    );
+    is_error_copied(&rt, LinkStateError::TagPending, "tag pending");
+    is_error_copied(&rt, LinkStateError::NoRoom, "no room");
+    is_error_copied(&rt, LinkStateError::OutOfMemory, "out of memory");
+    let ended = LinkStateError::SessionStopped(SessionStopReason::Ended);
+    is_error_copied(&rt, ended, "session ended");
+    let stopped = SessionStopReason::ConnectionStopped(ConnectionStopReason::Closed);
+    is_error_copied(
+        &rt,
+        LinkStateError::SessionStopped(stopped),
+        "connection closed",
+    );
+}
+
+fn modified() -> Outcome {
+    Outcome::Modified {
+        delivery_failed: Some(true),
+        undeliverable_here: Some(false),
+        message_annotations: None,
+    }
+}
+
+#[test]
+fn copied_outcomes_without_more_are_equal(rt: HostRuntime) {
+    assert_holds_at(&rt, is_copied(&rt, Outcome::Accepted), &"accepted");
+    assert_holds_at(&rt, is_copied(&rt, Outcome::Released), &"released");
+    assert_holds_at(
+        &rt,
+        is_copied(&rt, Outcome::Rejected { error: None }),
+        &"rejected",
+    );
+    assert_holds_at(&rt, is_copied(&rt, modified()), &"modified");
+}
+
+fn bare_disposition() -> Disposition {
+    Disposition {
+        role: Role::Sender,
+        first: 1,
+        last: None,
+        settled: false,
+        state: None,
+        batchable: false,
+    }
+}
+
+fn bare_detach() -> Detach {
+    Detach {
+        handle: Handle(1),
+        closed: false,
+        error: None,
+    }
+}
+
+#[test]
+fn copied_performatives_without_more_are_equal(rt: HostRuntime) {
+    assert_holds_at(&rt, is_copied(&rt, LinkFlow::default()), &"a flow");
+    assert_holds_at(&rt, is_copied(&rt, Transfer::default()), &"a transfer");
+    assert_holds_at(&rt, is_copied(&rt, bare_disposition()), &"a disposition");
+    assert_holds_at(&rt, is_copied(&rt, bare_detach()), &"a detach");
+    assert_holds_at(&rt, is_copied(&rt, Source::default()), &"a source");
+    assert_holds_at(&rt, is_copied(&rt, Target::default()), &"a target");
 }

@@ -60,6 +60,23 @@ fn a_copied_value_is_equal(rt: HostRuntime) {
     is_value_copied(&rt, name, "described by a name");
 }
 
+// Their copies take no memory, so none is refused.
+#[test]
+fn a_copied_number_is_equal(rt: HostRuntime) {
+    is_value_copied(&rt, Value::Null, "null");
+    is_value_copied(&rt, Value::Bool(true), "bool");
+    is_value_copied(&rt, Value::Ubyte(1), "ubyte");
+    is_value_copied(&rt, Value::Ushort(2), "ushort");
+    is_value_copied(&rt, Value::Uint(3), "uint");
+    is_value_copied(&rt, Value::Ulong(4), "ulong");
+    is_value_copied(&rt, Value::Byte(-1), "byte");
+    is_value_copied(&rt, Value::Short(-2), "short");
+    is_value_copied(&rt, Value::Int(-3), "int");
+    is_value_copied(&rt, Value::Long(-4), "long");
+    is_value_copied(&rt, Value::Timestamp(-5), "timestamp");
+    assert_holds_at(&rt, is_copied(&rt, Descriptor::Code(2)), &"a code");
+}
+
 #[test]
 fn copied_names_are_equal(rt: HostRuntime) {
     let text = Text::from(string(&rt, "a"));
