@@ -62,7 +62,7 @@ fn a_copied_value_is_equal(rt: HostRuntime) {
 
 // Their copies take no memory, so none is refused.
 #[test]
-fn a_copied_number_is_equal(rt: HostRuntime) {
+fn a_copied_value_of_fixed_width_is_equal(rt: HostRuntime) {
     is_value_copied(&rt, Value::Null, "null");
     is_value_copied(&rt, Value::Bool(true), "bool");
     is_value_copied(&rt, Value::Ubyte(1), "ubyte");
