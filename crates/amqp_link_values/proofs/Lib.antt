@@ -1,3 +1,4 @@
+pub mod CopyLemmas
 pub mod Entries
 pub mod SameLevels
 pub mod Worked

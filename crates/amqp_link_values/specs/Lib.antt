@@ -1,4 +1,5 @@
 pub mod Code
+pub mod Copies
 pub mod Data
 pub mod Length
 pub mod Same

@@ -1,11 +1,12 @@
 //! The tag of a delivery (2.8.7).
-ghost use Rattle.std.specs.Prelude.{◌≡◌, ◌↔◌, ◌<◌, IsTrue, IfOk, IfSome, IfNone, OnErr, length};
+ghost use Rattle.std.specs.Prelude.{◌≡◌, ◌↔◌, ◌<◌, false, IsTrue, IfOk, IfSome, IfNone, OnErr, length};
 ghost use Rattle.std.specs.Cmp.Lexicographic.{nat_list_eq_equiv};
 ghost use Rattle.std.specs.Cmp.Rules.{hashing};
 ghost use Rattle.std.specs.Cmp.{partial_equiv_from_equiv};
 ghost use Rattle.std.specs.Hash as fed;
 ghost use Rattle.std.specs.Str.{bytes_eq};
 ghost use Rattle.std.proofs.Common.{rules};
+ghost use Rattle.amqp_link_values.specs.Copies.{tag_carries_more};
 ghost use Rattle.amqp_link_values.specs.TagBytes.{tag_bytes, IsWithin};
 
 use indexmap::Equivalent;
@@ -101,6 +102,8 @@ impl From<Vec<u8>> for DeliveryTag {
 
 impl Clone for DeliveryTag {
     ghost is_clone = { λ tag copy. copy ≡ tag };
+
+    ghost is_infallible = { λ tag. tag_carries_more tag ≡ false };
 
     fn clone(&self) -> Result<DeliveryTag, AllocError>
         ensures copy { IfOk result (λ copy. copy ≡ self.now) }

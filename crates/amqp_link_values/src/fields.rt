@@ -1,11 +1,12 @@
 //! Maps from symbols to values (2.8.13).
 ghost use Rattle.std.specs.Prelude.{◌≡◌, ◌↔◌, ◌<◌, ◌+◌, ◌==◌, ℕ, List, [], map, length, option_map};
-ghost use Rattle.std.specs.Prelude.{IsTrue, None, OnOk, OnErr, IfOk, IfErr};
+ghost use Rattle.std.specs.Prelude.{IsTrue, false, None, OnOk, OnErr, IfOk, IfErr};
 ghost use Rattle.std.specs.Cmp.{partial_equiv_from_equiv};
 ghost use Rattle.std.specs.Map.{lookup};
 ghost use Rattle.std.specs.Map.Iter.{ShowsInOrder, GivesInOrder, deref_pair};
 ghost use Rattle.std.specs.Str.{bytes_eq};
 ghost use Rattle.indexmap.specs.IndexMap.{insert_entry, insert_all};
+ghost use Rattle.amqp_link_values.specs.Copies.{carries_any};
 ghost use Rattle.amqp_link_values.specs.Same.{same_entries};
 ghost use Rattle.amqp_link_values.specs.View.{view, view_entry};
 ghost use Rattle.amqp_link_values.specs.SameLaws.{entries_equiv};
@@ -148,6 +149,8 @@ impl Fields {
 
 impl Clone for Fields {
     ghost is_clone = { λ fields copy. copy ≡ fields };
+
+    ghost is_infallible = { λ fields. carries_any fields ≡ false };
 
     // The copy of a map allocates even if the map is empty, so that this case is handled first.
     fn clone(&self) -> Result<Fields, AllocError>

@@ -1,11 +1,12 @@
 //! Symbols (1.6.21).
-ghost use Rattle.std.specs.Prelude.{◌≡◌, ◌↔◌, IsTrue, string_bytes};
+ghost use Rattle.std.specs.Prelude.{◌≡◌, ◌↔◌, ◌<◌, false, length, IfOk, OnErr, IsTrue, string_bytes};
 ghost use Rattle.std.specs.Cmp.Lexicographic.{nat_list_eq_equiv};
 ghost use Rattle.std.specs.Cmp.Rules.{hashing};
 ghost use Rattle.std.specs.Cmp.{partial_equiv_from_equiv};
 ghost use Rattle.std.specs.Hash as fed;
 ghost use Rattle.std.specs.Str.{bytes_eq};
 ghost use Rattle.std.proofs.Common.{rules};
+ghost use Rattle.amqp_link_values.specs.Copies.{carries_any};
 
 use crate::text::Text;
 use std::alloc::AllocError;
@@ -58,7 +59,13 @@ impl From<String> for Symbol {
 impl Clone for Symbol {
     ghost is_clone = { λ symbol copy. copy ≡ symbol };
 
-    fn clone(&self) -> Result<Symbol, AllocError> {
+    ghost is_infallible = { λ symbol. carries_any symbol ≡ false };
+
+    // An empty symbol does not allocate.
+    fn clone(&self) -> Result<Symbol, AllocError>
+        ensures copy { IfOk result (λ copy. copy ≡ self.now) }
+        ensures memory { OnErr result (0 < length self.now) }
+    {
         Ok(Symbol {
             text: self.text.clone()?,
         })

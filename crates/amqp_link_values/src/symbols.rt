@@ -1,7 +1,9 @@
 //! Lists of symbols, such as capabilities and outcomes (2.7.3, 3.5.3).
-ghost use Rattle.std.specs.Prelude.{◌≡◌, ◌↔◌, IsTrue};
+ghost use Rattle.std.specs.Prelude.{◌≡◌, ◌↔◌, ◌<◌, false, length, IfOk, OnErr, IsTrue};
 ghost use Rattle.std.specs.Cmp.{partial_equiv_from_equiv};
+ghost use Rattle.amqp_link_values.specs.Copies.{carries_any};
 
+use crate::copy::copy_of_list;
 use crate::symbol::Symbol;
 use std::alloc::AllocError;
 use std::marker::Model;
@@ -49,9 +51,15 @@ impl From<Vec<Symbol>> for Symbols {
 impl Clone for Symbols {
     ghost is_clone = { λ symbols copy. copy ≡ symbols };
 
-    fn clone(&self) -> Result<Symbols, AllocError> {
+    ghost is_infallible = { λ symbols. carries_any symbols ≡ false };
+
+    // An empty list does not allocate.
+    fn clone(&self) -> Result<Symbols, AllocError>
+        ensures copy { IfOk result (λ copy. copy ≡ self.now) }
+        ensures memory { OnErr result (0 < length self.now) }
+    {
         Ok(Symbols {
-            symbols: self.symbols.clone()?,
+            symbols: copy_of_list(&self.symbols)?,
         })
     }
 }

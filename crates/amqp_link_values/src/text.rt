@@ -1,12 +1,14 @@
 //! Texts for people (1.6.20).
-ghost use Rattle.std.specs.Prelude.{◌≡◌, ◌↔◌, IsTrue, string_bytes};
+ghost use Rattle.std.specs.Prelude.{◌≡◌, ◌↔◌, ◌<◌, false, length, IfOk, OnErr, IsTrue, string_bytes};
 ghost use Rattle.std.specs.Cmp.Lexicographic.{nat_list_eq_equiv};
 ghost use Rattle.std.specs.Cmp.Rules.{hashing};
 ghost use Rattle.std.specs.Cmp.{partial_equiv_from_equiv};
 ghost use Rattle.std.specs.Hash as fed;
 ghost use Rattle.std.specs.Str.{bytes_eq};
 ghost use Rattle.std.proofs.Common.{rules};
+ghost use Rattle.amqp_link_values.specs.Copies.{carries_any};
 
+use crate::copy::copy_of_string;
 use std::alloc::AllocError;
 use std::hash::{Hash, Hasher};
 use std::marker::Model;
@@ -55,9 +57,15 @@ impl From<String> for Text {
 impl Clone for Text {
     ghost is_clone = { λ words copy. copy ≡ words };
 
-    fn clone(&self) -> Result<Text, AllocError> {
+    ghost is_infallible = { λ words. carries_any words ≡ false };
+
+    // An empty text does not allocate.
+    fn clone(&self) -> Result<Text, AllocError>
+        ensures copy { IfOk result (λ copy. copy ≡ self.now) }
+        ensures memory { OnErr result (0 < length self.now) }
+    {
         Ok(Text {
-            text: self.text.clone()?,
+            text: copy_of_string(&self.text)?,
         })
     }
 }
