@@ -1,3 +1,4 @@
+pub mod CopyLemmas
 pub mod EntriesLemmas
 pub mod MapLemmas
 pub mod SizeLemmas

@@ -1,16 +1,23 @@
 -- Values of the definitions that were worked out by hand: docs/DEFINITIONS.md lists them.
-use Rattle.std.proofs.Common.{◌≡◌, ℕ, ◌+◌, true, false, List, [], ◌∷◌, replicate, refl, Option, Some, None}
+use Rattle.std.proofs.Common.{◌≡◌, ℕ, ◌+◌, true, false, List, [], ◌∷◌, replicate, refl, Option, Some, None, Ok, Err}
 use Rattle.std.specs.Prelude.{codes}
+use Rattle.amqp_link_types.specs.Copies.{error_carries_more, connection_stop_carries_more, session_stop_carries_more, refusal_carries_more}
+use Rattle.amqp_link_types.specs.Copies.{outcome_carries_more, result_carries_more, source_carries_more, target_carries_more, archetype_carries_more}
+use Rattle.amqp_link_types.specs.Copies.{attach_carries_more, flow_carries_more, transfer_carries_more, disposition_carries_more, detach_carries_more}
 use Rattle.amqp_link_types.specs.Entries.{Entries, with_entry, without_entry, without_entries, changed_at}
 use Rattle.amqp_link_types.specs.Size.{attach_len, transfer_len, before, list_of, state_len}
 use Rattle.amqp_link_types.specs.Size.{outcome_len, source_len, target_len, expiry_field}
 use Rattle.amqp_link_types.specs.declared.types.attach.Attach.{Attach}
+use Rattle.amqp_link_types.specs.declared.types.definitions.Error.{Error}
 use Rattle.amqp_link_types.specs.declared.types.definitions.ReceiverSettleMode.TheVariants as rcv_mode
 use Rattle.amqp_link_types.specs.declared.types.definitions.Role.TheVariants as role
 use Rattle.amqp_link_types.specs.declared.types.definitions.SenderSettleMode.TheVariants as snd_mode
 use Rattle.amqp_link_types.specs.declared.types.delivery_state.DeliveryState.{DeliveryState}
 use Rattle.amqp_link_types.specs.declared.types.delivery_state.DeliveryState.TheVariants.{Accepted, Received}
 use Rattle.amqp_link_types.specs.declared.types.delivery_state.Outcome.TheVariants as outcome
+use Rattle.amqp_link_types.specs.declared.types.errors.LinkStateError.TheVariants as refused
+use Rattle.amqp_link_types.specs.declared.types.stop_reason.ConnectionStopReason.TheVariants as connection
+use Rattle.amqp_link_types.specs.declared.types.stop_reason.SessionStopReason.TheVariants as session
 use Rattle.amqp_link_types.specs.declared.types.terminus.Source.{Source}
 use Rattle.amqp_link_types.specs.declared.types.terminus.Target.{Target}
 use Rattle.amqp_link_types.specs.declared.types.terminus.TargetArchetype.TheVariants as archetype
@@ -165,3 +172,81 @@ received_is_not_terminal = refl
 
 state_of_one_just_sent : states_of ((1 ∷ [], record { payload = 7 ∷ []; state = None; message_format = 0 }) ∷ []) ≡ (1 ∷ [], None) ∷ []
 state_of_one_just_sent = refl
+
+-- ---- copies
+
+-- an error of this condition alone
+abbrev x_y : Error
+x_y = record { condition = codes "x:y"; description = None; info = None }
+
+error_carries : error_carries_more x_y ≡ true
+error_carries = refl
+
+closed_carries_nothing : connection_stop_carries_more connection.Closed ≡ false
+closed_carries_nothing = refl
+
+stop_carries : session_stop_carries_more (session.ConnectionStopped (connection.RemoteClosedWithError x_y)) ≡ true
+stop_carries = refl
+
+no_room_carries_nothing : refusal_carries_more refused.NoRoom ≡ false
+no_room_carries_nothing = refl
+
+ended_carries_nothing : refusal_carries_more (refused.SessionStopped session.Ended) ≡ false
+ended_carries_nothing = refl
+
+released_carries_nothing : outcome_carries_more outcome.Released ≡ false
+released_carries_nothing = refl
+
+accepted_carries_nothing : result_carries_more (Ok (Some Accepted)) ≡ false
+accepted_carries_nothing = refl
+
+closed_with_an_error_carries : result_carries_more (Err (refused.RemoteClosedWithError x_y)) ≡ true
+closed_with_an_error_carries = refl
+
+plain_source_carries_nothing : source_carries_more plain_source ≡ false
+plain_source_carries_nothing = refl
+
+addressed_source_carries : source_carries_more (record plain_source { address = Some (codes "q1") }) ≡ true
+addressed_source_carries = refl
+
+plain_target_carries_nothing : target_carries_more plain_target ≡ false
+plain_target_carries_nothing = refl
+
+plain_archetype_carries_nothing : archetype_carries_more (archetype.Target plain_target) ≡ false
+plain_archetype_carries_nothing = refl
+
+name_carries : attach_carries_more plain_attach ≡ true
+name_carries = refl
+
+nameless_carries_nothing : attach_carries_more (record plain_attach { name = []; unsettled = Some [] }) ≡ false
+nameless_carries_nothing = refl
+
+silent_flow_carries_nothing : flow_carries_more (record {
+  handle = record { 0 = 0 };
+  delivery_count = Some 2;
+  link_credit = Some 3;
+  available = None;
+  drain = false;
+  echo = true;
+  properties = Some [];
+}) ≡ false
+silent_flow_carries_nothing = refl
+
+short_tag_carries_nothing : transfer_carries_more (measured (replicate 16 0)) ≡ false
+short_tag_carries_nothing = refl
+
+long_tag_carries : transfer_carries_more (measured (replicate 17 0)) ≡ true
+long_tag_carries = refl
+
+acceptance_carries_nothing : disposition_carries_more (record {
+  role = role.Receiver;
+  first = 1;
+  last = None;
+  settled = true;
+  state = Some Accepted;
+  batchable = false;
+}) ≡ false
+acceptance_carries_nothing = refl
+
+detach_with_an_error_carries : detach_carries_more (record { handle = record { 0 = 0 }; closed = true; error = Some x_y }) ≡ true
+detach_with_an_error_carries = refl

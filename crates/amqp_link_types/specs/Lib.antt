@@ -1,5 +1,6 @@
 pub use Rattle.amqp_link_values.specs.Data
 pub use Rattle.amqp_link_values.specs.Length
+pub mod Copies
 pub mod Deliveries
 pub mod DeliveryStates
 pub mod Entries

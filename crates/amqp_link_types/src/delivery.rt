@@ -1,6 +1,7 @@
 //! Deliveries: what a sender keeps of an unsettled one, their outcomes, and what a receiver hands out
 //! (2.6.12).
-ghost use Rattle.std.specs.Prelude.{◌≡◌, Ok, Err, IfOk};
+ghost use Rattle.std.specs.Prelude.{◌≡◌, true, Ok, Err, IfOk, OnErr};
+ghost use Rattle.amqp_link_types.specs.Copies.{result_carries_more};
 
 pub mod complete;
 pub mod info;
@@ -17,9 +18,10 @@ pub type DeliveryOutcome = Result<Option<DeliveryState>, LinkStateError>;
 /// The deliveries that a call has resolved, with the outcome of each, in order.
 pub type Outcomes = Vec<(DeliveryTag, DeliveryOutcome)>;
 
-/// A copy of an outcome. May allocate.
+/// A copy of an outcome. Allocates only for an error or annotations.
 pub fn copy_of_outcome(outcome: &DeliveryOutcome) -> Result<DeliveryOutcome, AllocError>
-    ensures { IfOk result (λ copy. copy ≡ outcome.now) }
+    ensures copy { IfOk result (λ copy. copy ≡ outcome.now) }
+    ensures memory { OnErr result (result_carries_more outcome.now ≡ true) }
 {
     match outcome {
         Ok(state) => Ok(Ok(copy_of(state)?)),

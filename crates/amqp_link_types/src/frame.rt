@@ -1,5 +1,7 @@
 //! The frames of a link (2.7).
-ghost use Rattle.std.specs.Prelude.{◌≡◌, IfOk, option_copied};
+ghost use Rattle.std.specs.Prelude.{◌≡◌, true, false, IfOk, OnErr, option_copied};
+ghost use Rattle.std.specs.Option.{option_map_or};
+ghost use Rattle.amqp_link_types.specs.DeliveryStates.{carries_more};
 ghost use Rattle.amqp_link_types.specs.Frames.{cleared, link_transfer, performative_of};
 
 use crate::types::{Attach, Detach, Disposition, InputHandle, LinkFlow, Payload, Transfer};
@@ -64,7 +66,8 @@ impl LinkFrame {
 /// The transfer of the further frames of a delivery, without what only its first transfer has to
 /// state (2.7.5). Only the copy of a state may allocate: the tag is not copied.
 pub fn continuation_of(transfer: &Transfer) -> Result<Transfer, AllocError>
-    ensures { IfOk result (λ further. further ≡ cleared transfer.now) }
+    ensures further { IfOk result (λ further. further ≡ cleared transfer.now) }
+    ensures memory { OnErr result (option_map_or carries_more transfer.now.state false ≡ true) }
 {
     Ok(Transfer {
         handle: transfer.handle,

@@ -1,5 +1,5 @@
 //! Complete deliveries (2.6.12).
-ghost use Rattle.std.specs.Prelude.{◌≡◌, IfOk};
+ghost use Rattle.std.specs.Prelude.{◌≡◌, ◌<◌, length, IfOk, OnErr};
 
 use crate::delivery::info::DeliveryInfo;
 use crate::types::{DeliveryNumber, DeliveryTag, Message, MessageFormat, OutputHandle};
@@ -131,7 +131,8 @@ impl<T> Delivery<T> {
 impl DeliveryInfo {
     /// The info of a delivery, by which it is settled: a copy. The delivery does not change.
     pub fn of<T>(delivery: &Delivery<T>) -> Result<DeliveryInfo, AllocError>
-        ensures { IfOk result (λ info. info ≡ delivery.now.info) }
+        ensures copy { IfOk result (λ info. info ≡ delivery.now.info) }
+        ensures memory { OnErr result (16 < length delivery.now.info.delivery_tag) }
     {
         delivery.info.clone()
     }

@@ -1,5 +1,6 @@
 //! Which delivery it is, and how it is to be settled (2.6.12).
-ghost use Rattle.std.specs.Prelude.{◌≡◌};
+ghost use Rattle.std.specs.Prelude.{◌≡◌, ◌<◌, false, length, IfOk, OnErr};
+ghost use Rattle.amqp_link_values.specs.Copies.{tag_carries_more};
 
 use crate::types::{DeliveryNumber, DeliveryTag, ReceiverSettleMode};
 use std::alloc::AllocError;
@@ -81,7 +82,13 @@ impl DeliveryInfo {
 impl Clone for DeliveryInfo {
     ghost is_clone = { λ info copy. copy ≡ info };
 
-    fn clone(&self) -> Result<DeliveryInfo, AllocError> {
+    ghost is_infallible = { λ info. tag_carries_more info.delivery_tag ≡ false };
+
+    // Only a tag of more than 16 bytes allocates.
+    fn clone(&self) -> Result<DeliveryInfo, AllocError>
+        ensures copy { IfOk result (λ copy. copy ≡ self.now) }
+        ensures memory { OnErr result (16 < length self.now.delivery_tag) }
+    {
         Ok(DeliveryInfo {
             delivery_id: self.delivery_id,
             delivery_tag: self.delivery_tag.clone()?,

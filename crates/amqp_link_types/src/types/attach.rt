@@ -1,5 +1,6 @@
 //! The attach performative (2.7.3).
-ghost use Rattle.std.specs.Prelude.{◌≡◌};
+ghost use Rattle.std.specs.Prelude.{◌≡◌, true, false, IfOk, OnErr};
+ghost use Rattle.amqp_link_types.specs.Copies.{attach_carries_more};
 
 use crate::types::definitions::{Handle, ReceiverSettleMode, Role, SenderSettleMode, SequenceNo};
 use crate::types::delivery_state::DeliveryState;
@@ -47,7 +48,12 @@ pub struct Attach {
 impl Clone for Attach {
     ghost is_clone = { λ attach copy. copy ≡ attach };
 
-    fn clone(&self) -> Result<Attach, AllocError> {
+    ghost is_infallible = { λ attach. attach_carries_more attach ≡ false };
+
+    fn clone(&self) -> Result<Attach, AllocError>
+        ensures copy { IfOk result (λ copy. copy ≡ self.now) }
+        ensures memory { OnErr result (attach_carries_more self.now ≡ true) }
+    {
         let name = self.name.clone()?;
         let (offered_capabilities, desired_capabilities) = copies_of(
             &self.offered_capabilities,

@@ -1,5 +1,6 @@
 //! The small types of the definitions section (2.8).
-ghost use Rattle.std.specs.Prelude.{◌≡◌};
+ghost use Rattle.std.specs.Prelude.{◌≡◌, true, false, IfOk, OnErr};
+ghost use Rattle.amqp_link_types.specs.Copies.{error_carries_more};
 
 use amqp_link_values::copy::copy_of;
 use amqp_link_values::fields::Fields;
@@ -105,7 +106,12 @@ pub struct Error {
 impl Clone for Error {
     ghost is_clone = { λ error copy. copy ≡ error };
 
-    fn clone(&self) -> Result<Error, AllocError> {
+    ghost is_infallible = { λ error. error_carries_more error ≡ false };
+
+    fn clone(&self) -> Result<Error, AllocError>
+        ensures copy { IfOk result (λ copy. copy ≡ self.now) }
+        ensures memory { OnErr result (error_carries_more self.now ≡ true) }
+    {
         Ok(Error {
             condition: self.condition.clone()?,
             description: copy_of(&self.description)?,

@@ -1,6 +1,7 @@
 //! The state of a delivery (3.4).
 ghost use Rattle.std.specs.Prelude.{◌≡◌, true, false, IfOk, OnErr};
 ghost use Rattle.std.specs.Option.{option_map_or};
+ghost use Rattle.amqp_link_types.specs.Copies.{outcome_carries_more};
 ghost use Rattle.amqp_link_types.specs.DeliveryStates.{is_terminal, carries_more, state_of};
 
 use crate::types::definitions::Error;
@@ -107,6 +108,8 @@ impl From<Outcome> for DeliveryState {
 impl Clone for DeliveryState {
     ghost is_clone = { λ state copy. copy ≡ state };
 
+    ghost is_infallible = { λ state. carries_more state ≡ false };
+
     // Only an error or annotations allocate.
     fn clone(&self) -> Result<DeliveryState, AllocError>
         ensures copy { IfOk result (λ copy. copy ≡ self.now) }
@@ -142,7 +145,12 @@ impl Clone for DeliveryState {
 impl Clone for Outcome {
     ghost is_clone = { λ outcome copy. copy ≡ outcome };
 
-    fn clone(&self) -> Result<Outcome, AllocError> {
+    ghost is_infallible = { λ outcome. outcome_carries_more outcome ≡ false };
+
+    fn clone(&self) -> Result<Outcome, AllocError>
+        ensures copy { IfOk result (λ copy. copy ≡ self.now) }
+        ensures memory { OnErr result (outcome_carries_more self.now ≡ true) }
+    {
         let copy = match self {
             Outcome::Accepted => Outcome::Accepted,
             Outcome::Rejected { error } => Outcome::Rejected {

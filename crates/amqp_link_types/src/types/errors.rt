@@ -1,5 +1,6 @@
 //! Why a call of a link is refused.
-ghost use Rattle.std.specs.Prelude.{◌≡◌};
+ghost use Rattle.std.specs.Prelude.{◌≡◌, true, false, IfOk, OnErr};
+ghost use Rattle.amqp_link_types.specs.Copies.{refusal_carries_more};
 
 use crate::delivery::DeliveryInfo;
 use crate::types::definitions::Error as RemoteError;
@@ -50,7 +51,12 @@ pub enum LinkStateError {
 impl Clone for LinkStateError {
     ghost is_clone = { λ error copy. copy ≡ error };
 
-    fn clone(&self) -> Result<LinkStateError, AllocError> {
+    ghost is_infallible = { λ error. refusal_carries_more error ≡ false };
+
+    fn clone(&self) -> Result<LinkStateError, AllocError>
+        ensures copy { IfOk result (λ copy. copy ≡ self.now) }
+        ensures memory { OnErr result (refusal_carries_more self.now ≡ true) }
+    {
         let copy = match self {
             LinkStateError::IllegalState => LinkStateError::IllegalState,
             LinkStateError::RemoteDetached => LinkStateError::RemoteDetached,

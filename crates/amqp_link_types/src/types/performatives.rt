@@ -1,6 +1,7 @@
 //! The performatives of a link that are neither attach nor transfer: flow, disposition and detach
 //! (2.7.4, 2.7.6 and 2.7.7).
-ghost use Rattle.std.specs.Prelude.{◌≡◌};
+ghost use Rattle.std.specs.Prelude.{◌≡◌, true, false, IfOk, OnErr};
+ghost use Rattle.amqp_link_types.specs.Copies.{flow_carries_more, disposition_carries_more, detach_carries_more};
 
 use crate::types::definitions::{DeliveryNumber, Error, Handle, Role, SequenceNo};
 use crate::types::delivery_state::DeliveryState;
@@ -60,7 +61,12 @@ pub struct Detach {
 impl Clone for LinkFlow {
     ghost is_clone = { λ flow copy. copy ≡ flow };
 
-    fn clone(&self) -> Result<LinkFlow, AllocError> {
+    ghost is_infallible = { λ flow. flow_carries_more flow ≡ false };
+
+    fn clone(&self) -> Result<LinkFlow, AllocError>
+        ensures copy { IfOk result (λ copy. copy ≡ self.now) }
+        ensures memory { OnErr result (flow_carries_more self.now ≡ true) }
+    {
         Ok(LinkFlow {
             handle: self.handle,
             delivery_count: self.delivery_count,
@@ -76,7 +82,12 @@ impl Clone for LinkFlow {
 impl Clone for Disposition {
     ghost is_clone = { λ disposition copy. copy ≡ disposition };
 
-    fn clone(&self) -> Result<Disposition, AllocError> {
+    ghost is_infallible = { λ disposition. disposition_carries_more disposition ≡ false };
+
+    fn clone(&self) -> Result<Disposition, AllocError>
+        ensures copy { IfOk result (λ copy. copy ≡ self.now) }
+        ensures memory { OnErr result (disposition_carries_more self.now ≡ true) }
+    {
         Ok(Disposition {
             role: self.role,
             first: self.first,
@@ -91,7 +102,12 @@ impl Clone for Disposition {
 impl Clone for Detach {
     ghost is_clone = { λ detach copy. copy ≡ detach };
 
-    fn clone(&self) -> Result<Detach, AllocError> {
+    ghost is_infallible = { λ detach. detach_carries_more detach ≡ false };
+
+    fn clone(&self) -> Result<Detach, AllocError>
+        ensures copy { IfOk result (λ copy. copy ≡ self.now) }
+        ensures memory { OnErr result (detach_carries_more self.now ≡ true) }
+    {
         Ok(Detach {
             handle: self.handle,
             closed: self.closed,

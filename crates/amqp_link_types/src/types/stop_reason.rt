@@ -1,5 +1,6 @@
 //! Why the layers below a link have stopped. They pass it to the link.
-ghost use Rattle.std.specs.Prelude.{◌≡◌};
+ghost use Rattle.std.specs.Prelude.{◌≡◌, true, false, IfOk, OnErr};
+ghost use Rattle.amqp_link_types.specs.Copies.{connection_stop_carries_more, session_stop_carries_more};
 
 use crate::types::definitions::Error;
 use std::alloc::AllocError;
@@ -25,7 +26,12 @@ pub enum SessionStopReason {
 impl Clone for ConnectionStopReason {
     ghost is_clone = { λ reason copy. copy ≡ reason };
 
-    fn clone(&self) -> Result<ConnectionStopReason, AllocError> {
+    ghost is_infallible = { λ reason. connection_stop_carries_more reason ≡ false };
+
+    fn clone(&self) -> Result<ConnectionStopReason, AllocError>
+        ensures copy { IfOk result (λ copy. copy ≡ self.now) }
+        ensures memory { OnErr result (connection_stop_carries_more self.now ≡ true) }
+    {
         let copy = match self {
             ConnectionStopReason::Closed => ConnectionStopReason::Closed,
             ConnectionStopReason::RemoteClosedWithError(error) => {
@@ -39,7 +45,12 @@ impl Clone for ConnectionStopReason {
 impl Clone for SessionStopReason {
     ghost is_clone = { λ reason copy. copy ≡ reason };
 
-    fn clone(&self) -> Result<SessionStopReason, AllocError> {
+    ghost is_infallible = { λ reason. session_stop_carries_more reason ≡ false };
+
+    fn clone(&self) -> Result<SessionStopReason, AllocError>
+        ensures copy { IfOk result (λ copy. copy ≡ self.now) }
+        ensures memory { OnErr result (session_stop_carries_more self.now ≡ true) }
+    {
         let copy = match self {
             SessionStopReason::Ended => SessionStopReason::Ended,
             SessionStopReason::ConnectionStopped(reason) => {

@@ -1,5 +1,6 @@
 //! The termini of a link: its source and its target (3.5).
-ghost use Rattle.std.specs.Prelude.{◌≡◌};
+ghost use Rattle.std.specs.Prelude.{◌≡◌, true, false, IfOk, OnErr};
+ghost use Rattle.amqp_link_types.specs.Copies.{source_carries_more, target_carries_more, archetype_carries_more};
 
 use crate::types::delivery_state::Outcome;
 use amqp_link_values::copy::{copies_of, copy_of};
@@ -113,7 +114,12 @@ impl From<Target> for TargetArchetype {
 impl Clone for Source {
     ghost is_clone = { λ source copy. copy ≡ source };
 
-    fn clone(&self) -> Result<Source, AllocError> {
+    ghost is_infallible = { λ source. source_carries_more source ≡ false };
+
+    fn clone(&self) -> Result<Source, AllocError>
+        ensures copy { IfOk result (λ copy. copy ≡ self.now) }
+        ensures memory { OnErr result (source_carries_more self.now ≡ true) }
+    {
         let (address, dynamic_node_properties) = copies_of(
             &self.address,
             &self.dynamic_node_properties,
@@ -139,7 +145,12 @@ impl Clone for Source {
 impl Clone for Target {
     ghost is_clone = { λ target copy. copy ≡ target };
 
-    fn clone(&self) -> Result<Target, AllocError> {
+    ghost is_infallible = { λ target. target_carries_more target ≡ false };
+
+    fn clone(&self) -> Result<Target, AllocError>
+        ensures copy { IfOk result (λ copy. copy ≡ self.now) }
+        ensures memory { OnErr result (target_carries_more self.now ≡ true) }
+    {
         Ok(Target {
             address: copy_of(&self.address)?,
             durable: self.durable,
@@ -155,7 +166,12 @@ impl Clone for Target {
 impl Clone for TargetArchetype {
     ghost is_clone = { λ archetype copy. copy ≡ archetype };
 
-    fn clone(&self) -> Result<TargetArchetype, AllocError> {
+    ghost is_infallible = { λ archetype. archetype_carries_more archetype ≡ false };
+
+    fn clone(&self) -> Result<TargetArchetype, AllocError>
+        ensures copy { IfOk result (λ copy. copy ≡ self.now) }
+        ensures memory { OnErr result (archetype_carries_more self.now ≡ true) }
+    {
         let TargetArchetype::Target(target) = self;
         Ok(TargetArchetype::Target(target.clone()?))
     }

@@ -1,5 +1,6 @@
 //! The transfer performative (2.7.5).
-ghost use Rattle.std.specs.Prelude.{◌≡◌};
+ghost use Rattle.std.specs.Prelude.{◌≡◌, true, false, IfOk, OnErr};
+ghost use Rattle.amqp_link_types.specs.Copies.{transfer_carries_more};
 
 use crate::types::definitions::{DeliveryNumber, Handle, MessageFormat, ReceiverSettleMode};
 use crate::types::delivery_state::DeliveryState;
@@ -39,7 +40,12 @@ pub struct Transfer {
 impl Clone for Transfer {
     ghost is_clone = { λ transfer copy. copy ≡ transfer };
 
-    fn clone(&self) -> Result<Transfer, AllocError> {
+    ghost is_infallible = { λ transfer. transfer_carries_more transfer ≡ false };
+
+    fn clone(&self) -> Result<Transfer, AllocError>
+        ensures copy { IfOk result (λ copy. copy ≡ self.now) }
+        ensures memory { OnErr result (transfer_carries_more self.now ≡ true) }
+    {
         Ok(Transfer {
             handle: self.handle,
             delivery_id: self.delivery_id,

@@ -4,10 +4,11 @@
 //! into the gap. A delivery is found by a hash of its tag.
 
 ghost use Rattle.std.specs.Prelude.{◌≡◌, ◌+◌, ◌==◌, ◌∷◌, [], length, slice_get, take, is_some, None, Option, Some};
-ghost use Rattle.std.specs.Prelude.{IfOk, IfErr, IfSome, IfNone, OnOk, OnErr};
+ghost use Rattle.std.specs.Prelude.{◌<◌, false, IfOk, IfErr, IfSome, IfNone, OnOk, OnErr};
 ghost use Rattle.std.specs.Map.Iter.{deref_pair};
 ghost use Rattle.std.specs.Option.{option_map, option_copied, option_to_list};
 ghost use Rattle.std.specs.Str.{bytes_eq};
+ghost use Rattle.amqp_link_values.specs.Copies.{carries_any};
 ghost use Rattle.amqp_link_types.specs.Entries.{entry_at, with_entry, without_entry, changed_at, IsMap};
 ghost use Rattle.amqp_link_types.specs.Unsettled.{states_of};
 
@@ -240,9 +241,10 @@ impl<V: KeepsState> UnsettledMap<V> {
 impl UnsettledMap<UnsettledMessage> {
     /// The tag and the state of each delivery, as an attach states them (2.7.3).
     ///
-    /// Refused only if it is out of memory.
+    /// Refused only if it is out of memory. Does not allocate if there are none.
     pub fn states(&self) -> Result<UnsettledMap<Option<DeliveryState>>, AllocError>
-        ensures { IfOk result (λ states. states ≡ states_of self.now) }
+        ensures states { IfOk result (λ states. states ≡ states_of self.now) }
+        ensures memory { OnErr result (0 < length self.now) }
     {
         let mut states = IndexMap::with_capacity(*self.map.allocator(), self.map.len())?;
         for (tag, message) in &self.map {
@@ -270,7 +272,16 @@ fn put_state(
 impl Clone for UnsettledMap<Option<DeliveryState>> {
     ghost is_clone = { λ map copy. copy ≡ map };
 
-    fn clone(&self) -> Result<UnsettledMap<Option<DeliveryState>>, AllocError> {
+    ghost is_infallible = { λ map. carries_any map ≡ false };
+
+    // The copy of a map allocates even if the map is empty, so that this case is handled first.
+    fn clone(&self) -> Result<UnsettledMap<Option<DeliveryState>>, AllocError>
+        ensures copy { IfOk result (λ copy. copy ≡ self.now) }
+        ensures memory { OnErr result (0 < length self.now) }
+    {
+        if self.is_empty() {
+            return Ok(UnsettledMap::new(*self.map.allocator()));
+        }
         Ok(UnsettledMap {
             map: self.map.clone()?,
         })
