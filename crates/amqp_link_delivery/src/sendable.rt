@@ -1,5 +1,6 @@
 //! A message with the fields that its transfers carry (2.7.5, 3.2).
-ghost use Rattle.std.specs.Prelude.{◌≡◌, [], None};
+ghost use Rattle.std.specs.Prelude.{◌≡◌, [], None, IfOk, OnErr};
+ghost use Rattle.amqp_link_delivery.specs.Copies.{IsCopy, CarriesMore};
 
 use amqp_link_types::types::{Message, MessageFormat, Payload};
 use std::alloc::AllocError;
@@ -68,13 +69,15 @@ impl<T> Sendable<T> {
 }
 
 impl<T: Clone + Drop> Clone for Sendable<T> {
-    ghost use Rattle.amqp_link_delivery.specs.Copies.{IsCopy};
-
     ghost is_clone = { IsCopy T.is_clone };
 
-    fn clone(&self) -> Result<Sendable<T>, AllocError> {
-        let preamble = self.message.preamble.clone()?;
-        let footer = self.message.footer.clone()?;
+    // A slice of no bytes does not allocate; the contract of `clone` leaves that open.
+    fn clone(&self) -> Result<Sendable<T>, AllocError>
+        ensures copy { IfOk result (IsCopy T.is_clone self.now) }
+        ensures memory { OnErr result (CarriesMore T.is_infallible self.now) }
+    {
+        let preamble = self.message.preamble.slice(..)?;
+        let footer = self.message.footer.slice(..)?;
         Ok(Sendable {
             message: Message {
                 preamble,
