@@ -19,7 +19,7 @@ use Rattle.amqp_link_values.specs.Data.{uint}
 use Rattle.amqp_link_types.specs.declared.frame.LinkFrame.TheVariants.{Detach}
 use Rattle.amqp_link_types.specs.declared.types.errors.DetachError.TheVariants.{RemoteClosedWithError}
 use Rattle.amqp_link_types.specs.declared.types.definitions.Error.{Error}
-use Rattle.amqp_link_core.specs.AttachFields.{merged_properties}
+use Rattle.amqp_link_core.specs.AttachFields.{merged_properties, merging_allocates}
 use Rattle.amqp_link_core.specs.Detaching.{detach_frame, recorded, reply_error}
 use Rattle.amqp_link_core.specs.Shown.{decided_by_receiver, decided_by_sender}
 use Rattle.amqp_link_types.specs.declared.types.definitions.Role.TheVariants as role
@@ -150,6 +150,13 @@ properties_are_joined = refl
 
 properties_take_the_place_of_none : merged_properties (Some []) (Some ((codes "b", uint 3) ∷ [])) ≡ Some ((codes "b", uint 3) ∷ [])
 properties_take_the_place_of_none = refl
+
+merging_both_allocates : merging_allocates (Some ((codes "a", uint 1) ∷ [])) (Some ((codes "b", uint 3) ∷ [])) ≡ true
+merging_both_allocates = refl
+
+-- an empty map on either side
+merging_one_does_not : (merging_allocates (Some []) (Some ((codes "b", uint 3) ∷ [])) ≡ false) × (merging_allocates (Some ((codes "a", uint 1) ∷ [])) (Some []) ≡ false)
+merging_one_does_not = (refl, refl)
 
 -- ---- what is taken of an attach
 

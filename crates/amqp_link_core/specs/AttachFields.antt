@@ -1,6 +1,6 @@
 -- Fields of an attach: what an endpoint states of its own, and what it takes from the peer's (OASIS AMQP 1.0
 -- core, 2.7.3).
-use Rattle.std.specs.Prelude.{ℕ, Bool, false, List, Option, None, Some, is_none, ◌==◌, min, [], unwrap_or, if◌then◌else◌}
+use Rattle.std.specs.Prelude.{ℕ, Bool, false, List, Option, None, Some, is_none, ◌==◌, ◌&&◌, not, length, min, [], unwrap_or, if◌then◌else◌}
 use Rattle.std.specs.Str.{bytes_eq}
 use Rattle.indexmap.specs.IndexMap.{insert_all}
 use Rattle.amqp_link_state.specs.declared.state.LinkState.{LinkState}
@@ -26,6 +26,14 @@ merged_properties own None = own
 merged_properties None (Some theirs) = Some theirs
 merged_properties (Some []) (Some theirs) = Some theirs
 merged_properties (Some own) (Some theirs) = Some (insert_all bytes_eq own theirs)
+
+-- whether there are properties: an empty map has none, as no map has
+abbrev pub has_fields : Option (List (List ℕ × Data)) → Bool
+has_fields fields = not (length (unwrap_or fields []) == 0)
+
+-- whether merging properties allocates: both endpoints have some, otherwise one of the two maps is taken
+abbrev pub merging_allocates : Option (List (List ℕ × Data)) → Option (List (List ℕ × Data)) → Bool
+merging_allocates own theirs = has_fields own && has_fields theirs
 
 -- whether the attach has a target that is not of the link's kind
 abbrev pub is_foreign : {T : Type 0} → (TargetArchetype → Option T) → Option TargetArchetype → Bool

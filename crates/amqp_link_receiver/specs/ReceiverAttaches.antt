@@ -1,5 +1,5 @@
 -- The attach that a receiver sends, and the one that it takes (OASIS AMQP 1.0 core, 2.6.3 and 2.7.3).
-use Rattle.std.specs.Prelude.{◌≡◌, ℕ, ◌&&◌, ◌||◌, Bool, true, false, [], ◌∷◌, Option, Some, None, is_some, is_none, option_map, unwrap_or, if◌then◌else◌, refl}
+use Rattle.std.specs.Prelude.{◌≡◌, ℕ, ◌||◌, Bool, true, false, [], ◌∷◌, Option, Some, None, is_some, is_none, option_map, unwrap_or, if◌then◌else◌, refl}
 use Rattle.amqp_link_state.specs.declared.state.LinkState.{LinkState}
 use Rattle.amqp_link_state.specs.declared.state.LinkState.TheVariants.{IncompleteAttachSent, IncompleteAttachReceived, IncompleteAttachExchanged}
 use Rattle.amqp_link_types.specs.declared.types.attach.Attach.{Attach}
@@ -10,7 +10,7 @@ use Rattle.amqp_link_types.specs.declared.types.errors.ReceiverAttachError.TheVa
 use Rattle.amqp_link_types.specs.declared.types.terminus.TargetArchetype.{TargetArchetype}
 use Rattle.amqp_link_types.specs.Entries.{Entries}
 use Rattle.amqp_link_types.specs.declared.types.terminus.Source.{Source}
-use Rattle.amqp_link_core.specs.AttachFields.{smaller_limit, merged_properties, is_foreign, next_of}
+use Rattle.amqp_link_core.specs.AttachFields.{smaller_limit, merged_properties, merging_allocates, is_foreign, next_of}
 use Rattle.amqp_link_core.specs.Attaching.{States}
 use Rattle.amqp_link_core.specs.AttachTests.{Tests, refused_if, verified, first_of, first_refusal, left_after, left_after_is}
 use Rattle.amqp_link_core.specs.Targets.{target_of}
@@ -131,11 +131,11 @@ module _ {T : Type 0} where
   abbrev pub receiver_left : (TargetArchetype → Option T) → (T → T → Option ReceiverAttachError) → ReceiverAttachError → Receiver T → Attach → Receiver T
   receiver_left admitted refused error r attach = left_after (is_receiver_out_of_memory error) r (receiver_tests admitted refused r attach)
 
-  -- Whether taking the attach allocates: there are properties of both endpoints to merge, or missing filters
-  -- to list.
+  -- Whether taking the attach allocates: there are missing filters to list, or both endpoints have properties,
+  -- which are merged.
   abbrev pub receiver_taking_allocates : (TargetArchetype → Option T) → (T → T → Option ReceiverAttachError) → Receiver T → Attach → Bool
   receiver_taking_allocates admitted refused r attach =
-      is_refused_by_list (receiver_refusal admitted refused r attach) || (is_some r.flow_state.properties && is_some attach.properties)
+      is_refused_by_list (receiver_refusal admitted refused r attach) || merging_allocates r.flow_state.properties attach.properties
 
   -- ---- what a receiver shows then
 

@@ -16,7 +16,7 @@ use Rattle.amqp_link_types.specs.Entries.{Entries}
 use Rattle.amqp_link_types.specs.declared.types.terminus.Source.{Source}
 use Rattle.amqp_link_types.specs.Deliveries.{Ended}
 use Rattle.amqp_link_types.specs.Unsettled.{states_of}
-use Rattle.amqp_link_core.specs.AttachFields.{smaller_limit, merged_properties, is_foreign, next_of, remote_entries}
+use Rattle.amqp_link_core.specs.AttachFields.{smaller_limit, merged_properties, merging_allocates, is_foreign, next_of, remote_entries}
 use Rattle.amqp_link_core.specs.Attaching.{States}
 use Rattle.amqp_link_core.specs.AttachTests.{Tests, refused_if, verified, first_of, first_refusal, left_after, left_after_is}
 use Rattle.amqp_link_core.specs.declared.resumption.ResumingDelivery.{ResumingDelivery}
@@ -160,11 +160,11 @@ module _ {T : Type 0} where
   abbrev pub sender_left : (TargetArchetype → Option T) → (T → T → Option SenderAttachError) → SenderAttachError → Sender T → Attach → Sender T
   sender_left admitted refused error s attach = left_after (is_sender_out_of_memory error) s (sender_tests admitted refused s attach)
 
-  -- Whether taking the attach allocates: there are unsettled deliveries to exchange, or properties of both
-  -- endpoints to merge.
+  -- Whether taking the attach allocates: there are unsettled deliveries to exchange, or both endpoints have
+  -- properties, which are merged.
   abbrev pub sender_taking_allocates : Sender T → Attach → Bool
   sender_taking_allocates s attach =
-      not (is_nothing s.unsettled (remote_entries attach)) || (is_some s.flow_state.properties && is_some attach.properties)
+      not (is_nothing s.unsettled (remote_entries attach)) || merging_allocates s.flow_state.properties attach.properties
 
   -- ---- what a sender shows then
 

@@ -1,7 +1,7 @@
 //! What an endpoint states in the attach that it sends, and what it takes of one that arrives (2.7.3).
-ghost use Rattle.std.specs.Prelude.{◌≡◌, ◌≢◌, ◌&&◌, ◌||◌, [], true, Some, IfOk, OnErr, is_some};
+ghost use Rattle.std.specs.Prelude.{◌≡◌, ◌||◌, true, IfOk, OnErr, is_some};
 ghost use Rattle.std.specs.Option.{option_map, option_or};
-ghost use Rattle.amqp_link_core.specs.AttachFields.{message_limit, smaller_limit, merged_properties};
+ghost use Rattle.amqp_link_core.specs.AttachFields.{message_limit, smaller_limit, merged_properties, merging_allocates};
 
 use crate::endpoint::target::LinkTarget;
 use amqp_link_types::types::{Fields, Source, TargetArchetype, Text};
@@ -83,14 +83,13 @@ pub fn name_and_properties_of(
 /// peer's put one by one, or the peer's if there are no own ones. None if the own ones stay, since the attach
 /// has none.
 ///
-/// Allocates only if both have properties, and neither map is empty.
+/// Allocates only if neither endpoint's map is absent or empty: otherwise one of the two maps is taken.
 pub fn merged_with(
     own: &Option<Fields>,
     theirs: Option<Fields>,
 ) -> Result<Option<Fields>, AllocError>
     ensures merged { IfOk result (λ changed. option_or changed own.now ≡ merged_properties own.now theirs) }
-    ensures memory { OnErr result ((is_some own.now && is_some theirs) ≡ true) }
-    ensures empty { OnErr result ((own.now ≢ Some []) × (theirs ≢ Some [])) }
+    ensures memory { OnErr result (merging_allocates own.now theirs ≡ true) }
 {
     match (own, theirs) {
         (_, None) => Ok(None),

@@ -138,7 +138,8 @@ impl<T: LinkTarget> LinkAttach for OutcomeLedger<T> {
     /// out.
     ///
     /// Each outcome is copied for its registration, after all tests: `OutOfMemory`, with nothing changed,
-    /// comes only if there are deliveries to exchange or both endpoints have properties.
+    /// comes only if there are deliveries to exchange or both endpoints have properties, none of the two maps
+    /// empty.
     fn on_incoming_attach(
         &mut self,
         attach: Attach,

@@ -420,9 +420,10 @@ impl<T: LinkTarget> LinkAttach for ReceiverLink<T> {
     /// `DynamicNodePropertiesIsSomeWhenDynamicIsFalse` of the source leaves another link than the same error
     /// of the target.
     ///
-    /// `OutOfMemory`, with nothing changed, comes after all of these, or in place of
-    /// `DesiredFilterNotSupported`, whose list of names is allocated. `handle_attach_error` returns what to
-    /// do after a refusal.
+    /// `OutOfMemory`, with nothing changed, comes in place of `DesiredFilterNotSupported`, whose list of names
+    /// is allocated, or after all of these, and then only if both endpoints have properties: if one of the two
+    /// maps is absent or empty, the other is taken without a copy. `handle_attach_error` returns what to do
+    /// after a refusal.
     fn on_incoming_attach(
         &mut self,
         attach: Attach,

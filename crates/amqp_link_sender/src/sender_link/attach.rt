@@ -272,8 +272,9 @@ impl<T: LinkTarget> LinkAttach for SenderLink<T> {
     /// errors of the target's verification, if the link verifies targets and has one. Then the link takes the
     /// target and the receiver's settle mode: `SndSettleModeNotSupported` if one endpoint settles what the
     /// other leaves unsettled. No refusal resolves a delivery. `OutOfMemory` comes after all of these, with
-    /// nothing changed, and only if there are deliveries to exchange or both endpoints have properties.
-    /// `handle_attach_error` returns what to do after a refusal.
+    /// nothing changed, and only if there are deliveries to exchange or both endpoints have properties: two
+    /// empty unsettled maps allocate nothing, and if one of the two maps of properties is absent or empty, the
+    /// other is taken without a copy. `handle_attach_error` returns what to do after a refusal.
     ///
     /// Each entry of the attach's map is looked up once in the link's.
     fn on_incoming_attach(

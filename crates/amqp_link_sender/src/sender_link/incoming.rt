@@ -2,10 +2,10 @@
 //!
 //! It is taken in two halves: a plan, which tests and allocates, and the change itself, which does neither.
 //! A caller that keeps records of outcomes copies them between the two.
-ghost use Rattle.std.specs.Prelude.{◌≡◌, ◌⊎◌, ◌&&◌, ◌||◌, not, true, is_some, None, Some, Ok, Err, IfOk, IfErr, OnOk, OnErr, IsErrOf, IsErrAnd, IfNone, MatchOption, MatchResult, [], unwrap_or, if◌then◌else◌};
+ghost use Rattle.std.specs.Prelude.{◌≡◌, ◌⊎◌, ◌||◌, not, true, None, Some, Ok, Err, IfOk, IfErr, OnOk, OnErr, IsErrOf, IsErrAnd, IfNone, MatchOption, MatchResult, [], unwrap_or, if◌then◌else◌};
 ghost use Rattle.std.specs.Option.{option_or};
 ghost use Rattle.amqp_link_types.specs.declared.types.attach.Attach.{Attach as TheAttach};
-ghost use Rattle.amqp_link_core.specs.AttachFields.{remote_entries, merged_properties, next_of};
+ghost use Rattle.amqp_link_core.specs.AttachFields.{remote_entries, merged_properties, merging_allocates, next_of};
 ghost use Rattle.amqp_link_exchange.specs.Exchanges.{outcomes_returned};
 ghost use Rattle.amqp_link_exchange.specs.Plans.{IsPlanOf};
 ghost use Rattle.amqp_link_sender.specs.SenderAttaches.{disagree as do_disagree, is_nothing, resumption_in, exchange_in};
@@ -349,7 +349,7 @@ impl<T: LinkTarget> SenderLink<T> {
         ensures properties { IfOk result (λ plan. option_or plan.2 self.now.flow_state.properties
             ≡ merged_properties self.now.flow_state.properties properties) }
         ensures memory { OnErr result ((not (is_nothing self.now.unsettled (unwrap_or unsettled []))
-            || (is_some self.now.flow_state.properties && is_some properties)) ≡ true) }
+            || merging_allocates self.now.flow_state.properties properties) ≡ true) }
     {
         let remote = entries_of(self.alloc, unsettled);
         let is_nothing = are_empty(&self.unsettled, &remote);
