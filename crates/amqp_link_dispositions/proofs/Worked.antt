@@ -8,7 +8,7 @@ use Rattle.amqp_link_types.specs.declared.types.definitions.ReceiverSettleMode.T
 use Rattle.amqp_link_types.specs.Deliveries.{Info}
 use Rattle.amqp_link_types.specs.Entries.{Entries}
 use Rattle.amqp_link_dispositions.specs.Listed.{tags_in_order, firsts, kept_in_order}
-use Rattle.amqp_link_dispositions.specs.Ending.{settled_of, ended_of, does_end, all_closed}
+use Rattle.amqp_link_dispositions.specs.Ending.{settled_of, ended_of, does_end, all_closed, detach_allocates}
 use Rattle.amqp_link_dispositions.specs.Groups.{group_out}
 use Rattle.amqp_link_dispositions.specs.DispositionFrames.{settles_at_once, is_settled_by, disposition_of_run, numbers_named_by}
 use Rattle.amqp_link_dispositions.specs.Keeping.{is_settled_one, after_dispositions}
@@ -41,6 +41,16 @@ accepted_ends = refl
 
 closed_without_error : all_closed None two_kept ≡ (1 ∷ [], Err error.RemoteClosed) ∷ (2 ∷ [], Err error.RemoteClosed) ∷ []
 closed_without_error = refl
+
+-- a closing detach without error resolves those two; without deliveries there is nothing to allocate
+closing_two_allocates : detach_allocates (record { handle = record { 0 = 3 }; closed = true; error = None }) two_kept ≡ true
+closing_two_allocates = refl
+
+closing_none_does_not : detach_allocates (record { handle = record { 0 = 3 }; closed = true; error = None }) [] ≡ false
+closing_none_does_not = refl
+
+detaching_two_does_not : detach_allocates (record { handle = record { 0 = 3 }; closed = false; error = None }) two_kept ≡ false
+detaching_two_does_not = refl
 
 group_of_two : group_out (record { run = record { first = 1; last = 2 }; mode = Some Second }) ≡ (1, Some Second) ∷ (2, Some Second) ∷ []
 group_of_two = refl

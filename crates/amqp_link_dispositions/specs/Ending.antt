@@ -1,5 +1,5 @@
 -- The outcomes of deliveries (OASIS AMQP 1.0 core, 2.6.12 and 2.7.7).
-use Rattle.std.specs.Prelude.{Bool, false, ◌||◌, if◌then◌else◌, List, [], ◌∷◌, map, Option, None, Some, option_map, Ok, Err}
+use Rattle.std.specs.Prelude.{Bool, false, ◌==◌, ◌&&◌, ◌||◌, not, if◌then◌else◌, List, [], ◌∷◌, length, map, Option, None, Some, is_some, option_map, Ok, Err}
 use Rattle.std.specs.List.{filter_map}
 use Rattle.std.specs.Option.{option_map_or}
 use Rattle.amqp_link_types.specs.declared.delivery.UnsettledMessage.{UnsettledMessage}
@@ -59,3 +59,8 @@ all_closed why es = map (λ entry. (entry.0, Err (closed_for why))) es
 -- the reply to a detach at an output handle: the same closed flag and error
 abbrev pub reply_of : OutputHandle → Detach → Detach
 reply_of handle detach = record { handle = record { 0 = handle.0 }; closed = detach.closed; error = detach.error }
+
+-- whether taking a detach that the peer initiated allocates: it carries an error, which the reply has too, or it
+-- closes the link while there are deliveries to resolve
+abbrev pub detach_allocates : Detach → Entries UnsettledMessage → Bool
+detach_allocates detach es = is_some detach.error || (detach.closed && not (length es == 0))

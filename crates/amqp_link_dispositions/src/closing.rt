@@ -1,6 +1,6 @@
 //! The outcomes of a sender's deliveries when a detach closes the link, and the reply to a detach (2.6.4
 //! to 2.6.6 and 2.7.7).
-ghost use Rattle.std.specs.Prelude.{◌≡◌, ◌+◌, ◌≤◌, ◌++◌, [], true, is_some, length, vec_len, vec_capacity, All, IfOk, OnOk, OnErr};
+ghost use Rattle.std.specs.Prelude.{◌≡◌, ◌≢◌, ◌+◌, ◌≤◌, ◌++◌, [], true, is_some, length, vec_len, vec_capacity, All, IfOk, OnOk, OnErr};
 ghost use Rattle.amqp_link_dispositions.specs.Ending.{closed_for as why_closed, all_closed as all_closed_for, reply_of};
 
 use amqp_link_types::delivery::{Outcomes, UnsettledMessage};
@@ -73,7 +73,8 @@ fn end_each(
 
 /// Resolves each delivery, in order, since its link is closed, and removes all of them from the map.
 ///
-/// Refused only if it is out of memory, with nothing changed: all allocations are made first.
+/// Refused only if it is out of memory, with nothing changed: all allocations are made first. If there are no
+/// deliveries it does not allocate.
 pub fn all_closed(
     alloc: Global,
     unsettled: &mut UnsettledMap<UnsettledMessage>,
@@ -82,8 +83,12 @@ pub fn all_closed(
     ensures ended { IfOk result (λ outcomes.
         outcomes.items ≡ all_closed_for error.now unsettled.old) }
     ensures emptied { OnOk result (unsettled.new ≡ []) }
+    ensures memory { OnErr result (unsettled.old ≢ []) }
     ensures left { OnErr result (unsettled.new ≡ unsettled.old) }
 {
+    if unsettled.is_empty() {
+        return Ok(Vec::new(alloc));
+    }
     let reasons = reasons_for(alloc, error, unsettled.len())?;
     let mut outcomes = Vec::with_capacity(alloc, unsettled.len())?;
     // From here on nothing can fail.

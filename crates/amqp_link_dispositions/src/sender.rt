@@ -1,5 +1,5 @@
 //! The dispositions that a sender sends and takes, and the outcomes of its deliveries.
-ghost use Rattle.std.specs.Prelude.{◌≡◌, ◌∷◌, [], List, ℕ, false, map, IfOk, OnOk, OnErr};
+ghost use Rattle.std.specs.Prelude.{◌≡◌, ◌≢◌, ◌∷◌, [], List, ℕ, false, map, IfOk, OnOk, OnErr};
 ghost use Rattle.amqp_link_runs.specs.Order.{sorted_by};
 ghost use Rattle.amqp_link_dispositions.specs.Listed.{tags_in_order};
 ghost use Rattle.amqp_link_dispositions.specs.Ending.{ended_of, disposed, ended_by, map_after_receiver_disposition};
@@ -234,7 +234,7 @@ pub fn dispose(
 /// The same of several deliveries, sorted by delivery id; those of one id stay in the order in which they are
 /// listed. The dispositions cover each id as often as it is listed.
 ///
-/// Refused only if it is out of memory, with nothing changed.
+/// Refused only if it is out of memory, with nothing changed. Of an empty list it does not allocate.
 pub fn batch_dispose(
     alloc: Global,
     unsettled: &mut UnsettledMap<UnsettledMessage>,
@@ -249,8 +249,13 @@ pub fn batch_dispose(
         ≡ ended_of settled (tags_in_order listed.now) unsettled.old) }
     ensures after { OnOk result (unsettled.new
         ≡ disposed settled state (tags_in_order listed.now) unsettled.old) }
+    ensures memory { OnErr result (listed.now ≢ []) }
     ensures left { OnErr result (unsettled.new ≡ unsettled.old) }
 {
+    if listed.is_empty() {
+        drop(state);
+        return Ok((Vec::new(alloc), Vec::new(alloc)));
+    }
     let (ids, tags) = match in_order(alloc, listed) {
         Ok(sorted) => sorted,
         Err(refused) => {

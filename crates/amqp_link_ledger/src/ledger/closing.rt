@@ -1,7 +1,7 @@
 //! Detaches that arrive at a ledger, and the outcomes of its deliveries when the link is closed (2.6.6).
-ghost use Rattle.std.specs.Prelude.{◌≡◌, ◌⊎◌, ◌↔◌, ◌&&◌, ◌||◌, [], true, map, None, Err, IfOk, IfErr, IsErrOf, OnOk, OnErr, is_some, if◌then◌else◌};
+ghost use Rattle.std.specs.Prelude.{◌≡◌, ◌≢◌, ◌⊎◌, ◌↔◌, ◌&&◌, [], true, map, None, Err, IfOk, IfErr, IsErrOf, OnOk, OnErr, if◌then◌else◌};
 ghost use Rattle.std.specs.Option.{option_map};
-ghost use Rattle.amqp_link_dispositions.specs.Ending.{closed_for, all_closed, reply_of};
+ghost use Rattle.amqp_link_dispositions.specs.Ending.{closed_for, all_closed, detach_allocates, reply_of};
 ghost use Rattle.amqp_link_ledger.specs.Fates.{Change, after};
 
 use crate::ledger::OutcomeLedger;
@@ -30,15 +30,19 @@ fn closed_outcome(error: &Option<Error>) -> Result<DeliveryOutcome, AllocError>
 }
 
 // The outcomes of these deliveries when the link is closed by a detach with this error: one copy each, in
-// their order.
+// their order. Does not allocate if there are none.
 fn closed_outcomes(
     alloc: Global,
     error: &Option<Error>,
     pairs: Slice<'_, DeliveryTag, UnsettledMessage>,
 ) -> Result<Vec<DeliveryOutcome>, AllocError>
-    ensures { IfOk result (λ copies.
+    ensures copies { IfOk result (λ copies.
         copies.items ≡ map (λ ended. ended.1) (all_closed error.now pairs.entry)) }
+    ensures memory { OnErr result (pairs.entry ≢ []) }
 {
+    if pairs.is_empty() {
+        return Ok(Vec::new(alloc));
+    }
     let mut copies = Vec::with_capacity(alloc, pairs.len())?;
     for _ in pairs {
         copies.push(closed_outcome(error)?)?;
@@ -51,7 +55,8 @@ impl<T: LinkTarget> OutcomeLedger<T> {
     /// `SenderLink::fail_pending_unsettled` does. Its registration is resolved with the outcome that is
     /// returned.
     ///
-    /// Refused only if it is out of memory, with nothing changed.
+    /// Refused only if it is out of memory, with nothing changed; without pending deliveries it does not
+    /// allocate.
     ///
     /// Its cost grows with the number of pending deliveries.
     pub fn fail_pending_unsettled(&mut self, detach: &Detach) -> Result<Outcomes, AllocError>
@@ -60,6 +65,7 @@ impl<T: LinkTarget> OutcomeLedger<T> {
         ensures link { OnOk result (self.new.link ≡ record self.old.link { unsettled = [] }) }
         ensures records { OnOk result (self.new.records
             ≡ after (Change.Resolves (all_closed detach.now.error self.old.link.unsettled)) self.old.records) }
+        ensures memory { OnErr result (self.old.link.unsettled ≢ []) }
         ensures left { OnErr result (self.new ≡ self.old) }
     {
         let pending = self.link.unsettled();
@@ -81,8 +87,8 @@ impl<T: LinkTarget> OutcomeLedger<T> {
     /// resolved as by `fail_pending_unsettled`; otherwise the registrations stay.
     ///
     /// Refused in this order, with nothing changed, and only if the peer initiated the detach:
-    /// `UnattachedHandle` without output handle; `OutOfMemory`, only if the detach closes the link or carries
-    /// an error.
+    /// `UnattachedHandle` without output handle; `OutOfMemory`, only if the detach carries an error, which is
+    /// copied for the reply, or closes the link while deliveries are pending.
     ///
     /// If the peer closes the link by it, its cost grows with the number of pending deliveries.
     pub fn on_incoming_detach(
@@ -104,7 +110,7 @@ impl<T: LinkTarget> OutcomeLedger<T> {
             ↔ ((remote_initiated ≡ true) × (self.old.link.output_handle ≡ None)) }
         ensures memory { IfErr result (λ error. (error ≡ LinkRelayError.UnattachedHandle)
             ⊎ ((error ≡ LinkRelayError.OutOfMemory) × (remote_initiated ≡ true)
-            × ((detach.now.closed || is_some detach.now.error) ≡ true))) }
+            × (detach_allocates detach.now self.old.link.unsettled ≡ true))) }
         ensures left { OnErr result (self.new ≡ self.old) }
     {
         if !is_closing(remote_initiated, detach.closed) {

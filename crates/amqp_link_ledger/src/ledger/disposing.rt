@@ -1,5 +1,5 @@
 //! Dispositions that a ledger sends (2.6.12, 2.7.6).
-ghost use Rattle.std.specs.Prelude.{◌≡◌, ◌∷◌, [], false, map, IfOk, OnOk, OnErr};
+ghost use Rattle.std.specs.Prelude.{◌≡◌, ◌≢◌, ◌∷◌, [], false, map, IfOk, OnOk, OnErr};
 ghost use Rattle.std.specs.List.{filter_map};
 ghost use Rattle.std.specs.Option.{option_map, option_to_list};
 ghost use Rattle.amqp_link_types.specs.declared.delivery.UnsettledMessage.{UnsettledMessage as Message};
@@ -77,7 +77,8 @@ impl<T: LinkTarget> OutcomeLedger<T> {
     /// with the outcomes that are returned. In mode `Settled` there is no disposition, and nothing is
     /// resolved.
     ///
-    /// Refused only if it is out of memory, with nothing changed; in mode `Settled` it does not allocate.
+    /// Refused only if it is out of memory, with nothing changed; in mode `Settled`, and of an empty list, it
+    /// does not allocate.
     ///
     /// Its cost grows with the number of the listed deliveries, whose ids are sorted. One that is settled is
     /// looked up in the unsettled map twice: once for the copy of its outcome, and once to remove it.
@@ -96,7 +97,8 @@ impl<T: LinkTarget> OutcomeLedger<T> {
             (self.new.link ≡ after_disposing self.old.link settled state (tags_in_order ids_and_tags.now)) }
         ensures records { OnOk result (self.new.records ≡ after (Change.Resolves
             (ended_at self.old.link settled (tags_in_order ids_and_tags.now))) self.old.records) }
-        ensures memory { OnErr result (settles self.old.link.snd_settle_mode ≡ false) }
+        ensures memory { OnErr result ((settles self.old.link.snd_settle_mode ≡ false)
+            × (ids_and_tags.now ≢ [])) }
         ensures left { OnErr result (self.new ≡ self.old) }
     {
         let copies = match self.copies_of_settled(settled, ids_and_tags) {
@@ -130,7 +132,7 @@ impl<T: LinkTarget> OutcomeLedger<T> {
     ) -> Result<Vec<Option<DeliveryOutcome>>, AllocError>
         ensures copies { IfOk result (λ copies.
             copies.items ≡ copies_at self.now.link settled listed.now) }
-        ensures memory { OnErr result (settles self.now.link.snd_settle_mode ≡ false) }
+        ensures memory { OnErr result ((settles self.now.link.snd_settle_mode ≡ false) × (listed.now ≢ [])) }
     {
         if self.sends_settled() || !settled {
             return Ok(Vec::new(self.alloc));
@@ -176,15 +178,19 @@ fn copy_of_settled_in(
     }
 }
 
-// The same of each listed delivery, in the order of the list.
+// The same of each listed delivery, in the order of the list. Does not allocate if none is listed.
 fn settled_copies(
     alloc: Global,
     unsettled: &UnsettledMap<UnsettledMessage>,
     listed: &[(DeliveryNumber, DeliveryTag)],
 ) -> Result<Vec<Option<DeliveryOutcome>>, AllocError>
-    ensures { IfOk result (λ copies.
+    ensures copies { IfOk result (λ copies.
         copies.items ≡ map (λ pair. settled_outcome unsettled.now pair.1) listed.now) }
+    ensures memory { OnErr result (listed.now ≢ []) }
 {
+    if listed.is_empty() {
+        return Ok(Vec::new(alloc));
+    }
     let mut copies = Vec::with_capacity(alloc, listed.len())?;
     for (_, tag) in listed {
         copies.push(copy_of_settled_in(unsettled, tag)?)?;

@@ -1,9 +1,9 @@
 //! Dispositions that a sender sends and takes (2.6.12, 2.7.6), and the outcomes of its deliveries when the
 //! link is closed (2.6.6).
-ghost use Rattle.std.specs.Prelude.{◌≡◌, ◌∷◌, ◌&&◌, ◌||◌, ◌↔◌, ◌⊎◌, [], map, true, false, None, is_some};
+ghost use Rattle.std.specs.Prelude.{◌≡◌, ◌≢◌, ◌∷◌, ◌&&◌, ◌↔◌, ◌⊎◌, [], map, true, false, None};
 ghost use Rattle.std.specs.Prelude.{IfOk, IfErr, IfSome, IsSome, IsErrOf, OnOk, OnErr, if◌then◌else◌};
 ghost use Rattle.std.specs.Option.{option_map};
-ghost use Rattle.amqp_link_dispositions.specs.Ending.{all_closed as all_closed_for, ended_by, reply_of, map_after_receiver_disposition};
+ghost use Rattle.amqp_link_dispositions.specs.Ending.{all_closed as all_closed_for, detach_allocates, ended_by, reply_of, map_after_receiver_disposition};
 ghost use Rattle.amqp_link_dispositions.specs.Listed.{tags_in_order};
 ghost use Rattle.amqp_link_sender.specs.Senders.{settles};
 ghost use Rattle.amqp_link_sender.specs.SenderDisposes.{Dispositions, ended_at, after_disposing, is_echoed};
@@ -64,7 +64,8 @@ impl<T: LinkTarget> SenderLink<T> {
     /// are listed. The outcomes have this order. The dispositions cover all ids, each as often as it is
     /// listed, in the longest runs; a run of one id has no `last`.
     ///
-    /// Refused only if it is out of memory, with nothing changed; in mode `Settled` it does not allocate.
+    /// Refused only if it is out of memory, with nothing changed; in mode `Settled`, and of an empty list, it
+    /// does not allocate.
     ///
     /// Its cost grows with the number of the listed deliveries, whose ids are sorted.
     pub fn batch_dispose(
@@ -80,7 +81,7 @@ impl<T: LinkTarget> SenderLink<T> {
             answer.1.items ≡ ended_at self.old settled (tags_in_order ids_and_tags.now)) }
         ensures after { OnOk result
             (self.new ≡ after_disposing self.old settled state (tags_in_order ids_and_tags.now)) }
-        ensures memory { OnErr result (settles self.old.snd_settle_mode ≡ false) }
+        ensures memory { OnErr result ((settles self.old.snd_settle_mode ≡ false) × (ids_and_tags.now ≢ [])) }
         ensures left { OnErr result (self.new ≡ self.old) }
     {
         if let Some(nothing) = self.skip_dispositions() {
@@ -142,13 +143,15 @@ impl<T: LinkTarget> SenderLink<T> {
     /// with `RemoteClosedWithError` if the detach carries an error, otherwise with `RemoteClosed`. The map is
     /// empty afterwards.
     ///
-    /// Refused only if it is out of memory, with nothing changed.
+    /// Refused only if it is out of memory, with nothing changed; without pending deliveries it does not
+    /// allocate.
     ///
     /// Its cost grows with the number of pending deliveries.
     pub fn fail_pending_unsettled(&mut self, detach: &Detach) -> Result<Outcomes, AllocError>
         ensures ended { IfOk result (λ outcomes.
             outcomes.items ≡ all_closed_for detach.now.error self.old.unsettled) }
         ensures after { OnOk result (self.new ≡ record self.old { unsettled = [] }) }
+        ensures memory { OnErr result (self.old.unsettled ≢ []) }
         ensures left { OnErr result (self.new ≡ self.old) }
     {
         all_closed(self.alloc, &mut self.unsettled, &detach.error)
@@ -162,8 +165,8 @@ impl<T: LinkTarget> SenderLink<T> {
     /// The state stays as it is: `apply_remote_detach_outcome`, or `on_detach_reply`, moves it.
     ///
     /// Refused in this order, with nothing changed, and only if the peer initiated the detach:
-    /// `UnattachedHandle` without output handle; `OutOfMemory`, only if the detach closes the link or carries
-    /// an error.
+    /// `UnattachedHandle` without output handle; `OutOfMemory`, only if the detach carries an error, which is
+    /// copied for the reply, or closes the link while deliveries are pending.
     ///
     /// If the peer closes the link by it, its cost grows with the number of pending deliveries.
     pub fn on_incoming_detach(
@@ -182,7 +185,7 @@ impl<T: LinkTarget> SenderLink<T> {
             ↔ ((remote_initiated ≡ true) × (self.old.output_handle ≡ None)) }
         ensures memory { IfErr result (λ error. (error ≡ LinkRelayError.UnattachedHandle)
             ⊎ ((error ≡ LinkRelayError.OutOfMemory) × (remote_initiated ≡ true)
-            × ((detach.now.closed || is_some detach.now.error) ≡ true))) }
+            × (detach_allocates detach.now self.old.unsettled ≡ true))) }
         ensures left { OnErr result (self.new ≡ self.old) }
     {
         if !remote_initiated {
