@@ -4,7 +4,7 @@
 //! results of the endpoint's call (`on_incoming_disposition` may be out of memory besides); one that changes the
 //! map changes the registrations with it. What the registrations need is allocated before the endpoint is
 //! called: a refused call makes no registration and resolves none.
-ghost use Rattle.std.specs.Prelude.{◌≡◌, map, slice_get, IfOk, IfErr};
+ghost use Rattle.std.specs.Prelude.{◌≡◌, ◌≢◌, [], map, slice_get, IfOk, IfErr, OnErr};
 ghost use Rattle.std.specs.Option.{option_map, option_copied};
 ghost use Rattle.amqp_link_types.specs.Entries.{Entries, IsMap};
 ghost use Rattle.amqp_link_sender.specs.Senders.{is_pending};
@@ -63,7 +63,7 @@ impl<T: LinkTarget> Model for OutcomeLedger<T> {
     ghost invariant = { λ ledger. IsRecorded ledger.link.unsettled ledger.registrations.records };
 }
 
-// Registers each of these tags, which are distinct, in their order.
+// Registers each of these tags, which are distinct, in their order. Does not allocate if there are none.
 fn registrations_of<V>(
     alloc: Global,
     pairs: Slice<'_, DeliveryTag, V>,
@@ -71,6 +71,7 @@ fn registrations_of<V>(
     requires { IsMap pairs }
     ensures records { IfOk result (λ all. all.records ≡ map (λ entry. (entry.0, Pending)) pairs.entry) }
     ensures recorded { IfOk result (λ all. IsRecorded pairs.entry all.records) }
+    ensures memory { OnErr result (pairs.entry ≢ []) }
 {
     let mut all = Registrations::new(alloc);
     for (tag, _) in pairs {
@@ -90,11 +91,13 @@ impl<T: LinkTarget> OutcomeLedger<T> {
     /// A ledger of this endpoint. Each delivery in its unsettled map is registered as pending, in the order
     /// of the map.
     ///
-    /// Refused only if it is out of memory, which returns the endpoint.
+    /// Refused only if it is out of memory, which returns the endpoint. Of an endpoint without unsettled
+    /// deliveries it does not allocate.
     pub fn new(alloc: Global, link: SenderLink<T>) -> Result<OutcomeLedger<T>, SenderLink<T>>
         ensures link { IfOk result (λ ledger. ledger.link ≡ link) }
         ensures records { IfOk result (λ ledger.
             ledger.records ≡ map (λ entry. (entry.0, Pending)) link.unsettled) }
+        ensures memory { OnErr result (link.unsettled ≢ []) }
         ensures back { IfErr result (λ back. back ≡ link) }
     {
         let _distinct = link.unsettled().len();

@@ -1,7 +1,8 @@
 //! Flows, transfers and dispositions that arrive at a ledger (2.6.7, 2.6.12, 2.7.6).
-ghost use Rattle.std.specs.Prelude.{◌≡◌, ◌+◌, ◌%◌, ◌^◌, Ok, Err, Some, IfOk, OnOk, OnErr, IsSome, MatchOption, is_some, true};
+ghost use Rattle.std.specs.Prelude.{◌≡◌, ◌+◌, ◌%◌, ◌^◌, Ok, Err, Some, IfOk, OnOk, OnErr, IsSome, MatchOption, true};
 ghost use Rattle.std.specs.Option.{option_map, option_to_list};
 ghost use Rattle.amqp_link_state.specs.Counts.{count_limit, credit_after, sender_after, sender_reply};
+ghost use Rattle.amqp_link_core.specs.Resuming.{does_carry};
 ghost use Rattle.amqp_link_dispositions.specs.Ending.{ended_by, map_after_receiver_disposition};
 ghost use Rattle.amqp_link_sender.specs.SenderDisposes.{is_echoed};
 ghost use Rattle.amqp_link_ledger.specs.Fates.{Change, after};
@@ -16,7 +17,6 @@ use amqp_link_types::types::{
     DeliveryNumber, DeliveryState, DeliveryTag, DispositionError, LinkFlow, LinkRelayError,
     Payload, Transfer, has_ended,
 };
-use amqp_link_values::copy::copy_of;
 use std::alloc::AllocError;
 
 // Resolves the pending registration of a tag, if there is an outcome.
@@ -69,8 +69,9 @@ impl<T: LinkTarget> OutcomeLedger<T> {
     /// resolves the delivery, its registration is resolved with the same outcome. If `echo` is set, the caller
     /// answers by this ledger's `dispose`.
     ///
-    /// Refused with `OutOfMemory`, and nothing changed, only if it resolves a pending delivery with a state,
-    /// which is copied.
+    /// Refused with `OutOfMemory`, and nothing changed, only if it resolves a pending delivery with a state that
+    /// carries an error or annotations, which are copied. With `Accepted`, `Released` or no state it does not
+    /// allocate.
     pub fn on_incoming_disposition(
         &mut self,
         settled: bool,
@@ -85,7 +86,7 @@ impl<T: LinkTarget> OutcomeLedger<T> {
         }) }
         ensures records { OnOk result (self.new.records ≡ after (Change.Resolves
             (option_to_list (ended_by settled state delivery_tag.now self.old.link.unsettled))) self.old.records) }
-        ensures memory { OnErr result ((is_some state ≡ true)
+        ensures memory { OnErr result ((does_carry state ≡ true)
             × IsSome (ended_by settled state delivery_tag.now self.old.link.unsettled)) }
         ensures left { OnErr result (self.new ≡ self.old) }
     {
@@ -112,12 +113,23 @@ impl<T: LinkTarget> OutcomeLedger<T> {
     ) -> Result<Option<DeliveryOutcome>, AllocError>
         ensures copy { IfOk result (λ copy. option_map (λ outcome. (tag.now, outcome)) copy
             ≡ ended_by settled state.now tag.now self.now.link.unsettled) }
-        ensures memory { OnErr result ((is_some state.now ≡ true)
+        ensures memory { OnErr result ((does_carry state.now ≡ true)
             × IsSome (ended_by settled state.now tag.now self.now.link.unsettled)) }
     {
         if (!settled && !has_ended(state)) || !self.is_pending(tag) {
             return Ok(None);
         }
-        Ok(Some(Ok(copy_of(state)?)))
+        Ok(Some(Ok(copy_of_state(state)?)))
+    }
+}
+
+// A copy of a state, if there is one.
+fn copy_of_state(state: &Option<DeliveryState>) -> Result<Option<DeliveryState>, AllocError>
+    ensures copy { IfOk result (λ copy. copy ≡ state.now) }
+    ensures memory { OnErr result (does_carry state.now ≡ true) }
+{
+    match state {
+        Some(state) => Ok(Some(state.clone()?)),
+        None => Ok(None),
     }
 }
