@@ -18,13 +18,13 @@ use Rattle.amqp_link_sender.specs.Senders.{Sender, new_entry}
 use Rattle.amqp_link_receiver.specs.Receivers.{Receiver}
 use Rattle.amqp_link_ledger.specs.Fates.{HandsOut, Resolves, after}
 use Rattle.amqp_link_ledger.specs.declared.fate.Fate.TheVariants.{Pending, HandedOut, Resolved}
-use Rattle.amqp_link_worlds.specs.PairRuns.{Moment, last_sent}
+use Rattle.amqp_link_worlds.specs.PairRuns.{Moment, last_payload, last_sent}
 use Rattle.amqp_link_worlds.specs.declared.event.AnswerOf.TheVariants as answer
 use Rattle.amqp_link_worlds.specs.declared.event.Event.TheVariants as event
 use Rattle.amqp_link_worlds.specs.Resumptions.{entry_of, rest_of, resumes}
 use Rattle.amqp_link_worlds.specs.Steps.{delivery_transfer, initial_progress, received, new_sender, new_receiver, new_world, attaches_fit, is_halfway_at_other, attach_tests, grant_tests, send_tests, arrive_tests, cut_tests, next_tests, settle_tests}
 use Rattle.amqp_link_worlds.specs.Wires.{OnWire, under, frames_of, payload_of_all}
-use Rattle.amqp_link_worlds.specs.Worlds.{World, Apart, Halfway, Together, IsGood, is_out, bytes_in, receiver_entry}
+use Rattle.amqp_link_worlds.specs.Worlds.{World, Apart, Halfway, Together, IsGood, is_out, bytes_in, receiver_entry, registered_payload}
 use Rattle.amqp_link_worlds.specs.declared.error.PairError.TheVariants as error
 use Rattle.amqp_link_worlds.specs.declared.progress.Progress.{Progress}
 
@@ -187,7 +187,21 @@ listed_refusals = (refl, refl)
 halfway_values : (is_halfway_at_other 40 (Halfway 30) ≡ true) × (is_halfway_at_other 30 (Halfway 30) ≡ false) × (is_halfway_at_other 40 Apart ≡ false)
 halfway_values = (refl, refl, refl)
 
--- ---- what the last send of a tag gave
+-- ---- what is registered with a tag, and what its last send gave
+
+-- a delivery with this payload in the sender's map
+abbrev pending : List ℕ → World
+pending payload =
+    let w = new_world 0 in let ledger = w.ledger in let link = ledger.link in
+    record w { ledger = record ledger { link = record link { unsettled = (tag, entry payload) ∷ [] } } }
+
+-- one in the list to resume, of which the last byte is to be sent
+abbrev handed_out : World
+handed_out = let w = new_world 0 in record w { resuming = (tag, Resume (entry (8 ∷ 9 ∷ [])) (9 ∷ [])) ∷ [] }
+
+registered_values : (registered_payload (pending (1 ∷ 2 ∷ [])) tag ≡ Some (1 ∷ 2 ∷ [])) × (registered_payload handed_out tag ≡ Some (8 ∷ 9 ∷ []))
+    × (registered_payload handed_out other ≡ None)
+registered_values = (refl, refl, refl)
 
 module _ {B : Type 0} (decoded : List ℕ → Result (Message B) DecodeError) where
   abbrev sends : List ℕ → Moment decoded
@@ -201,3 +215,8 @@ module _ {B : Type 0} (decoded : List ℕ → Result (Message B) DecodeError) wh
 
   sent_again : last_sent decoded tag (sends (1 ∷ 2 ∷ []) ∷ cuts ∷ sends (3 ∷ []) ∷ []) ≡ Some (3 ∷ [])
   sent_again = refl
+
+  -- sent before these steps, or in them
+  last_values : (last_payload decoded (pending (1 ∷ 2 ∷ [])) (cuts ∷ []) tag ≡ Some (1 ∷ 2 ∷ []))
+      × (last_payload decoded (pending (1 ∷ 2 ∷ [])) (cuts ∷ sends (3 ∷ []) ∷ []) tag ≡ Some (3 ∷ [])) × (last_payload decoded (pending (1 ∷ 2 ∷ [])) [] other ≡ None)
+  last_values = (refl, refl, refl)

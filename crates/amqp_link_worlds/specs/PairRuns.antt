@@ -1,5 +1,5 @@
 -- Whole runs of a pair: events, their answers, and the worlds between.
-use Rattle.std.specs.Prelude.{◌≡◌, ◌⊎◌, ◌<◌, ℕ, Bool, true, false, not, map, take, length, ◌&&◌, ◌||◌, List, [], ◌∷◌, ◌++◌, flat_map, Option, None, Some, IfSome, Result, Ok, Err, if◌then◌else◌}
+use Rattle.std.specs.Prelude.{◌≡◌, ◌⊎◌, ◌<◌, ℕ, Bool, true, false, not, map, take, length, ◌&&◌, ◌||◌, List, [], ◌∷◌, ◌++◌, flat_map, Option, None, Some, IsSomeAnd, Result, Ok, Err, if◌then◌else◌}
 use Rattle.std.specs.List.{list_any}
 use Rattle.std.specs.Option.{option_or}
 use Rattle.std.specs.Str.{bytes_eq}
@@ -12,7 +12,7 @@ use Rattle.amqp_link_ledger.specs.Fates.{MovesOnce, fates_of, latest}
 use Rattle.amqp_link_worlds.specs.Before.{before_measuring, before_decoding}
 use Rattle.amqp_link_worlds.specs.Steps.{PairTests, Attaches, StaysOrStops, Grants, Sends, Arrives, Cuts, Resumes, PutsBack, HandsOutDelivery, Settles, IsUndecoded, has_flag, attach_tests, grant_tests, send_tests, arrive_tests, cut_tests, next_tests, hand_out_tests, settle_tests}
 use Rattle.amqp_link_worlds.specs.Wires.{OnWire}
-use Rattle.amqp_link_worlds.specs.Worlds.{World, IsOpen, bytes_in, held_at}
+use Rattle.amqp_link_worlds.specs.Worlds.{World, IsFront, IsOpen, bytes_in, held_at, registered_payload}
 use Rattle.amqp_link_worlds.specs.declared.event.AnswerOf.{AnswerOf}
 use Rattle.amqp_link_worlds.specs.declared.event.AnswerOf.TheVariants as answer
 use Rattle.amqp_link_worlds.specs.declared.event.Event.{Event}
@@ -166,10 +166,18 @@ module _ {B : Type 0} where
     last_sent tag [] = None
     last_sent tag (m ∷ moments) = option_or (last_sent tag moments) (payload_sent tag m)
 
-    -- of each delivery whose last transfer has arrived the receiver holds exactly what was sent
-    abbrev pub HoldsWhatWasSent : List Moment → World → Type 0
-    HoldsWhatWasSent moments new = (tag : Tag) → has_flag (λ p. p.whole) new tag ≡ true
-        → IfSome (last_sent tag moments) (λ payload. bytes_in (held_at new tag) ≡ payload)
+    -- The payload of the last delivery with this tag: what the last send of the tag in these steps gives; if none
+    -- of them sends it, what was registered before.
+    abbrev pub last_payload : World → List Moment → Tag → Option (List ℕ)
+    last_payload old moments tag = option_or (last_sent tag moments) (registered_payload old tag)
+
+    -- Each delivery whose latest registration is pending or handed out is registered with the payload of the last
+    -- delivery with its tag, and the receiver holds a front of that. Of a delivery whose last transfer has arrived
+    -- it holds all of it.
+    pub record HoldsWhatWasSent (old : World) (moments : List Moment) (new : World) : Type 0 where
+      pub payload : (tag : Tag) → IsOpen (latest (fates_of tag new.ledger.records)) → registered_payload new tag ≡ last_payload old moments tag
+      pub front : (tag : Tag) → IsOpen (latest (fates_of tag new.ledger.records)) → IsSomeAnd (last_payload old moments tag) (IsFront (bytes_in (held_at new tag)))
+      pub whole : (tag : Tag) → has_flag (λ p. p.whole) new tag ≡ true → Some (bytes_in (held_at new tag)) ≡ last_payload old moments tag
 
     -- ---- what arrived
 

@@ -1,6 +1,6 @@
 -- The world of a pair: both link endpoints, what has arrived of each delivery, what is to be resumed, and
 -- the wire from the sender to the receiver (OASIS AMQP 1.0 core, 2.6.12, 2.6.13 and 2.7.5).
-use Rattle.std.specs.Prelude.{◌≡◌, ℕ, Bool, true, false, not, ◌&&◌, List, [], ◌∷◌, ◌++◌, length, drop, Option, Some, None, option_and_then, IfSome, IsSomeAnd}
+use Rattle.std.specs.Prelude.{◌≡◌, ℕ, Bool, true, false, not, ◌&&◌, List, [], ◌∷◌, ◌++◌, length, drop, Option, Some, None, option_and_then, option_map, IfSome, IsSomeAnd}
 use Rattle.std.specs.Option.{option_or, option_map_or}
 use Rattle.amqp_link_payloads.specs.Position.{position}
 use Rattle.amqp_link_types.specs.Entries.{Tag, Entries, entry_at}
@@ -142,6 +142,10 @@ IsGoodIn together s = IsSomeAnd (entry_in s) (λ entry. IsSomeAnd s.progress (λ
 -- each delivery whose latest registration is pending or handed out is good
 abbrev pub Good : World → Type 0
 Good w = (tag : Tag) → IsOpen (latest (fates_of tag w.ledger.records)) → IsGoodIn (is_together w.phase) (standing w tag)
+
+-- the payload of a tag's entry at the sender
+abbrev pub registered_payload : World → Tag → Option (List ℕ)
+registered_payload w tag = option_map (λ entry. entry.payload) (entry_in (standing w tag))
 
 -- if a tag's latest registration is pending or handed out, the entry at the sender has this payload
 abbrev pub IsRegistered : World → Tag → List ℕ → Type 0

@@ -159,7 +159,8 @@ pub fn no_payload_changes<B>()
 
 /// A whole delivery is what was sent: a send registers its payload (`sent`), every other step keeps what is registered
 /// (`stays`), and of a delivery whose last transfer has arrived the receiver holds the registered payload (`whole`). So
-/// over a run the receiver holds of each such delivery exactly what the last send of its tag gave (`run`).
+/// after a run each delivery is registered with what the last send of its tag in the run gave, otherwise with what was
+/// registered before; the receiver holds a front of that, and all of it once its last transfer has arrived (`run`).
 pub fn held_is_what_was_sent<B>()
     ensures sent { (old new : World) (payload tag : List ℕ) (count : ℕ) → Sends old payload tag count new
         → IsRegistered new tag payload }
@@ -170,7 +171,7 @@ pub fn held_is_what_was_sent<B>()
         → has_flag (λ p. p.whole) w tag ≡ true → bytes_in (held_at w tag) ≡ payload }
     ensures run { (decoded : List ℕ → Result (TheMessage B) DecodeError) (old new : World)
         (moments : List (Moment decoded)) → IsWorld old → IsRun decoded old moments new
-        → HoldsWhatWasSent decoded moments new }
+        → HoldsWhatWasSent decoded old moments new }
 {}
 
 /// After a run the receiver holds of each delivery exactly the bytes that arrived.

@@ -23,11 +23,13 @@ impl Pair {
     /// without an answer.
     ///
     /// After any list of sends, grants, arrivals, cuts and new attachments, for each delivery whose latest
-    /// registration is pending or handed out: the receiver holds exactly the bytes that arrived over all
-    /// attachments (`arrived`); they are a front of its payload, the position that the receiver reports gives
-    /// the sender exactly the rest, and the last transfer completes the payload (all three `good`): once it has
-    /// arrived, the receiver holds exactly what was sent (`sent`). And each registration is pending, withdrawn,
-    /// handed out, or resolved once (`fates`, and `made` for those that the run itself makes).
+    /// registration is pending or handed out: its payload is what the last send of its tag in the list gives,
+    /// otherwise the one with which it was registered before (`sent`); the receiver holds exactly the bytes
+    /// that arrived over all attachments (`arrived`), which are a front of that payload (`sent`); the position
+    /// that the receiver reports gives the sender exactly the rest, and the last transfer completes the
+    /// payload (both `good`): once it has arrived, the receiver holds exactly what was sent (`sent`). And each
+    /// registration is pending, withdrawn, handed out, or resolved once (`fates`, and `made` for those that the
+    /// run itself makes).
     ///
     /// Its cost is that of the single calls.
     pub fn run(&mut self, events: &[Event]) -> (Vec<Result<Answer, PairError>>, bool)
@@ -35,7 +37,7 @@ impl Pair {
         ensures arrived { (run : RunsEvents whole_message self.old events.now result.0.items result.1 self.new)
             → HoldsWhatArrived whole_message self.old run.moments self.new }
         ensures sent { (run : RunsEvents whole_message self.old events.now result.0.items result.1 self.new)
-            → HoldsWhatWasSent whole_message run.moments self.new }
+            → HoldsWhatWasSent whole_message self.old run.moments self.new }
         ensures fates { MovesOnce self.old.ledger.records self.new.ledger.records }
         ensures made { (run : RunsEvents whole_message self.old events.now result.0.items result.1 self.new)
             → FatesMoveOnce whole_message run.moments self.new }
