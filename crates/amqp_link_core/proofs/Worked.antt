@@ -1,15 +1,16 @@
 -- Values of the definitions that were worked out by hand: docs/DEFINITIONS.md lists them.
-use Rattle.std.proofs.Common.{◌≡◌, ℕ, true, false, List, [], ◌∷◌, refl, Some, None, Ok, Err, nat_eq}
+use Rattle.std.proofs.Common.{◌≡◌, ℕ, Bool, true, false, List, [], ◌∷◌, refl, Option, Some, None, Ok, Err, nat_eq}
 use Rattle.amqp_link_payloads.specs.Header.{header_len}
 use Rattle.amqp_link_payloads.specs.Position.{starts}
 use Rattle.amqp_link_types.specs.Refusals.{refusal}
+use Rattle.amqp_link_types.specs.declared.types.errors.ReceiverTransferError.{ReceiverTransferError}
 use Rattle.amqp_link_types.specs.declared.delivery.UnsettledMessage.{UnsettledMessage}
 use Rattle.amqp_link_types.specs.declared.types.delivery_state.DeliveryState.TheVariants.{Accepted, Received}
 use Rattle.amqp_link_types.specs.declared.types.errors.ReceiverTransferError.TheVariants.{DeliveryIdIsNone, DeliveryTagIsNone, InconsistentFieldInMultiFrameDelivery}
 use Rattle.amqp_link_types.specs.declared.types.transfer.Transfer.{Transfer}
 use Rattle.amqp_link_core.specs.Held.{Held, held_bytes}
 use Rattle.amqp_link_payloads.specs.Sections.{is_too_long}
-use Rattle.amqp_link_core.specs.IncompleteRefusals.{differs, is_inconsistent, is_of_another, start_tests, resume_tests}
+use Rattle.amqp_link_core.specs.IncompleteRefusals.{differs, is_inconsistent, is_of_another, start_tests, resume_tests, add_tests}
 use Rattle.amqp_link_core.specs.Merging.{present, settled_by, state_by}
 use Rattle.amqp_link_core.specs.Resuming.{is_beyond, rest_from, resolution}
 use Rattle.amqp_link_core.specs.declared.resumption.Resolution.TheVariants.{Resuming, Outcome}
@@ -89,6 +90,16 @@ of_another_format : refusal (resume_tests (record three_bytes { performative = r
     (record bare { delivery_id = Some 8; delivery_tag = Some (1 ∷ []); message_format = Some 1 }) []) ≡ Some InconsistentFieldInMultiFrameDelivery
 unfolding starts header_len
 of_another_format = refl
+
+-- of a delivery of id 7, a further transfer of id 8, by whether it begins a delivery in this attachment
+abbrev further_test : Bool → Option ReceiverTransferError
+further_test begins =
+    refusal (add_tests begins (record three_bytes { performative = record bare { delivery_id = Some 7 } })
+    (record bare { delivery_id = Some 8; delivery_tag = Some (1 ∷ []) }) [])
+
+further_of_another_id : (further_test false ≡ Some InconsistentFieldInMultiFrameDelivery) × (further_test true ≡ None)
+unfolding starts header_len
+further_of_another_id = (refl, refl)
 
 abbrev eight : List ℕ
 eight = 0x00 ∷ 0x53 ∷ 0x70 ∷ 0xC0 ∷ 0x00 ∷ 0x53 ∷ 0x77 ∷ 0x41 ∷ []

@@ -1,5 +1,5 @@
 -- Why a transfer of a delivery is refused (OASIS AMQP 1.0 core, 2.7.5).
-use Rattle.std.specs.Prelude.{ℕ, Bool, false, not, ◌||◌, List, [], ◌∷◌, ◌++◌, nat_eq, Option, Some, is_none}
+use Rattle.std.specs.Prelude.{ℕ, Bool, true, false, not, ◌||◌, List, [], ◌∷◌, ◌++◌, nat_eq, Option, Some, is_none}
 use Rattle.std.specs.Str.{bytes_eq}
 use Rattle.amqp_link_types.specs.declared.types.transfer.Transfer.{Transfer}
 use Rattle.amqp_link_types.specs.declared.types.errors.ReceiverTransferError.{ReceiverTransferError}
@@ -53,3 +53,8 @@ resume_tests held t payload =
     ∷ (is_none t.delivery_tag, DeliveryTagIsNone)
     ∷ (is_of_another held.performative t, InconsistentFieldInMultiFrameDelivery)
     ∷ long_test (held_bytes held ++ payload)
+
+-- the tests of any further transfer, by whether it begins a delivery in this attachment
+abbrev pub add_tests : Bool → Held → Transfer → List ℕ → List Test
+add_tests true held t payload = resume_tests held t payload
+add_tests false held t payload = append_tests held t payload

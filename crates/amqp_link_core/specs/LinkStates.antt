@@ -1,5 +1,5 @@
 -- The table of link states (OASIS AMQP 1.0 core, 2.6.3 to 2.6.6).
-use Rattle.std.specs.Prelude.{Bool, true, false, Option, Some, None}
+use Rattle.std.specs.Prelude.{Bool, true, false, Option, Some, None, unwrap_or}
 use Rattle.amqp_link_state.specs.declared.state.LinkState.{LinkState}
 use Rattle.amqp_link_state.specs.declared.state.LinkState.TheVariants.{Unattached, AttachSent, IncompleteAttachSent, AttachReceived, IncompleteAttachReceived, Attached, IncompleteAttachExchanged, DetachSent, Detached, CloseSent, Closed}
 
@@ -54,3 +54,8 @@ next_state RemoteDetach true IncompleteAttachExchanged = Some Closed
 next_state RemoteDetach true DetachSent = Some Closed
 next_state RemoteDetach true CloseSent = Some Closed
 next_state _ _ _ = None
+
+-- The state after the session is lost: that after a detach of the peer's which does not close the link. A link
+-- that is unattached, detached or closed stays in its state.
+abbrev pub state_without_session : LinkState → LinkState
+state_without_session state = unwrap_or (next_state RemoteDetach false state) state

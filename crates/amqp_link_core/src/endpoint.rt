@@ -20,7 +20,7 @@ ghost use Rattle.amqp_link_types.specs.declared.types.terminus.TargetArchetype.{
 ghost use Rattle.amqp_link_core.specs.AttachFields.{message_limit, next_of, remote_entries};
 ghost use Rattle.amqp_link_core.specs.Attaching.{States};
 ghost use Rattle.amqp_link_core.specs.AttachSent.{SendsAttach, IsTooLarge};
-ghost use Rattle.amqp_link_core.specs.LinkStates.{Call, next_state};
+ghost use Rattle.amqp_link_core.specs.LinkStates.{Call, next_state, state_without_session};
 ghost use Rattle.amqp_link_core.specs.Detaching.{detach_frame, recorded, remote_error};
 ghost use Rattle.amqp_link_core.specs.Shown.{Shown, shown_attached, shown_taken, with_terms_of};
 
@@ -59,6 +59,9 @@ pub trait LinkDetach {
     // The endpoint in another state and with another output handle, and all else as it is.
     ghost moved: { Self → TheState → Option TheHandle → Self };
 
+    // The endpoint after its session is lost.
+    ghost lost: { Self → Self };
+
     // The error of a call for which there is no transition.
     ghost illegal_state: { Self.DetachError };
 
@@ -81,7 +84,8 @@ pub trait LinkDetach {
     /// output handle is released.
     ///
     /// Refused with `IllegalState`: with nothing changed if there is no transition from this state, and with
-    /// the state moved if there is no output handle.
+    /// the state moved if there is no output handle. There is none from `IncompleteAttachExchanged`:
+    /// `detached::detach_frame` makes the frame there.
     fn send_detach(
         &mut self,
         closed: bool,
@@ -96,8 +100,9 @@ pub trait LinkDetach {
             (self.new ≡ self.old)
             (λ next. self.new ≡ moved self.old next None) };
 
-    /// Records a detach that the peer initiated, and to which the session has replied. The output handle is
-    /// released; then the error that the detach carries, if any, is returned.
+    /// Records a detach that the peer initiated, and to which the session has replied, or the peer's reply to
+    /// a detach that was sent after an incomplete exchange. The output handle is released; then the error that
+    /// the detach carries, if any, is returned.
     ///
     /// Refused with `IllegalState`, and nothing changed, if there is no transition from this state.
     fn apply_remote_detach_outcome(&mut self, detach: Detach) -> Result<(), ApplyRemoteDetachError>
@@ -107,6 +112,21 @@ pub trait LinkDetach {
         ensures after { MatchOption (next_state Call.RemoteDetach detach.closed (shown self.old).local_state)
             (self.new ≡ self.old)
             (λ next. self.new ≡ moved self.old next None) };
+
+    /// Records that the session of the link is gone, by its end or by a lost connection (2.5.2, 2.6.4): no detach
+    /// is sent, and none will arrive. The state becomes the one after a detach of the peer's that does not close the
+    /// link; an endpoint that is unattached, detached or closed keeps its state. Both handles are released.
+    /// The unsettled map, the delivery-counts and the link-credit stay. What is under way of a delivery is
+    /// forgotten as by a new attach: the next transfer begins a delivery.
+    ///
+    /// To go on, set the handle that a new session gives by `output_handle_mut`, and call `send_attach`. Never
+    /// refused.
+    fn on_session_lost(&mut self)
+        ensures { self.new ≡ lost self.old };
+
+    // Of what an endpoint shows, a lost session changes the state and releases the output handle.
+    ghost shown_lost: { (l : Self) → shown (lost l)
+        ≡ record (shown l) { local_state = state_without_session (shown l).local_state; output_handle = None } };
 
     // A moved endpoint shows that state and that handle.
     ghost shown_moved: { (l : Self) (s : TheState) (h : Option TheHandle)
@@ -202,6 +222,10 @@ pub trait LinkAttach: LinkDetach {
     /// the state moves, also if the attach is refused; what else a refusal changes is stated at each
     /// endpoint. Out of memory, with nothing changed, comes after all refusals, or in place of one whose
     /// error carries a list.
+    ///
+    /// The peer's properties are put into the endpoint's own, one by one: what the peer states goes back to it
+    /// in each attach and each flow with properties that is sent from then on. The attach is dropped also if it
+    /// is refused: to make the call again after out of memory, keep a copy.
     ///
     /// A sender's cost grows with the number of deliveries that are unsettled at either side, and with the
     /// bytes of the payloads in which a reported position is looked for; a receiver's only with the entries of

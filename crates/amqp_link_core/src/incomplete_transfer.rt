@@ -12,7 +12,8 @@ ghost use Rattle.amqp_link_core.specs.Merging.{Came, Merged, IsSilent, opening, 
 ghost use Rattle.amqp_link_core.specs.Held.{held_bytes};
 ghost use Rattle.amqp_link_types.specs.Refusals.{AnswersThenOutOfMemory};
 ghost use Rattle.amqp_link_core.specs.IncompleteRefusals.{start_tests, append_tests, long_test};
-ghost use Rattle.amqp_link_core.specs.IncompleteRefusals.{differs as fields_differ, is_inconsistent};
+ghost use Rattle.amqp_link_core.specs.IncompleteRefusals.{is_inconsistent};
+ghost use Rattle.amqp_link_core.specs.IncompleteRefusals;
 
 mod merging;
 mod pieces;
@@ -169,7 +170,7 @@ impl IncompleteTransfer {
 
     /// Whether a transfer can belong to this delivery: it has the delivery's tag, or none.
     pub fn is_same_delivery_as(&self, transfer: &Transfer) -> bool
-        ensures { result ≡ not (fields_differ bytes_eq
+        ensures { result ≡ not (IncompleteRefusals.differs bytes_eq
             self.now.performative.delivery_tag transfer.now.delivery_tag) }
     {
         match &transfer.delivery_tag {
@@ -264,7 +265,7 @@ impl Clone for IncompleteTransfer {
 
 // Whether both are there, and not the same.
 fn differs(known: Option<u32>, carried: Option<u32>) -> bool
-    ensures { result ≡ fields_differ nat_eq known carried }
+    ensures { result ≡ IncompleteRefusals.differs nat_eq known carried }
 {
     match (known, carried) {
         (Some(known), Some(carried)) => known != carried,

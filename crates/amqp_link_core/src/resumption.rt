@@ -13,12 +13,14 @@ pub(crate) mod states;
 use crate::resumption::states::{has_ended_as, is_past, rest_of};
 use amqp_link_types::delivery::{DeliveryOutcome, UnsettledMessage};
 use amqp_link_types::types::{DeliveryState, DeliveryTag, MessageFormat, Payload, has_ended};
+use amqp_link_values::copy::copy_of;
 use std::alloc::AllocError;
 
 /// What a sender sends of a delivery when its link is attached again (2.6.13).
 #[derive(Debug, PartialEq, Eq, Drop)]
 pub enum ResumingDelivery {
-    /// An aborted transfer: the delivery is given up at both endpoints.
+    /// An aborted transfer: the delivery is given up at both endpoints. The sender's payload of it is dropped:
+    /// who wants to keep it copies it before the attach arrives.
     Abort {
         /// The format of the message; 0 if only the receiver knows the delivery.
         message_format: MessageFormat,
@@ -105,7 +107,7 @@ impl PlannedResolution {
         ensures memory { OnErr result (does_outcome_carry (outcome_by self.now local.now) ≡ true) }
     {
         match self {
-            PlannedResolution::LocalOutcome => Ok(Some(Ok(copy_of_state(&local.state)?))),
+            PlannedResolution::LocalOutcome => Ok(Some(Ok(copy_of(&local.state)?))),
             PlannedResolution::RemoteOutcome(state) => Ok(Some(Ok(Some(state.clone()?)))),
             _ => Ok(None),
         }
@@ -146,17 +148,6 @@ impl PlannedResolution {
             }
             PlannedResolution::RestateOutcome => restated(tag, local),
         }
-    }
-}
-
-// A copy of a state that may be absent: allocates only for an error or annotations.
-fn copy_of_state(state: &Option<DeliveryState>) -> Result<Option<DeliveryState>, AllocError>
-    ensures copy { IfOk result (λ copy. copy ≡ state.now) }
-    ensures memory { OnErr result (does_carry state.now ≡ true) }
-{
-    match state {
-        Some(state) => Ok(Some(state.clone()?)),
-        None => Ok(None),
     }
 }
 

@@ -1,6 +1,6 @@
 -- Each call of a credit run keeps what a run keeps, and does what its step says.
 use Rattle.std.proofs.Common.{◌≡◌, sym, ap, ◌∙◌, subst, refl, ℕ, ◌-◌, ◌^◌, ◌<◌, ◌≤◌, arith, Bool, true, false, cond, ◌||◌, List, [], ◌∷◌, ◌++◌, length}
-use Rattle.std.specs.Prelude.{ℤ, pos, ◌≤ℤ◌, Option, Some, None, is_some, IfSome, option_map, nat_lt, int_lt}
+use Rattle.std.specs.Prelude.{ℤ, pos, ◌≤ℤ◌, not, Option, Some, None, is_some, IfSome, option_map, nat_lt, int_lt}
 use Rattle.std.specs.List.{AllByRecursion}
 use Rattle.std.proofs.lemmas.Bool.Decides.{nat_tests}
 use Rattle.std.proofs.lemmas.List.{append-nil}
@@ -23,6 +23,7 @@ use Rattle.amqp_link_split.specs.Fitting.{IsFitting}
 use Rattle.amqp_link_receiver.specs.Receivers.{Receiver}
 use Rattle.amqp_link_receiver.specs.Completing.{entered, spent, reported, unsettled_tag}
 use Rattle.amqp_link_worlds.specs.Steps.{zero_output, held_after}
+use Rattle.amqp_link_worlds.specs.Wires.{does_begin}
 use Rattle.amqp_link_credit.specs.CreditCalls.{new_run, GrantsCredit, run_transfer, sender_after_send, SendsDelivery, IsTransfer, TakesPiece, complete_delivery, Completes, TakesFlow, reply_frames, TakesBack, is_lowered, granting_tests}
 use Rattle.amqp_link_credit.specs.CreditWorlds.{CreditWorld, under_way, AreAttached, IsCreditWorld}
 use Rattle.amqp_link_credit.specs.Credits.{IsCredit}
@@ -35,8 +36,9 @@ use Rattle.amqp_link_credit.proofs.WayLemmas.{deliveries-next, deliveries-append
 pub IsCreditWorld-new : (count limit : ℕ) → count < 2 ^ 32 → 29 ≤ limit → IsCreditWorld (new_run count limit)
 IsCreditWorld-new count limit h room = record {
   credit = credit_new count h;
-  attached = record { sender_output = refl; sender_input = refl; mode = refl; room = room; receiver_output = refl; receiver_state = refl };
+  attached = record { sender_output = refl; sender_input = refl; mode = refl; room = room; receiver_output = refl; receiver_state = refl; receiver_mode = refl };
   whole = refl;
+  turn = refl;
   named = tt;
   short = tt;
 }
@@ -61,8 +63,9 @@ IsCreditWorld-grants old new credit drain echo k none g =
     subst IsCreditWorld (sym g.world) (record {
       credit = credit_granted old.sender.flow_state old.receiver.flow_state old.forward old.back old.stated k.credit credit drain echo zero_output
           (not_large credit tests.0) (not_lowered credit (sdiff old.stated old.receiver.flow_state.delivery_count) tests.1);
-      attached = record { sender_output = a.sender_output; sender_input = a.sender_input; mode = a.mode; room = a.room; receiver_output = a.receiver_output; receiver_state = a.receiver_state };
+      attached = record { sender_output = a.sender_output; sender_input = a.sender_input; mode = a.mode; room = a.room; receiver_output = a.receiver_output; receiver_state = a.receiver_state; receiver_mode = a.receiver_mode };
       whole = k.whole;
+      turn = k.turn;
       named = k.named;
       short = k.short;
     })
@@ -98,8 +101,9 @@ module _ (old : CreditWorld) (k : IsCreditWorld old) (payload : List ℕ) (settl
       record {
         credit = credit_sent old.sender.flow_state old.receiver.flow_state old.forward old.back old.stated k.credit frames credited
             (one-leads old.receiver.flow_state.delivery_count (sdiff old.sender.flow_state.delivery_count old.receiver.flow_state.delivery_count) false frames ones.0);
-        attached = record { sender_output = a.sender_output; sender_input = a.sender_input; mode = a.mode; room = a.room; receiver_output = a.receiver_output; receiver_state = a.receiver_state };
+        attached = record { sender_output = a.sender_output; sender_input = a.sender_input; mode = a.mode; room = a.room; receiver_output = a.receiver_output; receiver_state = a.receiver_state; receiver_mode = a.receiver_mode };
         whole = whole-append (is_some old.held) old.forward frames k.whole (one-whole false frames ones.0);
+        turn = k.turn;
         named = k.named;
         short = subst (AllByRecursion IsShort) (sym sent_under_way) (short-append (under_way old) ((next_tag old.sender, payload) ∷ []) k.short (short, tt));
       }
@@ -123,6 +127,18 @@ IsCreditWorld-sends old new payload settled tag count k short s =
     subst IsCreditWorld (sym s.world) (IsCreditWorld-sent old k payload settled s.frames s.credited (subst (λ t. IsSent old.sender (run_transfer settled t) payload s.frames) s.tagged s.framed) short)
 
 -- ---- a frame comes to the receiver
+
+-- endpoints stay attached as the receiver notes whether more is to come
+still_attached : (s : Sender Target) (r : Receiver Target) (more : Bool) → AreAttached s r → AreAttached s (record r { more = more })
+still_attached s r more a =
+    record { sender_output = a.sender_output; sender_input = a.sender_input; mode = a.mode; room = a.room; receiver_output = a.receiver_output; receiver_state = a.receiver_state; receiver_mode = a.receiver_mode }
+
+-- a transfer begins a delivery exactly if none is begun
+begins_if_none : (begun : Bool) (f : LinkFrame) → FollowsOn begun f → does_begin f ≡ not begun
+begins_if_none false (FirstTransfer x) n = refl
+begins_if_none true (TransferContinuation x) n = refl
+begins_if_none false _ n = absurd n
+begins_if_none true _ n = absurd n
 
 pub next_of : (begun : Bool) (f : LinkFrame) (rest : List LinkFrame) (more : Bool) → AreComplete begun (f ∷ rest) → IsTransfer f more → FollowsOn begun f × ((performative_of f).more ≡ more) × AreComplete more rest
 next_of begun (FirstTransfer x) rest more w t = (w.0, t, subst (λ b. AreComplete b rest) t w.1)
@@ -152,9 +168,13 @@ module _ (old : CreditWorld) (k : IsCreditWorld old) (f : LinkFrame) (rest : Lis
   pub short_here : AllByRecursion IsShort (deliveries part (f ∷ rest))
   short_here = subst (AllByRecursion IsShort) under_way_here k.short
 
+  -- the receiver knows whether it begins a delivery
+  pub run_turn : (more : Bool) → IsTransfer f more → does_begin f ≡ not old.receiver.more
+  run_turn more t = begins_if_none (is_some old.held) f (next_of (is_some old.held) f rest more whole_here t).0 ∙ ap not (sym k.turn)
+
   -- a transfer after which more follow
   abbrev continued : ℕ → CreditWorld
-  continued id = record old { held = Some (held_after old.held id f); forward = rest }
+  continued id = record old { receiver = record old.receiver { more = true }; held = Some (held_after old.held id f); forward = rest }
 
   continued_under_way : (id : ℕ) → IsTransfer f true → under_way (continued id) ≡ under_way old
   continued_under_way id t =
@@ -168,8 +188,9 @@ module _ (old : CreditWorld) (k : IsCreditWorld old) (f : LinkFrame) (rest : Lis
         record { piece = f; rest = rest; taken = taken; goes_on = t; world = e; same = ap under_way e ∙ continued_under_way id t },
         subst IsCreditWorld (sym e) (record {
           credit = credit_continued s r f rest old.back old.stated (is_some old.held) credit_here n.0 n.1;
-          attached = k.attached;
+          attached = still_attached old.sender old.receiver true k.attached;
           whole = n.2;
+          turn = refl;
           named = named-received old.held id f k.named n.0;
           short = subst (AllByRecursion IsShort) (sym (continued_under_way id t)) k.short;
         }),
@@ -180,7 +201,7 @@ module _ (old : CreditWorld) (k : IsCreditWorld old) (f : LinkFrame) (rest : Lis
   completed id =
       let held = held_after old.held id f in
       let place = position (held_bytes held) in
-      record old { receiver = entered held.performative place.0 place.1 old.receiver; held = None; forward = rest }
+      record old { receiver = record (entered held.performative place.0 place.1 old.receiver) { more = false }; held = None; forward = rest }
 
   completed_under_way : (id : ℕ) → IsTransfer f false → under_way old ≡ part_of (held_after old.held id f) ∷ under_way (completed id)
   completed_under_way id t =
@@ -194,9 +215,9 @@ entered_flow (Some tag) n off r = refl
 
 entered_attached : (o : Option Tag) (n off : ℕ) (s : Sender Target) (r : Receiver Target) → AreAttached s r → AreAttached s (spent (reported o n off r))
 entered_attached None n off s r a =
-    record { sender_output = a.sender_output; sender_input = a.sender_input; mode = a.mode; room = a.room; receiver_output = a.receiver_output; receiver_state = a.receiver_state }
+    record { sender_output = a.sender_output; sender_input = a.sender_input; mode = a.mode; room = a.room; receiver_output = a.receiver_output; receiver_state = a.receiver_state; receiver_mode = a.receiver_mode }
 entered_attached (Some tag) n off s r a =
-    record { sender_output = a.sender_output; sender_input = a.sender_input; mode = a.mode; room = a.room; receiver_output = a.receiver_output; receiver_state = a.receiver_state }
+    record { sender_output = a.sender_output; sender_input = a.sender_input; mode = a.mode; room = a.room; receiver_output = a.receiver_output; receiver_state = a.receiver_state; receiver_mode = a.receiver_mode }
 
 module _ (old : CreditWorld) (k : IsCreditWorld old) (f : LinkFrame) (rest : List LinkFrame) (taken : old.forward ≡ f ∷ rest) where
   -- the receiver has credit for a complete delivery
@@ -227,8 +248,10 @@ module _ (old : CreditWorld) (k : IsCreditWorld old) (f : LinkFrame) (rest : Lis
         subst IsCreditWorld (sym e) (record {
           credit = subst (λ flow. IsCredit old.sender.flow_state flow rest old.back old.stated) (sym (entered_flow (unsettled_tag held.performative) place.0 place.1 old.receiver))
               (credit_completed old.sender.flow_state old.receiver.flow_state f rest old.back old.stated (is_some old.held) c n.0 n.1);
-          attached = entered_attached (unsettled_tag held.performative) place.0 place.1 old.sender old.receiver k.attached;
+          attached = still_attached old.sender (entered held.performative place.0 place.1 old.receiver) false
+              (entered_attached (unsettled_tag held.performative) place.0 place.1 old.sender old.receiver k.attached);
           whole = n.2;
+          turn = refl;
           named = tt;
           short = shorts.1;
         }),
@@ -252,8 +275,9 @@ flows old new flow rest k taken e =
       subst IsCreditWorld (sym e) (record {
         credit = credit_reported old.sender.flow_state old.receiver.flow_state flow rest old.back old.stated
             (subst (λ frames. IsCredit old.sender.flow_state old.receiver.flow_state frames old.back old.stated) taken k.credit) whole.0;
-        attached = record { sender_output = a.sender_output; sender_input = a.sender_input; mode = a.mode; room = a.room; receiver_output = a.receiver_output; receiver_state = a.receiver_state };
+        attached = record { sender_output = a.sender_output; sender_input = a.sender_input; mode = a.mode; room = a.room; receiver_output = a.receiver_output; receiver_state = a.receiver_state; receiver_mode = a.receiver_mode };
         whole = whole.1;
+        turn = k.turn;
         named = k.named;
         short = subst (AllByRecursion IsShort) way k.short;
       }),
@@ -298,8 +322,9 @@ backs old new flow rest replied k taken is e =
       record { flow = flow; rest = rest; taken = taken; answered = is; world = e; same = ap under_way e ∙ way },
       subst IsCreditWorld (sym e) (record {
         credit = c;
-        attached = record { sender_output = a.sender_output; sender_input = a.sender_input; mode = a.mode; room = a.room; receiver_output = a.receiver_output; receiver_state = a.receiver_state };
+        attached = record { sender_output = a.sender_output; sender_input = a.sender_input; mode = a.mode; room = a.room; receiver_output = a.receiver_output; receiver_state = a.receiver_state; receiver_mode = a.receiver_mode };
         whole = whole-append (is_some old.held) old.forward (reply_frames reply) k.whole (reply_whole reply replies);
+        turn = k.turn;
         named = k.named;
         short = subst (AllByRecursion IsShort) (sym way) k.short;
       }),

@@ -57,8 +57,8 @@ abbrev pub sender_after_send : Bool → Sender Target → List ℕ → Sender Ta
 sender_after_send settled s payload =
     record (with_registration settled s (next_tag s) (new_entry 0 payload)) { flow_state = after_consuming 1 s.flow_state }
 
--- One more delivery is under way, with the next tag and this payload, in the fewest transfers that fit the frame
--- limit. The answer is its tag and their number.
+-- One more delivery is under way, with the next tag and this payload, in transfers that fit the frame limit, the
+-- fewest of the payload limit. The answer is its tag and their number.
 pub record SendsDelivery (old : CreditWorld) (payload : List ℕ) (settled : Bool) (tag : Tag) (count : ℕ) (new : CreditWorld) : Type 0 where
   pub frames : List LinkFrame
   pub credited : 0 < old.sender.flow_state.link_credit
@@ -76,13 +76,17 @@ abbrev pub IsTransfer : LinkFrame → Bool → Type 0
 IsTransfer f more = IsSomeAnd (link_transfer f) (λ t. t.performative.more ≡ more)
 
 -- A transfer that is not its delivery's last: its payload is added to what is held, under this id if it is the
--- delivery's first.
+-- delivery's first, and the receiver notes that more is to come.
 pub record TakesPiece (old : CreditWorld) (id : ℕ) (new : CreditWorld) : Type 0 where
   pub piece : LinkFrame
   pub rest : List LinkFrame
   pub taken : old.forward ≡ piece ∷ rest
   pub goes_on : IsTransfer piece true
-  pub world : new ≡ record old { held = Some (held_after old.held id piece); forward = rest }
+  pub world : new ≡ record old {
+    receiver = record old.receiver { more = true };
+    held = Some (held_after old.held id piece);
+    forward = rest;
+  }
   pub same : under_way new ≡ under_way old
 
 -- a delivery of which all is held
@@ -107,7 +111,7 @@ pub record Completes (old : CreditWorld) (id : ℕ) (answer : Delivered Whole) (
       let held = held_after old.held id last in
       let place = position (held_bytes held) in
       new ≡ record old {
-        receiver = entered held.performative place.0 place.1 old.receiver;
+        receiver = record (entered held.performative place.0 place.1 old.receiver) { more = false };
         held = None;
         forward = rest;
       }

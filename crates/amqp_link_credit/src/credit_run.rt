@@ -20,6 +20,7 @@ use crate::queue::Queue;
 use amqp_link_core::endpoint::LinkExt;
 use amqp_link_core::incomplete_transfer::IncompleteTransfer;
 use amqp_link_pair::Sent;
+use amqp_link_pair::receiving::take_off;
 use amqp_link_payloads::message::whole::Whole;
 use amqp_link_receiver::receiver_link::ReceiverLink;
 use amqp_link_sender::sender_link::SenderLink;
@@ -215,8 +216,13 @@ impl CreditRun {
         let Some(frame) = self.forward.first() else {
             unreachable!()
         };
-        hold(&mut self.held, self.alloc, frame, id)?;
-        self.forward.drop_first();
+        let begins_delivery = self.receiver.begins_delivery();
+        hold(&mut self.held, begins_delivery, self.alloc, frame, id)?;
+        // From here on nothing can fail.
+        let Some(frame) = self.forward.take_first() else {
+            unreachable!()
+        };
+        take_off(&mut self.receiver, frame);
         Ok(())
     }
 
@@ -230,10 +236,15 @@ impl CreditRun {
         let Some(frame) = self.forward.first() else {
             unreachable!()
         };
-        let whole = with_last(&self.held, self.alloc, frame, id)?;
+        let begins_delivery = self.receiver.begins_delivery();
+        let whole = with_last(&self.held, begins_delivery, self.alloc, frame, id)?;
         let delivery = hand_out(&mut self.receiver, whole)?;
+        // From here on nothing can fail.
         set(&mut self.held, None);
-        self.forward.drop_first();
+        let Some(frame) = self.forward.take_first() else {
+            unreachable!()
+        };
+        take_off(&mut self.receiver, frame);
         Ok(delivery)
     }
 

@@ -24,7 +24,8 @@ pub fn credit_is_kept()
 {}
 
 /// The deliveries that were completed, followed by those under way, are those that were under way, followed by
-/// those that were sent: each delivery is completed once, with its payload, in the order of the sends.
+/// those that were sent: no delivery is completed twice, and each that is completed has its payload, in the order
+/// of the sends. What is under way after the last call is not completed.
 pub fn deliveries_complete_in_order()
     ensures { (old : CreditWorld) (calls : List RunCall) (new : CreditWorld) → IsCreditRun old calls new
         → completed_in calls ++ under_way new ≡ under_way old ++ sent_in calls }

@@ -66,13 +66,6 @@ impl Queue {
         frame
     }
 
-    // Removes the next frame.
-    pub(crate) fn drop_first(&mut self)
-        ensures { self.new.frames ≡ drop 1 self.old.frames }
-    {
-        drop(self.take_first());
-    }
-
     // Makes room for one more batch.
     pub(crate) fn reserve(&mut self) -> Result<(), AllocError>
         ensures same { self.new.frames ≡ self.old.frames }

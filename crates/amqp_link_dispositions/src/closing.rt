@@ -1,7 +1,8 @@
 //! The outcomes of a sender's deliveries when a detach closes the link, and the reply to a detach (2.6.4
 //! to 2.6.6 and 2.7.7).
 ghost use Rattle.std.specs.Prelude.{◌≡◌, ◌≢◌, ◌+◌, ◌≤◌, ◌++◌, [], true, is_some, length, vec_len, vec_capacity, All, IfOk, OnOk, OnErr};
-ghost use Rattle.amqp_link_dispositions.specs.Ending.{closed_for as why_closed, all_closed as all_closed_for, reply_of};
+ghost use Rattle.amqp_link_dispositions.specs.Ending.{reply_of};
+ghost use Rattle.amqp_link_dispositions.specs.Ending;
 
 use amqp_link_types::delivery::{Outcomes, UnsettledMessage};
 use amqp_link_types::types::unsettled_map::UnsettledMap;
@@ -24,7 +25,7 @@ pub fn reply_to(detach: &Detach, handle: OutputHandle) -> Result<Detach, AllocEr
 
 // The outcome of a delivery whose link is closed by a detach with this error, if any.
 fn closed_for(error: &Option<Error>) -> Result<LinkStateError, AllocError>
-    ensures { IfOk result (λ reason. reason ≡ why_closed error.now) }
+    ensures { IfOk result (λ reason. reason ≡ Ending.closed_for error.now) }
 {
     match error {
         None => Ok(LinkStateError::RemoteClosed),
@@ -39,7 +40,7 @@ fn reasons_for(
     count: usize,
 ) -> Result<Vec<LinkStateError>, AllocError>
     ensures count { IfOk result (λ reasons. vec_len reasons ≡ count) }
-    ensures each { IfOk result (λ reasons. All (λ reason. reason ≡ why_closed error.now) reasons.items) }
+    ensures each { IfOk result (λ reasons. All (λ reason. reason ≡ Ending.closed_for error.now) reasons.items) }
 {
     let mut reasons = Vec::with_capacity(alloc, count)?;
     for _ in 0..count {
@@ -56,9 +57,9 @@ fn end_each(
     error: &Option<Error>,
 )
     requires count { vec_len reasons ≡ length unsettled }
-    requires each { All (λ reason. reason ≡ why_closed error.now) reasons.items }
+    requires each { All (λ reason. reason ≡ Ending.closed_for error.now) reasons.items }
     requires room { vec_len outcomes.old + length unsettled ≤ vec_capacity outcomes.old }
-    ensures { outcomes.new.items ≡ outcomes.old.items ++ all_closed_for error.now unsettled }
+    ensures { outcomes.new.items ≡ outcomes.old.items ++ Ending.all_closed error.now unsettled }
 {
     let _why = error;
     let mut reasons = reasons;
@@ -81,7 +82,7 @@ pub fn all_closed(
     error: &Option<Error>,
 ) -> Result<Outcomes, AllocError>
     ensures ended { IfOk result (λ outcomes.
-        outcomes.items ≡ all_closed_for error.now unsettled.old) }
+        outcomes.items ≡ Ending.all_closed error.now unsettled.old) }
     ensures emptied { OnOk result (unsettled.new ≡ []) }
     ensures memory { OnErr result (unsettled.old ≢ []) }
     ensures left { OnErr result (unsettled.new ≡ unsettled.old) }

@@ -4,7 +4,7 @@ ghost use Rattle.amqp_link_types.specs.Entries.{entry_at};
 ghost use Rattle.amqp_link_dispositions.specs.Changes.{StateChange};
 ghost use Rattle.amqp_link_dispositions.specs.Keeping.{is_settled_one, tags_of, after_dispositions};
 ghost use Rattle.amqp_link_dispositions.specs.Keeping.{disposition_of_one, after_one, map_after_sender_disposition};
-ghost use Rattle.amqp_link_dispositions.specs.Listed.{kept_in_order as kept_by_number};
+ghost use Rattle.amqp_link_dispositions.specs.Listed;
 ghost use Rattle.amqp_link_dispositions.specs.DispositionFrames.{CoverGroups, is_settled_by, disposition_frame, disposition_of_group};
 ghost use Rattle.amqp_link_types.specs.declared.types.definitions.Role.TheVariants as role;
 
@@ -87,7 +87,7 @@ fn kept_in_order<'a>(
     unsettled: &UnsettledMap<Option<DeliveryState>>,
     infos: &'a [DeliveryInfo],
 ) -> Result<Vec<&'a DeliveryInfo>, AllocError>
-    ensures { IfOk result (λ kept. map (λ info. info.now) kept.items ≡ kept_by_number unsettled.now infos.now) }
+    ensures { IfOk result (λ kept. map (λ info. info.now) kept.items ≡ Listed.kept_in_order unsettled.now infos.now) }
 {
     let mut kept = Vec::new(alloc);
     for info in infos {
@@ -173,9 +173,9 @@ pub fn dispose_all(
     state: DeliveryState,
 ) -> Result<Vec<LinkFrame>, AllocError>
     ensures frames { IfOk result (λ frames. CoverGroups how.given how.own state how.batchable
-        (kept_by_number unsettled.old infos.now) frames.items) }
+        (Listed.kept_in_order unsettled.old infos.now) frames.items) }
     ensures after { OnOk result (unsettled.new ≡ after_dispositions (is_settled_one how.given how.own) state
-        (kept_by_number unsettled.old infos.now) unsettled.old) }
+        (Listed.kept_in_order unsettled.old infos.now) unsettled.old) }
     ensures left { OnErr result (unsettled.new ≡ unsettled.old) }
 {
     let plan = planned(alloc, unsettled, infos, how, &state);
@@ -207,12 +207,12 @@ fn planned<'a>(
     state: &DeliveryState,
 ) -> Result<Plan<'a>, AllocError>
     ensures frames { IfOk result (λ plan. CoverGroups how.given how.own state.now how.batchable
-        (kept_by_number unsettled.now infos.now) plan.frames.items) }
+        (Listed.kept_in_order unsettled.now infos.now) plan.frames.items) }
     ensures settled { IfOk result (λ plan. map (λ tag. tag.now) plan.settled.items
-        ≡ tags_of (filter (is_settled_one how.given how.own) (kept_by_number unsettled.now infos.now))) }
+        ≡ tags_of (filter (is_settled_one how.given how.own) (Listed.kept_in_order unsettled.now infos.now))) }
     ensures changes { IfOk result (λ plan. map {B = StateChange} (λ change. (change.0.now, change.1)) plan.changes.items
         ≡ map {B = StateChange} (λ tag. (tag, state.now)) (tags_of (filter (λ info. not (is_settled_one how.given how.own info))
-        (kept_by_number unsettled.now infos.now)))) }
+        (Listed.kept_in_order unsettled.now infos.now)))) }
 {
     let kept = kept_in_order(alloc, unsettled, infos)?;
     let groups = groups_of(alloc, kept.as_slice())?;

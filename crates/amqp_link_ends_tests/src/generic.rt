@@ -4,7 +4,7 @@ ghost use Rattle.amqp_link_state.specs.declared.state.LinkState.TheVariants.{Att
 ghost use Rattle.amqp_link_types.specs.declared.types.attach.Attach.{Attach as TheAttach};
 ghost use Rattle.amqp_link_core.specs.AttachFields.{next_of, remote_entries};
 ghost use Rattle.amqp_link_core.specs.Detaching.{detach_frame};
-ghost use Rattle.amqp_link_core.specs.LinkStates.{Call, next_state};
+ghost use Rattle.amqp_link_core.specs.LinkStates.{Call, next_state, state_without_session};
 ghost use Rattle.amqp_link_ends_tests.specs.Stated.{IsStatedBy, Keeps, GivesUp, Takes};
 
 use crate::assertions::assert_equal;
@@ -108,6 +108,17 @@ fn cut<L: LinkExt>(link: &mut L, handle: OutputHandle) -> Result<(), L::DetachEr
     Ok(())
 }
 
+// The session of a link is lost, and another one gives it an output handle.
+fn lose_session<L: LinkExt>(link: &mut L, handle: OutputHandle)
+    ensures state { (L.shown link.new).local_state ≡ state_without_session (L.shown link.old).local_state }
+    ensures again { (L.shown link.new).output_handle ≡ Some handle }
+    ensures kept { Keeps (L.shown link.old) (L.shown link.new) }
+    ensures flow { (L.shown link.new).flow_state ≡ (L.shown link.old).flow_state }
+{
+    link.on_session_lost();
+    *link.output_handle_mut() = Some(handle);
+}
+
 // Gives a link other properties.
 fn set_properties<L: LinkExt>(link: &mut L, properties: Option<Fields>)
     ensures given { (L.shown link.new).flow_state.properties ≡ properties }
@@ -133,22 +144,25 @@ fn attached_and_cut<L: LinkExt>(
     (sent && came && detached, *link.local_state())
 }
 
-// The same, and then reattaches the link; returns the link's states after both.
+// The same, then reattaches the link, and loses its session; returns the link's states after the three.
 fn attached_anew<L: LinkExt>(
     rt: &(impl Abort + AllocGlobal),
     link: &mut L,
     role: Role,
-) -> [(bool, LinkState); 2]
+) -> [(bool, LinkState); 3]
     requires { L.copies }
 {
     let cut = attached_and_cut(rt, link, role);
     let anew = went(send_anew(link));
-    [cut, (anew, *link.local_state())]
+    let anew = (anew, *link.local_state());
+    lose_session(link, OutputHandle(9));
+    [cut, anew, (true, *link.local_state())]
 }
 
-const CUT_AND_ATTACHED_ANEW: [(bool, LinkState); 2] = [
+const CUT_AND_ATTACHED_ANEW: [(bool, LinkState); 3] = [
     (true, LinkState::Detached),
     (true, LinkState::AttachSent),
+    (true, LinkState::Detached),
 ];
 
 fn sender(rt: &(impl Abort + AllocGlobal)) -> SenderLink<Target> {
@@ -161,14 +175,14 @@ fn receiver(rt: &(impl Abort + AllocGlobal)) -> ReceiverLink<Target> {
     link.with_output_handle(OutputHandle(0))
 }
 
-fn states_of_sender(rt: &(impl Abort + AllocGlobal)) -> [(bool, LinkState); 2] {
+fn states_of_sender(rt: &(impl Abort + AllocGlobal)) -> [(bool, LinkState); 3] {
     let mut link = sender(rt);
     let states = attached_anew(rt, &mut link, Role::Receiver);
     drop(link);
     states
 }
 
-fn states_of_receiver(rt: &(impl Abort + AllocGlobal)) -> [(bool, LinkState); 2] {
+fn states_of_receiver(rt: &(impl Abort + AllocGlobal)) -> [(bool, LinkState); 3] {
     let mut link = receiver(rt);
     let states = attached_anew(rt, &mut link, Role::Sender);
     drop(link);

@@ -9,9 +9,7 @@ use amqp_link_core::endpoint::{LinkAttach, LinkDetach, LinkExt};
 use amqp_link_ledger::ledger::OutcomeLedger;
 use amqp_link_sender::{SenderAttachExchange, SenderLink};
 use amqp_link_state::state::LinkState;
-use amqp_link_tests_support::calls::{
-    self as support, local_state, send_detach, set_output_handle, take_reply,
-};
+use amqp_link_tests_support::calls::{self as support, local_state, set_output_handle};
 use amqp_link_tests_support::links::{self, count_tag, went};
 use amqp_link_tests_support::table::detach;
 use amqp_link_types::delivery::UnsettledMessage;
@@ -86,7 +84,7 @@ enum Call {
     // The sender settles the deliveries 0 and 1.
     SettleBoth,
     // A detach to and fro, that does not close.
-    Detach,
+    LoseSession,
     // The receiver's detach, that closes.
     Close,
 }
@@ -251,11 +249,10 @@ fn settle_both(ledger: &mut Ledger, alloc: Global) -> Result<Answer, AllocError>
     counts
 }
 
-fn detach_to_and_fro(ledger: &mut Ledger) -> Answer {
-    let is_sent = went(send_detach(ledger, false));
-    let is_answered = went(take_reply(ledger, detach(false)));
+fn lose_session(ledger: &mut Ledger) -> Answer {
+    support::lose_session(ledger);
     set_output_handle(ledger, Some(OutputHandle(0)));
-    Answer::Done(is_sent && is_answered)
+    Answer::Done(local_state(ledger) == LinkState::Detached)
 }
 
 fn close(ledger: &mut Ledger) -> Result<Answer, AllocError> {
@@ -286,7 +283,7 @@ fn make(ledger: &mut Ledger, alloc: Global, call: Call) -> Result<Answer, AllocE
         Call::Accept(count) => accept(ledger, &count_tag(alloc, count)?),
         Call::Dispose(count) => dispose(ledger, &count_tag(alloc, count)?),
         Call::SettleBoth => settle_both(ledger, alloc),
-        Call::Detach => Ok(detach_to_and_fro(ledger)),
+        Call::LoseSession => Ok(lose_session(ledger)),
         Call::Close => close(ledger),
     }
 }
@@ -362,7 +359,7 @@ const THREE_SENT: [(Call, Answer); 12] = [
     (Call::Send, Answer::Done(true)),
     (Call::Withdraw(1), Answer::Done(true)),
     (Call::Accept(0), Answer::Done(true)),
-    (Call::Detach, Answer::Done(true)),
+    (Call::LoseSession, Answer::Done(true)),
     (Call::SendAttach, Answer::Done(true)),
     (Call::TakeAttach(None), Answer::Exchanged(1, 0)),
     (Call::PutBack(2), Answer::Done(true)),

@@ -6,10 +6,9 @@ use amqp_link_ledger::ledger::OutcomeLedger;
 use amqp_link_sender::{SenderLink, Sending};
 use amqp_link_state::state::LinkState;
 use amqp_link_tests_support::calls::{
-    local_state, send_attach, send_detach, set_output_handle, take_attach, take_reply,
+    local_state, lose_session, send_attach, set_output_handle, take_attach,
 };
 use amqp_link_tests_support::links::went;
-use amqp_link_tests_support::table::detach;
 use amqp_link_types::delivery::{Settlement, UnsettledMessage};
 use amqp_link_types::types::{
     DeliveryState, LinkFlow, LinkStateError, OutputHandle, Payload, Role, SenderSettleMode, Target,
@@ -146,10 +145,9 @@ pub(crate) fn put(
     put_back(ledger, count_tag(rt, count), entry_of(rt, None))
 }
 
-// Detaches an attached link, and sends its attach again.
+// The session of an attached link is lost, and the link sends its attach again.
 pub(crate) fn reattach(rt: &(impl Abort + AllocGlobal), ledger: &mut OutcomeLedger<Target>) {
-    drop(send_detach(ledger, false));
-    drop(take_reply(ledger, detach(false)));
+    lose_session(ledger);
     set_output_handle(ledger, Some(OutputHandle(0)));
     let sent = went(send_attach(ledger, false));
     assert_holds_at(rt, sent, &"the attach is sent again");

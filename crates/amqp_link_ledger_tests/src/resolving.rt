@@ -8,9 +8,7 @@ use amqp_link_core::endpoint::dividing::attach_frame;
 use amqp_link_ledger::fate::Fate;
 use amqp_link_ledger::ledger::OutcomeLedger;
 use amqp_link_state::state::LinkState;
-use amqp_link_tests_support::calls::{
-    local_state, send_attach, send_detach, set_output_handle, take_reply,
-};
+use amqp_link_tests_support::calls::{local_state, lose_session, send_attach, set_output_handle};
 use amqp_link_tests_support::refusals::{Asked, Refusal, asked_by, at_sender};
 use amqp_link_tests_support::table::detach;
 use amqp_link_types::delivery::{DeliveryOutcome, Outcomes};
@@ -44,8 +42,7 @@ fn attach_of_count_3(rt: &(impl Abort + AllocGlobal)) -> LinkFrame {
 #[test]
 fn new_attach_resolves_all(rt: HostRuntime) {
     let mut ledger = three_sent(&rt, SenderSettleMode::Mixed);
-    drop(send_detach(&mut ledger, false));
-    drop(take_reply(&mut ledger, detach(false)));
+    lose_session(&mut ledger);
     set_output_handle(&mut ledger, Some(OutputHandle(0)));
     assert_fates(&rt, &ledger, &[Shown::Pending; 3]);
     let sent = send_attach(&mut ledger, true);

@@ -2,6 +2,7 @@
 use Rattle.std.proofs.Common.{◌≡◌, ◌∙◌, sym, ap, subst, ℕ, Bool, List, [], ◌∷◌, None, Some, Option, drop}
 use Rattle.std.specs.Prelude.{IsSomeAnd}
 use Rattle.amqp_link_types.specs.Entries.{Tag, Entries, entry_at, with_entry}
+use Rattle.amqp_link_types.specs.Frames.{performative_of}
 use Rattle.amqp_link_types.specs.declared.delivery.UnsettledMessage.{UnsettledMessage}
 use Rattle.amqp_link_types.specs.declared.frame.LinkFrame.{LinkFrame}
 use Rattle.amqp_link_types.specs.declared.types.delivery_state.DeliveryState.{DeliveryState}
@@ -57,10 +58,11 @@ can_receive w kept s rest tag id world is wire same =
     (subst (λ q. IsKeptAs (is_together w.phase) s.tag (entry_at w.ledger.link.unsettled s.tag) (entry_at w.resuming s.tag) q (entry_at w.receiver.unsettled s.tag) (frames_of s.tag w.wire) (fates_of s.tag w.ledger.records)) at (world.each s.tag)))
 
 -- the arrival is a step of the world
-pub arrives : (w : World) (kept new : Entries Kept) (after : Receiver Target) (s : OnWire) (rest : List OnWire) (id : ℕ) (tag : Tag) (place : ℕ × ℕ) (whole : Bool)
+pub arrives : (w : World) (kept new : Entries Kept) (after told : Receiver Target) (s : OnWire) (rest : List OnWire) (id : ℕ) (tag : Tag) (place : ℕ × ℕ) (whole : Bool)
     → w.deliveries ≡ progress_of kept → w.wire ≡ s ∷ rest → tag ≡ s.tag → IsReceived kept w.receiver tag id s.frame place whole new after
-    → Arrives w id tag place whole (record w { receiver = after; deliveries = progress_of new; wire = rest })
-arrives w kept new after s rest id tag place whole is wire same got =
+    → told ≡ record after { more = (performative_of s.frame).more }
+    → Arrives w id tag place whole (record w { receiver = told; deliveries = progress_of new; wire = rest })
+arrives w kept new after told s rest id tag place whole is wire same got to =
     let before : Kept = got.before in
     record {
       first = s;
@@ -71,8 +73,8 @@ arrives w kept new after s rest id tag place whole is wire same got =
       known = ap (λ m. entry_at m tag) is ∙ known_at kept tag before got.known;
       reported = got.reported;
       ends = got.ends;
-      world = (λ i. record w {
-        receiver = got.receiver i;
+      world = ap (λ r. record w { receiver = r; deliveries = progress_of new; wire = rest }) to ∙ (λ i. record w {
+        receiver = record (got.receiver i) { more = (performative_of s.frame).more };
         deliveries = (ap progress_of got.map ∙ progress_of-put kept tag (kept_after before id s.frame) ∙ ap (λ m. with_entry m tag (received before.progress id s.frame)) (sym is)) i;
         wire = rest;
       });

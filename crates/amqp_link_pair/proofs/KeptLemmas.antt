@@ -1,6 +1,6 @@
 -- What is kept of a delivery, as a call changes it.
-use Rattle.std.proofs.Common.{◌≡◌, ◌∙◌, ap, sym, subst, ℕ, Bool, List, [], ◌∷◌, ◌++◌, Some}
-use Rattle.std.specs.Prelude.{Result, Ok, Err, IfOk, IfErr, OnOk, OnErr}
+use Rattle.std.proofs.Common.{◌≡◌, ◌∙◌, ap, sym, subst, ℕ, Bool, List, [], ◌∷◌, ◌++◌, Some, None}
+use Rattle.std.specs.Prelude.{Result, Ok, Err, IfOk, IfErr, OnOk, OnErr, if◌then◌else◌}
 use Rattle.std.specs.Map.{set_value}
 use Rattle.std.specs.Str.{bytes_eq}
 use Rattle.amqp_link_payloads.specs.Position.{position}
@@ -9,17 +9,22 @@ use Rattle.amqp_link_payloads.specs.declared.message.Message.{Message}
 use Rattle.amqp_link_types.specs.Deliveries.{Delivered}
 use Rattle.amqp_link_types.specs.Entries.{Tag, Entries, entry_at, with_entry}
 use Rattle.amqp_link_types.specs.Frames.{payload_of}
+use Rattle.amqp_link_types.specs.Refusals.{refusal}
 use Rattle.amqp_link_types.specs.declared.frame.LinkFrame.{LinkFrame}
+use Rattle.amqp_link_types.specs.declared.frame.LinkFrame.TheVariants.{FirstTransfer, TransferContinuation}
 use Rattle.amqp_link_types.specs.declared.types.terminus.Target.{Target}
 use Rattle.amqp_link_types.specs.declared.types.transfer.Transfer.{Transfer}
 use Rattle.amqp_link_types.proofs.EntriesLemmas.{with_entry-present}
 use Rattle.amqp_link_types.proofs.MapLemmas.{put-twice, put-same}
 use Rattle.amqp_link_core.specs.Held.{Held}
-use Rattle.amqp_link_core.specs.Merging.{Came, Merged, opening}
+use Rattle.amqp_link_core.specs.IncompleteRefusals.{add_tests}
+use Rattle.amqp_link_core.specs.Merging.{Came, Merged, IsSilent, opening, resumed}
 use Rattle.amqp_link_receiver.specs.Receivers.{Receiver}
 use Rattle.amqp_link_worlds.proofs.CallLemmas.{fields_resumed}
-use Rattle.amqp_link_worlds.specs.Receiving.{AreNamed}
-use Rattle.amqp_link_worlds.specs.Steps.{received}
+use Rattle.amqp_link_worlds.specs.Invariants.{IsContinuing}
+use Rattle.amqp_link_worlds.specs.Receiving.{CanReceive, transfer_arriving}
+use Rattle.amqp_link_worlds.specs.Steps.{received, held_after}
+use Rattle.amqp_link_worlds.specs.Wires.{does_begin}
 use Rattle.amqp_link_worlds.specs.Worlds.{bytes_in}
 use Rattle.amqp_link_worlds.specs.declared.error.PairError.{PairError}
 use Rattle.amqp_link_worlds.specs.declared.error.PairError.TheVariants as error
@@ -40,18 +45,34 @@ module _ {V : Type 0} where
   put_back_same old mid new tag before blank known put back =
       back ∙ ap (λ m. with_entry m tag before) put ∙ put-twice old tag blank before ∙ put-same old tag before known
 
--- what is held once a first transfer has resumed it
-pub held_resumed : {A E : Type 0} (r : Result A E) (old new : Held) (t copy : Transfer) (payload bytes : List ℕ) (id : ℕ)
-    → AreNamed old.performative t → copy ≡ t → bytes ≡ payload
-    → OnOk r ((came : List Came) → Merged came old.performative → Merged (came ++ opening (record copy { delivery_id = Some id }) ∷ []) new.performative)
+-- what is held once a further transfer has arrived: a first one resumes it, a continuation changes no field
+pub held_added : {A E : Type 0} (r : Result A E) (old new : Held) (f : LinkFrame) (id : ℕ) (opens : Bool) (t : Transfer) (bytes : List ℕ)
+    → CanReceive (Some old) id f → does_begin f ≡ opens → t ≡ transfer_arriving id f → bytes ≡ payload_of f
+    → OnOk r ((came : List Came) → Merged came old.performative → Merged (came ++ record { opens = opens; transfer = t } ∷ []) new.performative)
+    → OnOk r (IsSilent t → new.performative ≡ (if opens then resumed old.performative t else old.performative))
     → OnOk r (new.pieces ≡ old.pieces ++ bytes ∷ [])
-    → OnOk r (new ≡ record { performative = record old.performative { delivery_id = Some id }; pieces = old.pieces ++ payload ∷ [] })
-held_resumed (Err e) old new t copy payload bytes id named same same_bytes merged pieces = tt
-held_resumed (Ok a) old new t copy payload bytes id named same same_bytes merged pieces =
-    let fields : new.performative ≡ record old.performative { delivery_id = Some id } =
-    fields_resumed old.performative copy new.performative id (subst (AreNamed old.performative) (sym same) named) merged in
-    let bytes_are : new.pieces ≡ old.pieces ++ payload ∷ [] = pieces ∙ ap (λ b. old.pieces ++ b ∷ []) same_bytes in
+    → OnOk r (new ≡ held_after (Some old) id f)
+held_added (Err e) old new f id opens t bytes can turn is same merged silent pieces = tt
+held_added (Ok a) old new (FirstTransfer x) id opens t bytes can turn is same merged silent pieces =
+    let came : (came : List Came) → Merged came old.performative → Merged (came ++ opening (record x.performative { delivery_id = Some id }) ∷ []) new.performative =
+    λ came has. subst (λ c. Merged (came ++ c ∷ []) new.performative) (λ i. record { opens = sym turn i; transfer = is i }) (merged came has) in
+    let fields : new.performative ≡ record old.performative { delivery_id = Some id } = fields_resumed old.performative x.performative new.performative id can.0 came in
+    let bytes_are : new.pieces ≡ old.pieces ++ x.payload ∷ [] = pieces ∙ ap (λ b. old.pieces ++ b ∷ []) same in
     λ i. record { performative = fields i; pieces = bytes_are i }
+held_added (Ok a) old new (TransferContinuation x) id opens t bytes can turn is same merged silent pieces =
+    let continuing : IsContinuing x.performative = can.0 in
+    let fields : new.performative ≡ old.performative =
+    silent (subst IsSilent (sym is) continuing.silent) ∙ ap (λ b. if b then resumed old.performative t else old.performative) (sym turn) in
+    let bytes_are : new.pieces ≡ old.pieces ++ x.payload ∷ [] = pieces ∙ ap (λ b. old.pieces ++ b ∷ []) same in
+    λ i. record { performative = fields i; pieces = bytes_are i }
+held_added (Ok a) old new _ id opens t bytes can turn is same merged silent pieces = absurd can
+
+-- no test refuses it
+pub can_add : (old : Held) (f : LinkFrame) (id : ℕ) (opens : Bool) (t : Transfer) (bytes : List ℕ) → CanReceive (Some old) id f → does_begin f ≡ opens
+    → t ≡ transfer_arriving id f → bytes ≡ payload_of f → refusal (add_tests opens old t bytes) ≡ None
+can_add old (FirstTransfer x) id opens t bytes can turn is same = (λ i. refusal (add_tests (sym turn i) old (is i) (same i))) ∙ can.1
+can_add old (TransferContinuation x) id opens t bytes can turn is same = (λ i. refusal (add_tests (sym turn i) old (is i) (same i))) ∙ can.1
+can_add old _ id opens t bytes can turn is same = absurd can
 
 -- a change of what is kept of a delivery is one of the map
 module _ (old new : Entries Kept) (tag : Tag) (before after : Kept) (r r2 : Receiver Target)

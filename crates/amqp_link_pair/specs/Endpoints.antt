@@ -6,7 +6,6 @@ use Rattle.amqp_link_types.specs.declared.frame.LinkFrame.{LinkFrame}
 use Rattle.amqp_link_types.specs.declared.frame.LinkFrame.TheVariants.{Flow}
 use Rattle.amqp_link_types.specs.declared.types.definitions.OutputHandle.{OutputHandle}
 use Rattle.amqp_link_types.specs.declared.types.terminus.Target.{Target}
-use Rattle.amqp_link_state.specs.declared.state.LinkState.{LinkState}
 use Rattle.amqp_link_state.specs.declared.state.LinkState.TheVariants as state
 use Rattle.amqp_link_core.specs.declared.resumption.ResumingDelivery.{ResumingDelivery}
 use Rattle.amqp_link_core.specs.declared.link_parts.LinkParts.{LinkParts}
@@ -95,12 +94,13 @@ pub record IsAttached (limit : ℕ) (w : World) (old : Ends) (list : Entries Res
   pub ends : IsEnds new
   pub attaches : Attaches (with_ends w old) limit (length list) (record (with_ends w new) { resuming = list })
 
--- the receiver once it is detached, and the sender in a state of its detach
-abbrev pub detached : Receiver Target → Receiver Target
-detached r = record r { local_state = state.Detached; output_handle = None }
+-- the endpoints of an attached pair once their session is lost
+abbrev pub without_session : Receiver Target → Receiver Target
+without_session r = record r { local_state = state.Detached; output_handle = None; input_handle = None; more = false }
 
-abbrev pub detached_ledger : LinkState → Ledger Target → Ledger Target
-detached_ledger state l = record l { link = record l.link { local_state = state; output_handle = None } }
+abbrev pub ledger_without_session : Ledger Target → Ledger Target
+ledger_without_session l =
+    record l { link = record l.link { local_state = state.Detached; output_handle = None; input_handle = None } }
 
 -- a frame that is a flow
 abbrev pub IsFlow : LinkFrame → Type 0

@@ -1,6 +1,7 @@
 //! Both endpoints of a pair, and how far they are attached.
 ghost use Rattle.std.specs.Prelude.{◌≡◌, IfOk};
-ghost use Rattle.amqp_link_worlds.specs.Steps.{new_world, attaches_fit as do_attaches_fit};
+ghost use Rattle.amqp_link_worlds.specs.Steps.{new_world};
+ghost use Rattle.amqp_link_worlds.specs.Steps;
 ghost use Rattle.amqp_link_worlds.specs.Worlds.{is_together};
 ghost use Rattle.amqp_link_pair.specs.Endpoints.{new_ends, phase_of, plain_parts};
 
@@ -115,7 +116,7 @@ impl Ends {
 
     /// Whether the attaches of both endpoints with all their deliveries fit a frame at this limit.
     pub(crate) fn attaches_fit(&self, limit: u32) -> Result<bool, AllocError>
-        ensures { IfOk result (λ fit. fit ≡ do_attaches_fit self.now.ledger.link self.now.receiver limit) }
+        ensures { IfOk result (λ fit. fit ≡ Steps.attaches_fit self.now.ledger.link self.now.receiver limit) }
     {
         let link = self.ledger.link();
         let count = link.flow_state().delivery_count();

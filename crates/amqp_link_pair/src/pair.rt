@@ -8,7 +8,7 @@ ghost use Rattle.std.specs.Prelude.{◌≡◌, ◌≢◌, ◌<◌, ◌≤◌, �
 ghost use Rattle.amqp_link_types.specs.Entries.{entry_at};
 ghost use Rattle.amqp_link_types.specs.Refusals.{AnswersExactly, AnswersOrOutOfMemory, AnswersThenOutOfMemory, refusal};
 ghost use Rattle.std.specs.Map.{keys_of};
-ghost use Rattle.amqp_link_sender.specs.Senders.{next_tag as tag_of_next};
+ghost use Rattle.amqp_link_sender.specs.Senders;
 ghost use Rattle.amqp_link_ledger.specs.Fates.{HandsOut, IsRecorded, after};
 ghost use Rattle.amqp_link_worlds.specs.Invariants.{IsWorld};
 ghost use Rattle.amqp_link_worlds.specs.Worlds.{Good, held_at, is_together};
@@ -20,6 +20,7 @@ mod runs;
 
 use crate::deliveries::Deliveries;
 use crate::ends::{Ends, Stage};
+use crate::receiving::take_off;
 use crate::resuming::Resuming;
 use crate::sending::{is_resumed, next_tag, put_back, resume, resumption_of, send_unsettled};
 use crate::wire::Wire;
@@ -210,7 +211,7 @@ impl Pair {
     // Why a send that ran out of memory is refused: with `TagPending` if its tag is pending, which
     // `send_next` may not have tested, otherwise with `OutOfMemory`.
     fn pending_or_out_of_memory(&self) -> PairError
-        ensures { result ≡ (if is_some (entry_at self.now.ledger.link.unsettled (tag_of_next self.now.ledger.link))
+        ensures { result ≡ (if is_some (entry_at self.now.ledger.link.unsettled (Senders.next_tag self.now.ledger.link))
             then PairError.TagPending else PairError.OutOfMemory) }
     {
         let count = self.ends.ledger.flow_state().delivery_count();
@@ -305,7 +306,10 @@ impl Pair {
             .deliveries
             .receive(&mut self.ends.receiver, self.alloc, &tag, frame, id)?;
         // From here on nothing can fail.
-        self.wire.drop_first();
+        let Some(frame) = self.wire.take_first() else {
+            unreachable!()
+        };
+        take_off(&mut self.ends.receiver, frame);
         Ok(Arrived {
             tag,
             section_number,
@@ -314,9 +318,8 @@ impl Pair {
         })
     }
 
-    /// Interrupts the link: the sender sends a detach that does not close it, the receiver takes it and
-    /// replies, and what is on the wire is lost. What the receiver holds and reports, the sender's unsettled
-    /// map and each fate stay.
+    /// Interrupts the link: both endpoints lose their session, and what is on the wire is lost. What the receiver
+    /// holds and reports, the sender's unsettled map and each fate stay.
     ///
     /// Refused in this order, with nothing changed: `NotAttached`; `StillHandedOut`, while deliveries are
     /// still to be resumed. Does not allocate. Its cost grows with what is on the wire.
@@ -437,8 +440,9 @@ impl Pair {
         self.deliveries.hand_out(&mut self.ends.receiver, tag)
     }
 
-    /// Both endpoints settle a delivery as accepted: it leaves both unsettled maps, its registration is
-    /// resolved, and what is held of it is dropped.
+    /// The receiver disposes of a delivery as accepted and settled, and that disposition arrives at the sender: the
+    /// delivery leaves both unsettled maps, its registration is resolved as accepted, and what is held of it is
+    /// dropped.
     ///
     /// Refused in this order, with nothing changed: `NotAttached`; `UnknownTag`, if nothing is held of it;
     /// `NotWhole`; `ResumeFirst`, while any delivery is still to be resumed; `OnWire`, if a transfer of it is
@@ -455,9 +459,8 @@ impl Pair {
     {
         let delivery_id = self.may_settle(tag)?;
         let info = DeliveryInfo::new(delivery_id, tag.clone()?, None);
-        let settled = self.ends.settle(&info);
+        self.ends.settle(&info);
         drop(info);
-        settled?;
         self.deliveries.remove(tag);
         Ok(())
     }

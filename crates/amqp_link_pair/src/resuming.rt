@@ -2,7 +2,7 @@
 ghost use Rattle.std.specs.Prelude.{◌≡◌, ◌∷◌, ◌<◌, [], length, drop, IfOk, IfSome, IsSome, option_map};
 ghost use Rattle.amqp_link_worlds.specs.Attachable.{list_in};
 ghost use Rattle.amqp_link_worlds.specs.Resumptions.{entry_of};
-ghost use Rattle.amqp_link_worlds.specs.Steps.{is_empty as has_none};
+ghost use Rattle.amqp_link_worlds.specs.Steps;
 ghost use Rattle.amqp_link_pair.specs.Queues.{first_element, tag_and_delivery, resuming_of};
 
 use amqp_link_core::resumption::ResumingDelivery;
@@ -66,7 +66,7 @@ impl Resuming {
     }
 
     pub(crate) fn is_empty(&self) -> bool
-        ensures { result ≡ has_none self.now.list }
+        ensures { result ≡ Steps.is_empty self.now.list }
     {
         self.deliveries.is_empty()
     }

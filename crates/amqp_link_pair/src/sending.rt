@@ -6,9 +6,11 @@ ghost use Rattle.amqp_link_types.specs.Refusals.{refusal};
 ghost use Rattle.amqp_link_types.specs.declared.delivery.UnsettledMessage.{UnsettledMessage as Message};
 ghost use Rattle.amqp_link_types.specs.declared.types.definitions.SenderSettleMode.TheVariants.{Mixed};
 ghost use Rattle.amqp_link_split.specs.Fitting.{IsFitting};
-ghost use Rattle.amqp_link_sender.specs.Senders.{IsSent, new_entry, unsettled_transfer_tests, next_tag as tag_of_next};
+ghost use Rattle.amqp_link_sender.specs.Senders.{IsSent, new_entry, unsettled_transfer_tests};
+ghost use Rattle.amqp_link_sender.specs.Senders;
 ghost use Rattle.amqp_link_worlds.specs.Callable.{CanSend};
-ghost use Rattle.amqp_link_worlds.specs.Resumptions.{entry_of, rest_of as sent_of, resumes};
+ghost use Rattle.amqp_link_worlds.specs.Resumptions.{entry_of, resumes};
+ghost use Rattle.amqp_link_worlds.specs.Resumptions;
 ghost use Rattle.amqp_link_worlds.specs.Steps.{after_registration, after_one_credit, delivery_transfer};
 ghost use Rattle.amqp_link_pair.specs.Queues.{handed_back_as, IsMadeOf};
 
@@ -29,7 +31,7 @@ pub(crate) fn next_tag(
     alloc: Global,
     ledger: &OutcomeLedger<Target>,
 ) -> Result<DeliveryTag, AllocError>
-    ensures { IfOk result (λ tag. tag ≡ tag_of_next ledger.now.link) }
+    ensures { IfOk result (λ tag. tag ≡ Senders.next_tag ledger.now.link) }
 {
     let count = ledger.flow_state().delivery_count();
     DeliveryTag::copied(alloc, count.to_be_bytes().as_slice())
@@ -49,14 +51,14 @@ pub(crate) fn send_unsettled(
     payload: &Payload,
 ) -> Result<(DeliveryTag, Vec<LinkFrame>), AllocError>
     requires { CanSend ledger.old.link }
-    ensures tag { IfOk result (λ sent. sent.0 ≡ tag_of_next ledger.old.link) }
+    ensures tag { IfOk result (λ sent. sent.0 ≡ Senders.next_tag ledger.old.link) }
     ensures framed { IfOk result (λ sent. IsSent ledger.old.link
-        (delivery_transfer (tag_of_next ledger.old.link) false) payload.now sent.1.items) }
+        (delivery_transfer (Senders.next_tag ledger.old.link) false) payload.now sent.1.items) }
     ensures fits { IfOk result (λ sent. IsFitting
-        (delivery_transfer (tag_of_next ledger.old.link) false) ledger.old.link.max_frame_size
+        (delivery_transfer (Senders.next_tag ledger.old.link) false) ledger.old.link.max_frame_size
         payload.now sent.1.items) }
     ensures done { OnOk result (ledger.new ≡ after_registration (after_one_credit ledger.old)
-        (tag_of_next ledger.old.link) (new_entry 0 payload.now)) }
+        (Senders.next_tag ledger.old.link) (new_entry 0 payload.now)) }
     ensures left { OnErr result (ledger.new ≡ ledger.old) }
 {
     match ledger.send_payload(Waiting::Nothing, payload, 0, Some(false), None, false) {
@@ -87,8 +89,8 @@ pub(crate) fn is_resumed(next: &ResumingDelivery) -> bool
 
 // The bytes that are still to be sent of a delivery.
 fn rest_of(next: &ResumingDelivery) -> Result<Payload, AllocError>
-    requires { IsSome (sent_of next.now) }
-    ensures { IfOk result (λ rest. sent_of next.now ≡ Some rest) }
+    requires { IsSome (Resumptions.rest_of next.now) }
+    ensures { IfOk result (λ rest. Resumptions.rest_of next.now ≡ Some rest) }
 {
     match next {
         ResumingDelivery::Resend(entry) => entry.payload.clone(),
@@ -123,7 +125,7 @@ pub(crate) fn resumption_of(
 ) -> Result<Resumption, AllocError>
     requires output { link.now.output_handle ≡ Some (record { 0 = 0 }) }
     requires mode { link.now.snd_settle_mode ≡ Mixed }
-    requires rest { IsSome (sent_of next.now) }
+    requires rest { IsSome (Resumptions.rest_of next.now) }
     ensures { IfOk result (λ made. IsMadeOf made tag.now next.now) }
 {
     let rest = rest_of(next)?;

@@ -63,17 +63,17 @@ impl Wire {
         Some((&batch.tag, frame))
     }
 
-    // Removes the next transfer.
-    pub(crate) fn drop_first(&mut self)
-        ensures { self.new.transfers ≡ drop 1 self.old.transfers }
+    // Removes the next transfer, and returns its frame.
+    pub(crate) fn take_first(&mut self) -> Option<LinkFrame>
+        ensures frame { result ≡ option_map (λ next. next.frame) (first_element self.old.transfers) }
+        ensures rest { self.new.transfers ≡ drop 1 self.old.transfers }
     {
-        let Some(mut batch) = self.batches.pop_front() else {
-            return;
-        };
-        drop(batch.frames.pop_front());
+        let mut batch = self.batches.pop_front()?;
+        let frame = batch.frames.pop_front();
         if !batch.frames.is_empty() {
             self.batches.push_front_reserved(batch);
         }
+        frame
     }
 
     // Makes room for one more delivery.

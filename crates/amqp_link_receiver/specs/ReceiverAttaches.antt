@@ -13,6 +13,7 @@ use Rattle.amqp_link_types.specs.declared.types.terminus.Source.{Source}
 use Rattle.amqp_link_core.specs.AttachFields.{smaller_limit, merged_properties, merging_allocates, is_foreign, next_of}
 use Rattle.amqp_link_core.specs.Attaching.{States}
 use Rattle.amqp_link_core.specs.AttachTests.{Tests, refused_if, verified, first_of, first_refusal, left_after, left_after_is}
+use Rattle.amqp_link_core.specs.LinkStates.{state_without_session}
 use Rattle.amqp_link_core.specs.Targets.{target_of}
 use Rattle.amqp_link_core.specs.Shown.{Shown, with_terms_of}
 use Rattle.amqp_link_receiver.specs.declared.receiver_link.attach.ReceiverAttachExchange.{ReceiverAttachExchange}
@@ -67,6 +68,15 @@ module _ {T : Type 0} where
     unsettled = r.unsettled;
     entries = r.unsettled;
     ended = [];
+  }
+
+  -- the receiver after its session is lost: without handles, and no delivery under way
+  abbrev pub receiver_lost : Receiver T → Receiver T
+  receiver_lost r = record r {
+    local_state = state_without_session r.local_state;
+    output_handle = None;
+    input_handle = None;
+    more = false;
   }
 
   -- ---- the attach that arrives

@@ -33,23 +33,27 @@ use std::marker::Model;
 /// - **Attach**: `send_attach` makes the attach to send, `on_incoming_attach` takes the peer's, in either order.
 ///   It returns `Complete` if the sender's attach states no unsettled delivery. Otherwise it returns `Resume`:
 ///   the sender resumes deliveries; or `IncompleteUnsettled`, if an attach did not state all of them: the sender
-///   resumes those that were stated; then detach and attach again. If the attach is refused,
-///   `handle_attach_error` makes the detach to send.
+///   resumes those that were stated, and then the link is attached anew until an exchange is complete (see
+///   **Detach**). If the attach is refused, `handle_attach_error` makes the detach to send.
 /// - **Grant credit**: `send_flow` sets the link-credit and makes the flow to send. `on_incoming_flow` takes the
 ///   sender's, and returns the flow to send back, if there is one.
-/// - **Take in**: `on_incoming_transfer` takes a transfer from the session and returns the frame for the
-///   link's user. The user keeps an `IncompleteTransfer` while `more` is set, and reports the position of
-///   what it holds by `on_incomplete_transfer`; with the last transfer `on_complete_transfer` returns the
-///   delivery and spends a credit. `on_transfer_state` takes the state that a transfer carries.
+/// - **Take in**: `begins_delivery` says whether the next transfer begins a delivery in this attachment.
+///   `on_incoming_transfer` takes the transfer from the session and returns the frame for the link's user. The
+///   user keeps an `IncompleteTransfer`, to which `try_add` adds each further transfer, and reports the
+///   position of what it holds by `on_incomplete_transfer`; with the last transfer `on_complete_transfer`
+///   returns the delivery and spends a credit. `on_transfer_state` takes the state that a transfer carries.
 ///   `on_incoming_disposition` takes the sender's disposition, and returns nothing to send.
 /// - **Settle**: `dispose` and `dispose_all` make the dispositions to send.
 /// - **Detach**: `on_incoming_detach` returns the detach to reply with; call `apply_remote_detach_outcome`
 ///   afterwards, which moves the state. `send_detach` makes a detach to send, `on_detach_reply` takes the
-///   peer's reply. To attach again, set the handle that the session gives by `output_handle_mut`, and call
+///   peer's reply. After an incomplete exchange `send_detach` has no transition: send the frame of
+///   `endpoint::detach_frame`, which moves no state, and give the peer's reply to
+///   `apply_remote_detach_outcome`. If the session or the connection is lost, call `on_session_lost`: nothing
+///   is sent. To attach again, set the handle that the session gives by `output_handle_mut`, and call
 ///   `send_attach`.
-/// - **Look**: `local_state`, `name`, `flow_state`, `unsettled`, `output_handle`, `input_handle`, the modes,
-///   `max_message_size`, `properties` (which `properties_mut` changes), and `complete_attach_fits`, which
-///   measures an attach.
+/// - **Look**: `local_state`, `name`, `flow_state`, `unsettled`, `unsettled_map`, `output_handle`,
+///   `input_handle`, the modes, `max_message_size`, `properties` (which `properties_mut` changes), and
+///   `complete_attach_fits`, which measures an attach.
 ///
 /// A contract sees its state, name, modes, termini, limits, capabilities, handles, flow state, the list of
 /// its unsettled deliveries, whether it verifies the peer's termini, and whether the last transfer that has

@@ -9,7 +9,9 @@ use amqp_link_tests_support::calls::{
     local_state, send_attach, send_detach, set_output_handle, take_attach, take_reply,
 };
 use amqp_link_tests_support::links::went;
-use amqp_link_tests_support::table::{Call, STATES, detach, wanted};
+use amqp_link_tests_support::table::{
+    Call, STATES, WITHOUT_SESSION, detach, wanted, without_session,
+};
 use amqp_link_types::delivery::Outcomes;
 use amqp_link_types::frame::LinkFrame;
 use amqp_link_types::types::{OutputHandle, ReceiverAttachError, SenderSettleMode, Target};
@@ -143,6 +145,14 @@ fn each_call_goes_by_the_table(rt: HostRuntime) {
         assert_line(&rt, Call::SendDetach(flag));
         assert_line(&rt, Call::DetachReply(flag));
         assert_line(&rt, Call::RemoteDetach(flag));
+    }
+}
+
+#[test]
+fn lost_session_leads_where_a_detach_does(rt: HostRuntime) {
+    for (state, wanted) in STATES.iter().zip(WITHOUT_SESSION.iter()) {
+        let actual = without_session(link_in(&rt, *state, 512));
+        assert_equal_at(&rt, &actual, wanted, state);
     }
 }
 

@@ -1,5 +1,5 @@
 -- The attach that a sender sends, and the one that it takes (OASIS AMQP 1.0 core, 2.6.3 and 2.7.3).
-use Rattle.std.specs.Prelude.{◌≡◌, ℕ, Bool, true, false, List, [], ◌∷◌, ◌==◌, ◌&&◌, ◌||◌, not, length, map, Option, Some, is_some, is_none, option_map, unwrap_or, if◌then◌else◌, Err, refl}
+use Rattle.std.specs.Prelude.{◌≡◌, ℕ, Bool, true, false, List, [], ◌∷◌, ◌==◌, ◌&&◌, ◌||◌, not, length, map, Option, Some, None, is_some, is_none, option_map, unwrap_or, if◌then◌else◌, Err, refl}
 use Rattle.std.specs.Option.{option_or}
 use Rattle.amqp_link_types.specs.declared.delivery.UnsettledMessage.{UnsettledMessage}
 use Rattle.amqp_link_state.specs.declared.state.LinkState.{LinkState}
@@ -23,6 +23,7 @@ use Rattle.amqp_link_core.specs.declared.resumption.ResumingDelivery.{ResumingDe
 use Rattle.amqp_link_exchange.specs.Exchanges.{deliveries_to_resume}
 use Rattle.amqp_link_exchange.specs.Plans.{IsPlanOf}
 use Rattle.amqp_link_core.specs.Shown.{Shown, stated_count, with_terms_of}
+use Rattle.amqp_link_core.specs.LinkStates.{state_without_session}
 use Rattle.amqp_link_core.specs.Targets.{target_of}
 use Rattle.amqp_link_sender.specs.declared.sender_link.incoming.AttachPlan.{AttachPlan}
 use Rattle.amqp_link_sender.specs.declared.sender_link.incoming.SenderAttachExchange.{SenderAttachExchange}
@@ -81,6 +82,14 @@ module _ {T : Type 0} where
     unsettled = s.unsettled;
     entries = states_of s.unsettled;
     ended = all_illegal s.unsettled;
+  }
+
+  -- the sender after its session is lost: without handles
+  abbrev pub sender_lost : Sender T → Sender T
+  sender_lost s = record s {
+    local_state = state_without_session s.local_state;
+    output_handle = None;
+    input_handle = None;
   }
 
   -- ---- the attach that is sent

@@ -160,7 +160,7 @@ SendsOrLacksCredit old d payload (sending.Sent settlement frames) new =
     IsSomeAnd old.output_handle (λ handle. SendsPayload old handle d payload settlement frames.items new)
 SendsOrLacksCredit old d payload sending.CreditMissing new = new ≡ old
 
--- the frames of a sent payload fit the frame limit, and are as few as it allows
+-- the frames of a sent payload fit the frame limit, and are as few as the payload limit allows
 abbrev pub SendsFitting : {T : Type 0} → Sender T → Delivery → List ℕ → Sending → Type 0
 SendsFitting old d payload (sending.Sent settlement frames) = IsSomeAnd old.output_handle (λ handle.
     IsFitting (new_transfer old handle (next_tag old) d) old.max_frame_size payload frames.items)

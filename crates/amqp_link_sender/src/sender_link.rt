@@ -3,7 +3,8 @@
 //! A new link is attached first, then the receiver grants credit, then payloads are sent, one credit for each
 //! delivery. The caller sends the frames that a call returns in their order.
 ghost use Rattle.std.specs.Prelude.{◌≡◌, ◌<◌, [], length, true, None, Some, IfOk, IsSomeAnd, OnOk, OnErr, MatchOption, is_none};
-ghost use Rattle.amqp_link_split.specs.Room.{has_room, payload_limit as limit_of_payload};
+ghost use Rattle.amqp_link_split.specs.Room.{has_room};
+ghost use Rattle.amqp_link_split.specs.Room;
 ghost use Rattle.amqp_link_split.specs.Fitting.{IsFitting};
 
 mod attach;
@@ -77,8 +78,10 @@ pub struct DispositionAnswer {
 ///   `on_incoming_attach` returns how to continue with the unsettled deliveries. `Complete`: nothing to do.
 ///   `Resume`: for each listed delivery, in order, do what its kind asks for: `send_unsettled_transfer`
 ///   resumes it, with the transfer of `generate_resuming_transfer_performative`; `put_back` keeps it for a
-///   later attach. `IncompleteUnsettled`: the same, then detach and attach again, for the deliveries that an
-///   attach did not state. If the attach is refused, `handle_attach_error` makes the detach to send.
+///   later attach. `IncompleteUnsettled`: the same, and then the link is attached anew until an exchange is
+///   complete (see **Detach**). The list has every own delivery then, too; one that the receiver's incomplete
+///   attach does not state is listed as `Resend`, though the receiver may hold a part of it: `put_back` keeps
+///   it. If the attach is refused, `handle_attach_error` makes the detach to send.
 /// - **Take in**: `on_incoming_flow` takes the receiver's flow, and returns the flow to send back, if there
 ///   is one. `on_incoming_disposition` may resolve a delivery; if `echo` is set, send the disposition of
 ///   `dispose`. `on_incoming_detach` returns the detach to reply with, and the outcome of each pending
@@ -91,8 +94,11 @@ pub struct DispositionAnswer {
 /// - **Settle**: `dispose` and `batch_dispose` make dispositions; `withdraw` removes a delivery from the
 ///   unsettled map before it has an outcome; `fail_pending_unsettled` resolves all, as a detach that closes
 ///   the link does.
-/// - **Detach**: `send_detach` makes the detach to send, `on_detach_reply` takes the peer's reply. To attach
-///   again, set the handle that the session gives by `output_handle_mut`, and call `send_attach`.
+/// - **Detach**: `send_detach` makes the detach to send, `on_detach_reply` takes the peer's reply. After an
+///   incomplete exchange `send_detach` has no transition: send the frame of `endpoint::detach_frame`, which
+///   moves no state, and give the peer's reply to `apply_remote_detach_outcome`. If the session or the
+///   connection is lost, call `on_session_lost`: nothing is sent. To attach again, set the handle that the
+///   session gives by `output_handle_mut`, and call `send_attach`.
 /// - **Look**: `local_state`, `name`, `flow_state`, `unsettled`, `unsettled_map`, `output_handle`,
 ///   `input_handle`, the modes, `max_message_size`, `properties` (which `properties_mut` changes),
 ///   `is_settled_on_send`, and `complete_attach_fits`, which measures an attach.
@@ -294,8 +300,9 @@ impl<T: LinkTarget> SenderLink<T> {
         }
     }
 
-    /// Sends a payload as a new delivery, for one credit, in the fewest frames that fit the frame limit
-    /// (2.7.5). The delivery-tag is the delivery-count before the send, as four bytes. Whether the delivery
+    /// Sends a payload as a new delivery, for one credit, in frames that fit the frame limit (2.7.5): one if its
+    /// transfer fits alone, else the fewest pieces of the payload limit, which is measured at the longest
+    /// transfer. The delivery-tag is the delivery-count before the send, as four bytes. Whether the delivery
     /// is settled is decided as in `generate_non_resuming_transfer_performative`. An unsettled delivery is
     /// registered with its whole payload until it is settled. The payload is cut without copying its bytes.
     ///
@@ -462,7 +469,7 @@ impl<T: LinkTarget> SenderLink<T> {
         tag: &[u8],
         payload: &Payload,
     ) -> Result<usize, LinkStateError>
-        ensures limit { IfOk result (λ limit. limit ≡ limit_of_payload
+        ensures limit { IfOk result (λ limit. limit ≡ Room.payload_limit
             (record transfer.old { delivery_tag = Some tag.now }) self.now.max_frame_size) }
         ensures some { IfOk result (λ limit. 0 < length payload.now → 0 < limit) }
         ensures refused { AnswersExactly result (delivery_tests self.now
@@ -489,7 +496,7 @@ impl<T: LinkTarget> SenderLink<T> {
     ) -> Result<(Settlement, Vec<LinkFrame>), AllocError>
         requires handle { self.old.input_handle ≡ Some input_handle }
         requires room { has_room transfer self.old.max_frame_size payload.now ≡ true }
-        requires limit { limit ≡ limit_of_payload transfer self.old.max_frame_size }
+        requires limit { limit ≡ Room.payload_limit transfer self.old.max_frame_size }
         requires some { 0 < length payload.now → 0 < limit }
         ensures sent { IfOk result (λ sent.
             SendsTransfer self.old message_format transfer tag payload.now sent.0 sent.1.items self.new) }
@@ -600,7 +607,7 @@ impl<T: LinkTarget> SenderLink<T> {
         ensures handle { IfOk result (λ sent. self.now.input_handle ≡ Some sent.0) }
         ensures tag { IfOk result (λ sent. transfer.old.delivery_tag ≡ Some sent.1) }
         ensures limit { IfOk result (λ sent.
-            sent.2 ≡ limit_of_payload transfer.old self.now.max_frame_size) }
+            sent.2 ≡ Room.payload_limit transfer.old self.now.max_frame_size) }
         ensures some { IfOk result (λ sent. 0 < length payload.now → 0 < sent.2) }
         ensures refused { AnswersThenOutOfMemory LinkStateError.OutOfMemory result
             (tagged_transfer_tests self.now transfer.old payload.now) }

@@ -7,7 +7,8 @@ use amqp_link_sender::SenderLink;
 use amqp_link_state::state::LinkState;
 use amqp_link_tests_support::calls::{local_state, send_detach, set_output_handle, take_reply};
 use amqp_link_tests_support::table::{
-    Call, STATES, answered, attached, detach, detach_by, is_illegal, left, taken, wanted,
+    Call, STATES, WITHOUT_SESSION, answered, attached, detach, detach_by, is_illegal, left, taken,
+    wanted, without_session,
 };
 use amqp_link_types::types::{OutputHandle, Target};
 use std::process::Abort;
@@ -64,6 +65,14 @@ const CALLS: &[Call] = &[
 fn calls_lead_where_the_table_says(rt: HostRuntime) {
     for call in CALLS {
         assert_line(&rt, *call);
+    }
+}
+
+#[test]
+fn lost_session_leads_where_a_detach_does(rt: HostRuntime) {
+    for (state, wanted) in STATES.iter().zip(WITHOUT_SESSION.iter()) {
+        let actual = without_session(link_in(&rt, *state, 512));
+        assert_equal_at(&rt, &actual, wanted, state);
     }
 }
 

@@ -20,7 +20,7 @@ pub fn split_pieces_are_the_payload()
 {}
 
 /// The frames of a transfer for which a frame has room fit the frame limit, if their payloads are a split at the
-/// payload limit, and no fewer frames have room for the payload (2.3, 2.7.5).
+/// payload limit, and no fewer pieces of the payload limit are the payload (2.3, 2.7.5).
 pub fn frames_of_a_split_fit()
     ensures { (handle : TheHandle) (transfer : TheTransfer) (limit : ℕ) (payload : List ℕ) (frames : List TheFrame)
         → has_room transfer limit payload ≡ true

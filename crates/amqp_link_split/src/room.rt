@@ -1,14 +1,15 @@
 //! The room that a frame has for a payload (2.3 and 2.7.5).
 ghost use Rattle.std.specs.Prelude.{◌≡◌, ◌<◌, ◌+◌, ◌-◌, length, min, nat_le, Some, IfSome, IfNone, true, false};
 ghost use Rattle.amqp_link_values.specs.Length.{IsU64Of};
-ghost use Rattle.amqp_link_split.specs.Room.{worst as worst_length, has_room, payload_limit as limit_of_payload};
+ghost use Rattle.amqp_link_split.specs.Room.{has_room};
+ghost use Rattle.amqp_link_split.specs.Room;
 
 use amqp_link_types::types::{Payload, Transfer};
 use amqp_link_values::length::EncodedLen;
 
 // The length of a transfer at its longest. The transfer stays as it is.
 fn worst(transfer: &mut Transfer) -> Option<u64>
-    ensures value { IsU64Of (worst_length transfer.old) result }
+    ensures value { IsU64Of (Room.worst transfer.old) result }
     ensures same { transfer.new ≡ transfer.old }
 {
     let delivery_id = transfer.delivery_id;
@@ -24,7 +25,7 @@ fn worst(transfer: &mut Transfer) -> Option<u64>
 // The length of a transfer at its longest, with a tag of these bytes in place of its own. The transfer stays
 // as it is.
 fn worst_with_tag(transfer: &mut Transfer, tag: &[u8]) -> Option<u64>
-    ensures value { IsU64Of (worst_length (record transfer.old { delivery_tag = Some tag.now })) result }
+    ensures value { IsU64Of (Room.worst (record transfer.old { delivery_tag = Some tag.now })) result }
     ensures same { transfer.new ≡ transfer.old }
 {
     let delivery_id = transfer.delivery_id;
@@ -44,7 +45,7 @@ pub fn payload_limit(
     payload: &Payload,
 ) -> Option<usize>
     ensures room { IfSome result (λ limit. has_room transfer.old max_frame_size payload.now ≡ true) }
-    ensures limit { IfSome result (λ limit. limit ≡ limit_of_payload transfer.old max_frame_size) }
+    ensures limit { IfSome result (λ limit. limit ≡ Room.payload_limit transfer.old max_frame_size) }
     ensures some { IfSome result (λ limit. 0 < length payload.now → 0 < limit) }
     ensures none { IfNone result (has_room transfer.old max_frame_size payload.now ≡ false) }
     ensures same { transfer.new ≡ transfer.old }
@@ -62,7 +63,7 @@ pub fn payload_limit_with_tag(
     ensures room { IfSome result (λ limit.
         has_room (record transfer.old { delivery_tag = Some tag.now }) max_frame_size payload.now ≡ true) }
     ensures limit { IfSome result (λ limit.
-        limit ≡ limit_of_payload (record transfer.old { delivery_tag = Some tag.now }) max_frame_size) }
+        limit ≡ Room.payload_limit (record transfer.old { delivery_tag = Some tag.now }) max_frame_size) }
     ensures some { IfSome result (λ limit. 0 < length payload.now → 0 < limit) }
     ensures none { IfNone result
         (has_room (record transfer.old { delivery_tag = Some tag.now }) max_frame_size payload.now ≡ false) }

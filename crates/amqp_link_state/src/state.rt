@@ -37,6 +37,7 @@ pub const DEFAULT_CREDIT: u32 = 200;
 ///     Detached: as Unattached.       DetachSent: an attach may be sent as from Unattached.
 ///     Any state but Unattached, Detached and Closed, as the peer initiates a detach:
 ///     ---> Detached, or Closed where that detach closes.
+///     The same states, as the session is lost: ---> Detached.
 /// ```
 ///
 /// An attach whose unsettled map is incomplete leads to the state of the same name with `Incomplete` in

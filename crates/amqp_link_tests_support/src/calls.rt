@@ -40,3 +40,8 @@ pub fn send_detach<L: LinkDetach>(link: &mut L, closed: bool) -> Result<LinkFram
 pub fn take_reply<L: LinkDetach>(link: &mut L, detach: Detach) -> Result<(), L::DetachError> {
     link.on_detach_reply(detach)
 }
+
+/// The session of a link is lost.
+pub fn lose_session<L: LinkDetach>(link: &mut L) {
+    link.on_session_lost();
+}

@@ -70,6 +70,22 @@ pub fn wanted(call: Call, place: usize) -> (bool, LinkState) {
     }
 }
 
+/// The states once the session is lost, by the states in the order above: as after a detach of the peer's that does
+/// not close the link.
+pub const WITHOUT_SESSION: [LinkState; 11] = [
+    LinkState::Unattached,
+    LinkState::Detached,
+    LinkState::Detached,
+    LinkState::Detached,
+    LinkState::Detached,
+    LinkState::Detached,
+    LinkState::Detached,
+    LinkState::Detached,
+    LinkState::Detached,
+    LinkState::Detached,
+    LinkState::Closed,
+];
+
 pub fn detach(closed: bool) -> Detach {
     Detach {
         handle: Handle(0),
@@ -105,6 +121,14 @@ pub fn answered<L: LinkExt + Drop>(mut link: L, closed: bool) -> (bool, LinkStat
 pub fn left<L: LinkExt + Drop>(mut link: L, closed: bool) -> (bool, LinkState) {
     let goes = went(link.apply_remote_detach_outcome(detach(closed)));
     ended(link, goes)
+}
+
+/// The state of a link once its session is lost. The link is dropped.
+pub fn without_session<L: LinkExt + Drop>(mut link: L) -> LinkState {
+    link.on_session_lost();
+    let state = *link.local_state();
+    drop(link);
+    state
 }
 
 fn ended<L: LinkExt + Drop>(link: L, goes: bool) -> (bool, LinkState) {

@@ -1,5 +1,5 @@
 -- Puts and look-ups of maps from tags.
-use Rattle.std.proofs.Common.{◌≡◌, ◌≢◌, ◌∙◌, sym, ap, subst, Bool, true, false, cond, [], ◌∷◌, ◌++◌, refl, ℕ, suc, ◌+◌, ◌-◌, ◌||◌, List, map, Option, Some, None, not, nat_lt, length, take, position, arith, length-append, slice_set, slice_index_or}
+use Rattle.std.proofs.Common.{◌≡◌, ◌≢◌, ◌∙◌, sym, ap, subst, Bool, true, false, cond, [], ◌∷◌, ◌++◌, refl, ℕ, suc, ◌+◌, ◌-◌, ◌||◌, List, Option, Some, None, not, nat_lt, length, take, position, arith, length-append, slice_set, slice_index_or}
 use Rattle.std.specs.Prelude.{bytes_eq}
 use Rattle.std.specs.List.{position_or_len, list_any}
 use Rattle.std.proofs.lemmas.List.Folds.{list_any-append}

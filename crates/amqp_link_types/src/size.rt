@@ -6,10 +6,11 @@
 
 ghost use Rattle.std.specs.Prelude.{Some, option_map};
 ghost use Rattle.amqp_link_values.specs.Length.{IsU64Of};
-ghost use Rattle.amqp_link_types.specs.Size.{before as slot, list_of, flag};
+ghost use Rattle.amqp_link_types.specs.Size.{list_of, flag};
+ghost use Rattle.amqp_link_types.specs.Size;
 ghost use Rattle.amqp_link_types.specs.Size.{mode_len, error_len, state_len};
-ghost use Rattle.amqp_link_types.specs.Size.{rejected_len as rejected_length, transfer_len, len_after_tag, len_from_tag};
-ghost use Rattle.amqp_link_types.specs.Size.{modified_len as modified_length, outcome_len};
+ghost use Rattle.amqp_link_types.specs.Size.{transfer_len, len_after_tag, len_from_tag};
+ghost use Rattle.amqp_link_types.specs.Size.{outcome_len};
 
 mod attach;
 mod terminus;
@@ -24,7 +25,7 @@ use amqp_link_values::length::value::{compound_len, text_len};
 // A field before others that take `rest` bytes; none is a null.
 #[tactic(auto, unfolding(crate::specs::Size::before))]
 pub(crate) fn before(len: Option<u64>, rest: u64) -> Option<u64>
-    ensures { IsU64Of (slot len rest) result }
+    ensures { IsU64Of (Size.before len rest) result }
 {
     match len {
         Some(len) => rest.checked_add(len),
@@ -35,14 +36,14 @@ pub(crate) fn before(len: Option<u64>, rest: u64) -> Option<u64>
 
 // A field that is there.
 pub(crate) fn before_given<V: EncodedLen>(value: &V, rest: u64) -> Option<u64>
-    ensures { IsU64Of (slot (Some (V.len_of value.now)) rest) result }
+    ensures { IsU64Of (Size.before (Some (V.len_of value.now)) rest) result }
 {
     before(Some(value.encoded_len()?), rest)
 }
 
 // A field that may be absent.
 pub(crate) fn before_optional<V: EncodedLen>(value: &Option<V>, rest: u64) -> Option<u64>
-    ensures { IsU64Of (slot (option_map V.len_of value.now) rest) result }
+    ensures { IsU64Of (Size.before (option_map V.len_of value.now) rest) result }
 {
     match value {
         Some(value) => before_given(value, rest),
@@ -52,7 +53,7 @@ pub(crate) fn before_optional<V: EncodedLen>(value: &Option<V>, rest: u64) -> Op
 
 // A flag whose default is false.
 pub(crate) fn before_flag(set: bool, rest: u64) -> Option<u64>
-    ensures { IsU64Of (slot (flag set) rest) result }
+    ensures { IsU64Of (Size.before (flag set) rest) result }
 {
     if set {
         before(Some(1), rest)
@@ -97,7 +98,7 @@ impl EncodedLen for Error {
 }
 
 fn rejected_len(error: &Option<Boxed<Error>>) -> Option<u64>
-    ensures { IsU64Of (rejected_length error.now) result }
+    ensures { IsU64Of (Size.rejected_len error.now) result }
 {
     described(before_optional(error, 0)?)
 }
@@ -107,7 +108,7 @@ fn modified_len(
     undeliverable: &Option<bool>,
     annotations: &Option<Boxed<Fields>>,
 ) -> Option<u64>
-    ensures { IsU64Of (modified_length failed.now undeliverable.now annotations.now) result }
+    ensures { IsU64Of (Size.modified_len failed.now undeliverable.now annotations.now) result }
 {
     let rest = before_optional(annotations, 0)?;
     let rest = before_optional(undeliverable, rest)?;

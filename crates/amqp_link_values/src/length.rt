@@ -1,7 +1,8 @@
 //! How many bytes a value takes in its shortest code (1.6).
 ghost use Rattle.std.specs.Prelude.{ℕ};
 ghost use Rattle.amqp_link_values.specs.Length.{IsU64Of, bool_len, uint_len, ulong_len, bytes_len};
-ghost use Rattle.amqp_link_values.specs.Length.{fields_len, array_len as array_length};
+ghost use Rattle.amqp_link_values.specs.Length.{fields_len};
+ghost use Rattle.amqp_link_values.specs.Length;
 
 pub mod value;
 
@@ -99,7 +100,7 @@ impl EncodedLen for Fields {
 }
 
 impl EncodedLen for Symbols {
-    ghost len_of = { array_length };
+    ghost len_of = { Length.array_len };
 
     fn encoded_len(&self) -> Option<u64> {
         array_len(self.as_slice())

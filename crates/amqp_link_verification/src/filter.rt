@@ -1,6 +1,7 @@
 //! The filters of a source (3.5.8): those that a receiver asks for have to be in place.
 ghost use Rattle.std.specs.Prelude.{◌≡◌, ◌≢◌, ◌⊎◌, not, [], OnOk, IfOk, OnErr, IfErr};
-ghost use Rattle.amqp_link_verification.specs.Filters.{is_in_place as does_stand, names_missing, filters_missing};
+ghost use Rattle.amqp_link_verification.specs.Filters.{names_missing, filters_missing};
+ghost use Rattle.amqp_link_verification.specs.Filters;
 
 use amqp_link_types::types::errors::ReceiverAttachError;
 use amqp_link_values::fields::{Fields, FilterSet};
@@ -83,7 +84,7 @@ fn missing_names(desired: &Fields, supported: &Option<Fields>) -> Result<Vec<Sym
 }
 
 fn is_in_place(supported: &Option<Fields>, name: &Symbol) -> bool
-    ensures { result ≡ does_stand supported.now name.now }
+    ensures { result ≡ Filters.is_in_place supported.now name.now }
 {
     let Some(filters) = supported else {
         return false;

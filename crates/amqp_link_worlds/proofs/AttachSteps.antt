@@ -30,7 +30,7 @@ use Rattle.amqp_link_worlds.specs.Steps.{zero_output, new_sender, new_receiver, 
 use Rattle.amqp_link_worlds.specs.Worlds.{World, Phase, Apart, Halfway, Together, is_together}
 use Rattle.amqp_link_worlds.specs.declared.error.PairError.TheVariants as error
 use Rattle.amqp_link_worlds.proofs.DeliveryLemmas.{none_of_three}
-use Rattle.amqp_link_worlds.proofs.WorldLemmas.{none_hold, not_is_false}
+use Rattle.amqp_link_worlds.proofs.WorldLemmas.{none_hold, not_is_false, idle_more}
 
 -- ---- plain endpoints, by what differs
 
@@ -44,21 +44,22 @@ made_sender st output input initial count credit frame unsettled = let plain = n
   unsettled = unsettled;
 }
 
-abbrev made_receiver : LinkState → Option OutputHandle → Option InputHandle → ℕ → ℕ → ℕ → ℕ → States → Receiver Target
-made_receiver st output input initial count credit frame unsettled = let plain = new_receiver 0 in record plain {
+abbrev made_receiver : LinkState → Option OutputHandle → Option InputHandle → ℕ → ℕ → ℕ → ℕ → States → Bool → Receiver Target
+made_receiver st output input initial count credit frame unsettled more = let plain = new_receiver 0 in record plain {
   local_state = st;
   output_handle = output;
   input_handle = input;
   flow_state = record plain.flow_state { initial_delivery_count = initial; delivery_count = count; link_credit = credit };
   max_frame_size = frame;
   unsettled = unsettled;
+  more = more;
 }
 
 abbrev plain_sender : Sender Target → Sender Target
 plain_sender s = made_sender s.local_state s.output_handle s.input_handle s.flow_state.initial_delivery_count s.flow_state.delivery_count s.flow_state.link_credit s.max_frame_size s.unsettled
 
 abbrev plain_receiver : LinkState → Receiver Target → Receiver Target
-plain_receiver st r = made_receiver st r.output_handle r.input_handle r.flow_state.initial_delivery_count r.flow_state.delivery_count r.flow_state.link_credit r.max_frame_size r.unsettled
+plain_receiver st r = made_receiver st r.output_handle r.input_handle r.flow_state.initial_delivery_count r.flow_state.delivery_count r.flow_state.link_credit r.max_frame_size r.unsettled r.more
 
 -- ---- the attaches fit
 
@@ -122,13 +123,13 @@ module _ (limit : ℕ) (s : Sender Target) (r : Receiver Target) (ends : AreApar
 
 -- ---- the receiver takes it
 
-module _ (limit : ℕ) (output : Option OutputHandle) (input : Option InputHandle) (initial count credit frame : ℕ) (unsettled : States)
+module _ (limit : ℕ) (output : Option OutputHandle) (input : Option InputHandle) (initial count credit frame : ℕ) (unsettled : States) (more : Bool)
     (st : LinkState) (soutput : Option OutputHandle) (sinput : Option InputHandle) (sinitial scount scredit sframe : ℕ) (map : Entries UnsettledMessage) where
   abbrev from_sender : Sender Target
   from_sender = made_sender st soutput sinput sinitial scount scredit sframe map
 
   abbrev to_receiver : LinkState → Receiver Target
-  to_receiver at = made_receiver at output input initial count credit frame unsettled
+  to_receiver at = made_receiver at output input initial count credit frame unsettled more
 
   takes_made : (at : LinkState) → (at ≡ state.Unattached) ⊎ (at ≡ state.Detached) → CanTakeAsked limit from_sender (to_receiver at)
   takes_made at which = elim (which) [
@@ -140,7 +141,7 @@ pub can_take_asked : (limit : ℕ) (s : Sender Target) (r : Receiver Target) →
 can_take_asked limit s r plain_s plain_r which =
     subst (λ s. CanTakeAsked limit s r) (sym plain_s)
     (subst (λ r. CanTakeAsked limit (plain_sender s) r) (sym plain_r)
-    (takes_made limit r.output_handle r.input_handle r.flow_state.initial_delivery_count r.flow_state.delivery_count r.flow_state.link_credit r.max_frame_size r.unsettled
+    (takes_made limit r.output_handle r.input_handle r.flow_state.initial_delivery_count r.flow_state.delivery_count r.flow_state.link_credit r.max_frame_size r.unsettled r.more
     s.local_state s.output_handle s.input_handle s.flow_state.initial_delivery_count s.flow_state.delivery_count s.flow_state.link_credit s.max_frame_size s.unsettled
     r.local_state which))
 
@@ -184,13 +185,13 @@ list_read [] [] = refl
 list_read [] (r ∷ remote) = ap (λ b. list_in (cond b exchange.Complete (exchange.Resume (deliveries_to_resume [] (r ∷ remote))))) (some_items (length remote))
 list_read (e ∷ own) remote = ap (λ b. list_in (cond (b && length remote == 0) exchange.Complete (exchange.Resume (deliveries_to_resume (e ∷ own) remote)))) (some_items (length own))
 
-module _ (limit stated : ℕ) (output : Option OutputHandle) (input : Option InputHandle) (initial count credit frame : ℕ) (unsettled : States)
+module _ (limit stated : ℕ) (output : Option OutputHandle) (input : Option InputHandle) (initial count credit frame : ℕ) (unsettled : States) (more : Bool)
     (at st : LinkState) (soutput : Option OutputHandle) (sinput : Option InputHandle) (sinitial scount scredit sframe : ℕ) (map : Entries UnsettledMessage) where
-  takes_answer_made : CanTakeAnswered limit stated (made_sender st soutput sinput sinitial scount scredit sframe map) (made_receiver at output input initial count credit frame unsettled)
+  takes_answer_made : CanTakeAnswered limit stated (made_sender st soutput sinput sinitial scount scredit sframe map) (made_receiver at output input initial count credit frame unsettled more)
   takes_answer_made = record {
     allowed = refl;
     after = refl;
-    remote = entries_read (counted_attach (receiver_shown archetype.Target (made_receiver at output input initial count credit frame unsettled)) stated zero_output) unsettled;
+    remote = entries_read (counted_attach (receiver_shown archetype.Target (made_receiver at output input initial count credit frame unsettled more)) stated zero_output) unsettled;
     list = list_read map unsettled;
   }
 
@@ -198,7 +199,7 @@ pub can_take_answered : (limit count : ℕ) (s : Sender Target) (r : Receiver Ta
 can_take_answered limit count s r plain_s plain_r =
     subst (λ s. CanTakeAnswered limit count s r) (sym plain_s)
     (subst (λ r. CanTakeAnswered limit count (plain_sender s) r) (sym plain_r)
-    (takes_answer_made limit count r.output_handle r.input_handle r.flow_state.initial_delivery_count r.flow_state.delivery_count r.flow_state.link_credit r.max_frame_size r.unsettled
+    (takes_answer_made limit count r.output_handle r.input_handle r.flow_state.initial_delivery_count r.flow_state.delivery_count r.flow_state.link_credit r.max_frame_size r.unsettled r.more
     r.local_state s.local_state s.output_handle s.input_handle s.flow_state.initial_delivery_count s.flow_state.delivery_count s.flow_state.link_credit s.max_frame_size s.unsettled))
 
 -- ---- an attach goes on from where it stopped
@@ -213,27 +214,27 @@ asking_stays_by limit s r k = λ i. record s {
 }
 
 -- the receiver has taken it
-taken_stays_by : (limit count : ℕ) (r : Receiver Target) → IsPlainReceiver r → HasTaken count r → r.local_state ≡ state.AttachReceived → r.output_handle ≡ Some (record { 0 = 0 }) → r.max_frame_size ≡ limit
+taken_stays_by : (limit count : ℕ) (r : Receiver Target) → r.more ≡ false → HasTaken count r → r.local_state ≡ state.AttachReceived → r.output_handle ≡ Some (record { 0 = 0 }) → r.max_frame_size ≡ limit
     → receiver_half_attached limit count r ≡ r
-taken_stays_by limit count r plain k st output frame = λ i. record r {
+taken_stays_by limit count r quiet k st output frame = λ i. record r {
   local_state = sym st i;
   output_handle = sym output i;
   input_handle = sym k.input i;
   flow_state = record r.flow_state { initial_delivery_count = sym k.initial i; delivery_count = sym k.present i };
   max_frame_size = sym frame i;
-  more = sym (ap (λ (r : Receiver Target). r.more) plain) i;
+  more = sym quiet i;
 }
 
 -- and has sent its own
-together_stays_by : (limit count : ℕ) (r : Receiver Target) → IsPlainReceiver r → HasTaken count r → r.local_state ≡ state.Attached → r.output_handle ≡ Some (record { 0 = 0 }) → r.max_frame_size ≡ limit
+together_stays_by : (limit count : ℕ) (r : Receiver Target) → r.more ≡ false → HasTaken count r → r.local_state ≡ state.Attached → r.output_handle ≡ Some (record { 0 = 0 }) → r.max_frame_size ≡ limit
     → receiver_together limit count r ≡ r
-together_stays_by limit count r plain k st output frame = λ i. record r {
+together_stays_by limit count r quiet k st output frame = λ i. record r {
   local_state = sym st i;
   output_handle = sym output i;
   input_handle = sym k.input i;
   flow_state = record r.flow_state { initial_delivery_count = sym k.initial i; delivery_count = sym k.present i };
   max_frame_size = sym frame i;
-  more = sym (ap (λ (r : Receiver Target). r.more) plain) i;
+  more = sym quiet i;
 }
 
 asked_stays_by : (limit : ℕ) (s : Sender Target) (r : Receiver Target) → AreHalfway limit s r → receiver_at_limit limit r ≡ r
@@ -273,14 +274,17 @@ module _ (w : World) (limit : ℕ) (k : IsWorld w) where
     pub asked_stays : receiver_at_limit limit w.receiver ≡ w.receiver
     asked_stays = asked_stays_by limit w.ledger.link w.receiver (halfway_ends is)
 
+    quiet : w.receiver.more ≡ false
+    quiet = idle_more w k (ap is_together is)
+
     on_way : (st : LinkState) → w.receiver.local_state ≡ st → IsOnWay w.ledger.link.flow_state.delivery_count w.receiver st
     on_way st at = subst (IsOnWay w.ledger.link.flow_state.delivery_count w.receiver) at (halfway_ends is).receiver_state
 
     pub taken_stays : w.receiver.local_state ≡ state.AttachReceived → receiver_half_attached limit w.ledger.link.flow_state.delivery_count w.receiver ≡ w.receiver
-    taken_stays at = taken_stays_by limit w.ledger.link.flow_state.delivery_count w.receiver k.receiver (on_way state.AttachReceived at) at (halfway_ends is).receiver_output (halfway_ends is).receiver_frame
+    taken_stays at = taken_stays_by limit w.ledger.link.flow_state.delivery_count w.receiver quiet (on_way state.AttachReceived at) at (halfway_ends is).receiver_output (halfway_ends is).receiver_frame
 
     pub together_stays : w.receiver.local_state ≡ state.Attached → receiver_together limit w.ledger.link.flow_state.delivery_count w.receiver ≡ w.receiver
-    together_stays at = together_stays_by limit w.ledger.link.flow_state.delivery_count w.receiver k.receiver (on_way state.Attached at) at (halfway_ends is).receiver_output (halfway_ends is).receiver_frame
+    together_stays at = together_stays_by limit w.ledger.link.flow_state.delivery_count w.receiver quiet (on_way state.Attached at) at (halfway_ends is).receiver_output (halfway_ends is).receiver_frame
 
 -- ---- the steps, one after the other
 

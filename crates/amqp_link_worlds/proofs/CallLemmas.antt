@@ -6,7 +6,7 @@ use Rattle.amqp_link_types.specs.Entries.{Tag, Entries, entry_at}
 use Rattle.amqp_link_types.specs.Refusals.{refusal}
 use Rattle.amqp_link_core.specs.Held.{Held, held_bytes}
 use Rattle.amqp_link_core.specs.Merging.{Came, Merged, opening, first, present, settled_by, state_by}
-use Rattle.amqp_link_core.specs.LinkStates.{Call, next_state}
+use Rattle.amqp_link_core.specs.LinkStates.{state_without_session}
 use Rattle.amqp_link_payloads.specs.Position.{position}
 use Rattle.amqp_link_receiver.specs.Receivers.{Receiver}
 use Rattle.amqp_link_receiver.specs.Completing.{may_receive, transfer_refusal, entered, spent, reported, unsettled_tag, is_illegal_mode}
@@ -234,12 +234,7 @@ can_grant w k on =
 pub can_cut : (w : World) → IsWorld w → is_together w.phase ≡ true → CanCut w.ledger.link w.receiver
 can_cut w k on =
     let e = ends_together w.phase w.ledger.link w.receiver on k.ends in
-    record {
-      sender_output = e.1.sender_output;
-      receiver_output = e.1.receiver_output;
-      sent = ap (next_state Call.SendDetach false) e.1.sender_state;
-      taken = ap (next_state Call.RemoteDetach false) e.1.receiver_state;
-    }
+    record { sender = ap state_without_session e.1.sender_state; receiver = ap state_without_session e.1.receiver_state }
 
 -- ---- the tag of a send
 

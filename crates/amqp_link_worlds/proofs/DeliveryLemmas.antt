@@ -1,5 +1,5 @@
 -- One delivery: what each call makes of it.
-use Rattle.std.proofs.Common.{◌≡◌, ◌∙◌, sym, ap, subst, Bool, true, false, cond, ◌||◌, List, [], ◌∷◌, ◌++◌, refl, append_assoc, ℕ, suc, ◌+◌, ◌<◌, ◌≤◌, ◌^◌, inl, inr, drop, ◌⊎◌, length, map, min, arith, length-append, nat_lt, nat_le, nat_eq, ◌==◌}
+use Rattle.std.proofs.Common.{◌≡◌, ◌∙◌, sym, ap, subst, Bool, true, false, cond, ◌||◌, List, [], ◌∷◌, ◌++◌, refl, append_assoc, ℕ, zero, suc, ◌+◌, ◌<◌, ◌≤◌, ◌^◌, inl, inr, drop, ◌⊎◌, length, map, min, arith, length-append, nat_lt, nat_le, nat_eq, ◌==◌}
 use Rattle.std.specs.Prelude.{Option, Some, None, not, ◌&&◌, IfSome, IsSomeAnd, slice_index_or, is_none, bytes_eq}
 use Rattle.std.specs.List.{concat, range_with_len, AllByRecursion}
 use lib.ListN.{length-map}
@@ -32,7 +32,7 @@ use Rattle.amqp_link_types.proofs.MapLemmas.{same_tag, false_is_not_true}
 use Rattle.amqp_link_ledger.specs.Fates.{latest}
 use Rattle.amqp_link_ledger.specs.declared.fate.Fate.{Fate}
 use Rattle.amqp_link_worlds.specs.Resumptions.{rest_of}
-use Rattle.amqp_link_worlds.specs.Wires.{payload_of_all}
+use Rattle.amqp_link_worlds.specs.Wires.{OnWire, under, payload_of_all, does_begin, IsInTurn}
 use Rattle.amqp_link_worlds.specs.Worlds.{EndsInTime, IsGood, IsGoodIn, IsOpen, IsFront, bytes_in, received_at}
 use Rattle.amqp_link_worlds.specs.declared.progress.Progress.{Progress}
 use Rattle.amqp_link_worlds.specs.Steps.{delivery_transfer, initial_progress, held_after, received}
@@ -323,11 +323,44 @@ joined-concat : (frames : List LinkFrame) → payload_of_all frames ≡ concat (
 joined-concat [] = refl
 joined-concat (f ∷ frames) = ap (λ bytes. payload_of f ++ bytes) (joined-concat frames)
 
+-- whether the frame before frame k of n has more
+abbrev more_before : ℕ → ℕ → Bool
+more_before n zero = false
+more_before n (suc k) = nat_lt (suc k) n
+
+not_past : (k n : ℕ) → k ≡ n → nat_lt k n ≡ false
+not_past k n e = grind (arith, nat_tests)
+
+still_below : (k n m : ℕ) → k + suc m ≡ n → nat_lt k n ≡ true
+still_below k n m e = grind (arith, nat_tests)
+
+-- frame k of n begins the delivery exactly if none with more stands before it
+begins_if_first : (h : InputHandle) (tag : Tag) (r : Bool) (k n m : ℕ) (p : List ℕ) → k + suc m ≡ n
+    → does_begin (frame_of h (delivery_transfer tag r) k n p) ≡ not (more_before n k)
+begins_if_first h tag r zero n m p e = refl
+begins_if_first h tag r (suc k) n m p e =
+    ap (λ b. does_begin (cond b (first_at h tag r (suc k) n p) (next_at h tag r (suc k) n p))) (not_zero k) ∙ ap not (sym (still_below (suc k) n m e))
+
+turn_from : (h : InputHandle) (tag : Tag) (r : Bool) (n k : ℕ) (frames : List LinkFrame) → AreFrames h tag r n k frames → IsInTurn (more_before n k) (under tag frames)
+turn_from h tag r n zero [] a = refl
+turn_from h tag r n (suc k) [] a = not_past (suc k) n a
+turn_from h tag r n k (f ∷ frames) a = (
+  ap does_begin a.0 ∙ begins_if_first h tag r k n (length frames) (payload_of f) (let left = frames_left h tag r n (suc k) frames a.1 in omega (arith, left)),
+  subst (λ more. IsInTurn more (under tag frames)) (sym (ap (λ f. (performative_of f).more) a.0 ∙ more_of_frame h tag r k n (payload_of f) ∙ ap (λ j. nat_lt j n) (let s : k + 1 ≡ suc k = omega arith in s)))
+      (turn_from h tag r n (suc k) frames a.1),
+)
+
+-- what is sent stands behind what is on its way
+pub turn_sent : (more : Bool) (wire new : List OnWire) → IsInTurn more wire → IsInTurn false new → IsInTurn more (wire ++ new)
+turn_sent more [] new t s = subst (λ m. IsInTurn m new) (sym t) s
+turn_sent more (next ∷ wire) new t s = (t.0, turn_sent (performative_of next.frame).more wire new t.1 s)
+
 -- the transfers of one sending
 pub record AreSent (tag : Tag) (bytes : List ℕ) (held : Option Held) (whole : Bool) (frames : List LinkFrame) : Type 0 where
   pub joined_are : payload_of_all frames ≡ bytes
   pub ends : EndsInTime whole frames
   pub next : IsNext tag held frames
+  pub turn : IsInTurn false (under tag frames)
 
 sent_from : (tag : Tag) (r : Bool) (bytes : List ℕ) (held : Option Held) (whole : Bool) (h : InputHandle) (n : ℕ) (frames : List LinkFrame)
     → concat (map payload_of frames) ≡ bytes → 1 ≤ length frames → AreFrames h tag r n 0 frames → AreSent tag bytes held whole frames
@@ -336,6 +369,7 @@ sent_from tag r bytes held whole h n (f ∷ frames) e some a = record {
   joined_are = joined-concat (f ∷ frames) ∙ e;
   ends = ends_from whole h tag r n 0 f frames a;
   next = (inl (subst (IsOpening tag) (sym a.0) refl), go_on_from h tag r n 0 frames a.1);
+  turn = turn_from h tag r n 0 (f ∷ frames) a;
 }
 
 -- the frames of a link are those at its input handle

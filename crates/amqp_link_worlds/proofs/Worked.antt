@@ -23,7 +23,7 @@ use Rattle.amqp_link_worlds.specs.declared.event.AnswerOf.TheVariants as answer
 use Rattle.amqp_link_worlds.specs.declared.event.Event.TheVariants as event
 use Rattle.amqp_link_worlds.specs.Resumptions.{entry_of, rest_of, resumes}
 use Rattle.amqp_link_worlds.specs.Steps.{delivery_transfer, initial_progress, received, new_sender, new_receiver, new_world, attaches_fit, is_halfway_at_other, attach_tests, grant_tests, send_tests, arrive_tests, cut_tests, next_tests, settle_tests}
-use Rattle.amqp_link_worlds.specs.Wires.{OnWire, under, frames_of, payload_of_all}
+use Rattle.amqp_link_worlds.specs.Wires.{OnWire, under, frames_of, payload_of_all, IsInTurn}
 use Rattle.amqp_link_worlds.specs.Worlds.{World, Apart, Halfway, Together, IsGood, is_out, bytes_in, receiver_entry, registered_payload}
 use Rattle.amqp_link_worlds.specs.declared.error.PairError.TheVariants as error
 use Rattle.amqp_link_worlds.specs.declared.progress.Progress.{Progress}
@@ -56,6 +56,13 @@ again = FirstTransfer (record { input_handle = record { 0 = 0 }; performative = 
 -- both under way, with a frame of another delivery between
 abbrev wire : List OnWire
 wire = under tag (first ∷ []) ++ under other (first ∷ []) ++ under tag (last ∷ [])
+
+-- the other delivery begins in the midst of the first, which a link never sends; one after the other they come in turn
+in_turn : IsInTurn false (under other (again ∷ []) ++ under tag (first ∷ last ∷ []))
+in_turn = (refl, (refl, (refl, refl)))
+
+out_of_turn : IsInTurn false wire → ⊥
+out_of_turn turn = false_is_not_true (sym turn.1.0)
 
 own_frames : frames_of tag wire ≡ first ∷ last ∷ []
 own_frames = refl

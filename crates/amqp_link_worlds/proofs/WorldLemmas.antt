@@ -32,7 +32,8 @@ use Rattle.amqp_link_ledger.proofs.CountLemmas.{fates_registered, fates_register
 use Rattle.amqp_link_ledger.proofs.FateLemmas.{with_fates-none}
 use Rattle.amqp_link_exchange.specs.Exchanges.{outcomes_returned}
 use Rattle.amqp_link_worlds.specs.Resumptions.{entry_of, rest_of, resumes}
-use Rattle.amqp_link_worlds.specs.Wires.{OnWire, under, frames_of}
+use Rattle.amqp_link_types.specs.Frames.{performative_of}
+use Rattle.amqp_link_worlds.specs.Wires.{OnWire, under, frames_of, IsInTurn, does_begin}
 use Rattle.amqp_link_worlds.specs.Worlds.{World, Phase, Apart, Halfway, Together, is_together, Standing, standing, entry_in, Good, IsOpen, bytes_in, held_at, received_at, receiver_entry}
 use Rattle.amqp_link_worlds.specs.declared.error.PairError.{PairError}
 use Rattle.amqp_link_worlds.specs.declared.progress.Progress.{Progress}
@@ -42,7 +43,7 @@ use Rattle.amqp_link_worlds.specs.Invariants.{IsWorld, IsTagKept, IsKeptAs, IsUn
 use Rattle.std.specs.Map.{keys_of}
 use Rattle.amqp_link_worlds.proofs.EntriesOf.{keys-map, by_tag, IsMap-put, entry_at-behind, first_alone, others_are_map, each_pair, removed_here, removed_there}
 use Rattle.amqp_link_worlds.proofs.FateLemmas.{latest_is, have_moved, latest_entered, latest_moved, latest_over, none_pending, one_pending}
-use Rattle.amqp_link_worlds.proofs.DeliveryLemmas.{kept_received, kept_receives, kept_cut, kept_taken, taken_out, good_kept, no_items, are_sent, AreSent, way_sent, way_resumed, way_put_back}
+use Rattle.amqp_link_worlds.proofs.DeliveryLemmas.{kept_received, kept_receives, kept_cut, kept_taken, taken_out, good_kept, no_items, are_sent, AreSent, turn_sent, way_sent, way_resumed, way_put_back}
 use Rattle.amqp_link_worlds.proofs.ExchangeLemmas.{goes_on_from, IsResuming, answer_is, entry_goes_on, rest_goes_on, flag_goes_on, next_in, answer_to, list_is, outcomes_are, listed_at, IsMap-listed, given_at}
 
 -- ---- how a delivery stands
@@ -140,8 +141,23 @@ IsWorld-new count = record {
   deliveries = IsMap-none Progress;
   resuming = IsMap-none ResumingDelivery;
   apart = λ _. refl;
+  idle = λ _. refl;
+  turn = refl;
   each = λ tag. (refl, refl, refl, record { before = tt; last = λ none. none });
 }
+
+-- ---- the wire comes in turn
+
+idle_turn : (wire : List OnWire) → wire ≡ [] → IsInTurn false wire
+idle_turn wire none = subst (IsInTurn false) (sym none) refl
+
+-- of a pair without transfers under way the receiver waits for no more
+pub idle_more : (w : World) → IsWorld w → is_together w.phase ≡ false → w.receiver.more ≡ false
+idle_more w k off = subst (IsInTurn w.receiver.more) (k.idle off) k.turn
+
+-- the next transfer begins a delivery exactly if the one before it had no more
+pub IsWorld-turn : (w : World) (s : OnWire) (rest : List OnWire) → IsWorld w → w.wire ≡ s ∷ rest → does_begin s.frame ≡ not w.receiver.more
+IsWorld-turn w s rest k taken = let turn : IsInTurn w.receiver.more (s ∷ rest) = subst (IsInTurn w.receiver.more) taken k.turn in turn.0
 
 -- ---- a cut
 
@@ -156,13 +172,15 @@ IsWorld-cuts old new k may c =
     let none : old.resuming ≡ [] = nothing_in old.resuming (none_hold (cut_tests old) may).1.0 in
     subst IsWorld (sym c.world) (record {
       ends = record { alike = refl; state = inr refl; counted = λ is. absurd (detached is); sender_output = refl; receiver_output = refl };
-      sender = ap (λ (s : Sender Target). record s { local_state = state.Detached; output_handle = None }) k.sender;
-      receiver = ap (λ (r : Receiver Target). record r { local_state = state.Detached; output_handle = None }) k.receiver;
+      sender = ap (λ (s : Sender Target). record s { local_state = state.Detached; output_handle = None; input_handle = None }) k.sender;
+      receiver = ap (λ (r : Receiver Target). record r { local_state = state.Detached; output_handle = None; input_handle = None; more = false }) k.receiver;
       unsettled = k.unsettled;
       reports = k.reports;
       deliveries = k.deliveries;
       resuming = k.resuming;
       apart = λ _. none;
+      idle = λ _. refl;
+      turn = refl;
       each = λ tag.
           let own = entry_at old.ledger.link.unsettled tag in
           let q = entry_at old.deliveries tag in
@@ -225,6 +243,8 @@ IsWorld-grants old new n answer k g =
       deliveries = k.deliveries;
       resuming = k.resuming;
       apart = k.apart;
+      idle = k.idle;
+      turn = k.turn;
       each = k.each;
     })
 
@@ -287,6 +307,9 @@ module _ (old new : World) (payload tag : Tag) (count : ℕ) (k : IsWorld old) (
   none_to_resume : old.resuming ≡ []
   none_to_resume = nothing_in old.resuming sending_tests.1.0
 
+  frames_sent_are : AreSent tag payload None false a.frames
+  frames_sent_are = are_sent old.ledger.link (record { 0 = 0 }) tag false payload None false a.frames (input_of old.phase old.ledger.link old.receiver together_sent k.ends) a.framed
+
   here_sent : IsTagKept (is_together old.phase) tag (standing sent tag)
   unfolding sent
   here_sent =
@@ -295,10 +318,9 @@ module _ (old new : World) (payload tag : Tag) (count : ℕ) (k : IsWorld old) (
       let before = nothing_there old tag k free unlisted in
       let short : length payload < 2 ^ 32 = below_by (length payload) sending_tests.1.1.0 in
       let four : length tag ≡ 4 = ap length a.tagged ∙ length-next_tag old.ledger.link in
-      let frames : AreSent tag payload None false a.frames = are_sent old.ledger.link (record { 0 = 0 }) tag false payload None false a.frames (input_of old.phase old.ledger.link old.receiver together_sent k.ends) a.framed in
       subst (λ b. IsTagKept b tag (standing sent tag)) (sym together_sent)
       (subst (IsTagKept true tag) (stands (sym (entry_at-put old.ledger.link.unsettled tag (new_entry 0 payload))) (sym unlisted) (sym (entry_at-put old.deliveries tag initial_progress)) (sym before.1) (sym (frames_sent tag old.wire a.frames before.2)) (sym (fates_registered tag old.ledger.records)))
-      (way_sent tag payload a.frames four short frames, latest_entered (fates_of tag old.ledger.records) before.3.before))
+      (way_sent tag payload a.frames four short frames_sent_are, latest_entered (fates_of tag old.ledger.records) before.3.before))
 
   there_sent : (other : Tag) → other ≢ tag → IsTagKept (is_together old.phase) other (standing sent other)
   unfolding sent
@@ -317,6 +339,8 @@ module _ (old new : World) (payload tag : Tag) (count : ℕ) (k : IsWorld old) (
     deliveries = IsMap-put old.deliveries tag initial_progress k.deliveries;
     resuming = k.resuming;
     apart = k.apart;
+    idle = λ off. absurd (false_is_not_true (sym off ∙ together_sent));
+    turn = turn_sent old.receiver.more old.wire (under tag a.frames) k.turn frames_sent_are.turn;
     each = by_tag (λ t. IsTagKept (is_together old.phase) t (standing sent t)) tag here_sent there_sent;
   })
 
@@ -331,7 +355,7 @@ IsWorld-receives w s rest id k taken =
 module _ (old new : World) (id : ℕ) (tag : Tag) (place : ℕ × ℕ) (whole : Bool) (k : IsWorld old) (may : refusal (arrive_tests old) ≡ None) (a : Arrives old id tag place whole new) where
   arrived : World
   arrived = record old {
-    receiver = record old.receiver { unsettled = with_entry old.receiver.unsettled tag (Some (received_at place)) };
+    receiver = record old.receiver { unsettled = with_entry old.receiver.unsettled tag (Some (received_at place)); more = (performative_of a.first.frame).more };
     deliveries = with_entry old.deliveries tag (received a.before id a.first.frame);
     wire = a.rest;
   }
@@ -363,14 +387,16 @@ module _ (old new : World) (id : ℕ) (tag : Tag) (place : ℕ × ℕ) (whole : 
   pub IsWorld-arrives : IsWorld new
   unfolding arrived
   IsWorld-arrives = subst IsWorld (sym a.world) (record {
-    ends = ends_stay old.phase old.ledger.link old.ledger.link old.receiver (record old.receiver { unsettled = with_entry old.receiver.unsettled tag (Some (received_at place)) }) together_arrived refl refl refl refl refl refl k.ends;
+    ends = ends_stay old.phase old.ledger.link old.ledger.link old.receiver (record old.receiver { unsettled = with_entry old.receiver.unsettled tag (Some (received_at place)); more = (performative_of a.first.frame).more }) together_arrived refl refl refl refl refl refl k.ends;
     sender = k.sender;
-    receiver = ap (λ (r : Receiver Target). record r { unsettled = with_entry r.unsettled tag (Some (received_at place)) }) k.receiver;
+    receiver = ap (λ (r : Receiver Target). record r { unsettled = with_entry r.unsettled tag (Some (received_at place)); more = (performative_of a.first.frame).more }) k.receiver;
     unsettled = k.unsettled;
     reports = IsMap-put old.receiver.unsettled tag (Some (received_at place)) k.reports;
     deliveries = IsMap-put old.deliveries tag (received a.before id a.first.frame) k.deliveries;
     resuming = k.resuming;
     apart = k.apart;
+    idle = λ off. absurd (false_is_not_true (sym off ∙ together_arrived));
+    turn = let turn : IsInTurn old.receiver.more (a.first ∷ a.rest) = subst (IsInTurn old.receiver.more) a.taken k.turn in turn.1;
     each = by_tag (λ t. IsTagKept (is_together old.phase) t (standing arrived t)) tag here_arrived there_arrived;
   })
 
@@ -485,6 +511,8 @@ module _ (old new : World) (tag : Tag) (k : IsWorld old) (may : refusal (next_te
     deliveries = IsMap-put old.deliveries tag back_again k.deliveries;
     resuming = IsMap-others old tag a.next a.others k a.listed;
     apart = λ off. absurd (false_is_not_true (sym off ∙ together_back));
+    idle = λ off. absurd (false_is_not_true (sym off ∙ together_back));
+    turn = k.turn;
     each = by_tag (λ t. IsTagKept (is_together old.phase) t (standing back_world t)) tag here_back there_back;
   })
 
@@ -503,17 +531,18 @@ module _ (old new : World) (tag : Tag) (count : ℕ) (resume : Bool) (k : IsWorl
   together_resumed : is_together old.phase ≡ true
   together_resumed = not_is_false (is_together old.phase) (none_hold (next_tests old) may).0
 
+  frames_resumed_are : AreSent tag a.rest a.before.held a.before.whole a.frames
+  frames_resumed_are = are_sent old.ledger.link (record { 0 = 0 }) tag resume a.rest a.before.held a.before.whole a.frames (input_of old.phase old.ledger.link old.receiver together_resumed k.ends) a.framed
+
   here_resumed : IsTagKept (is_together old.phase) tag (standing resumed_world tag)
   unfolding resumed_world
   here_resumed =
       let way = listed_way old tag a.next a.others k a.listed a.entry a.kept a.before a.known in
       let quiet = listed_quiet old tag a.next a.others k a.listed a.before a.known in
       let rest = listed_rest old tag a.next a.others k a.listed a.entry a.kept a.before a.rest a.known a.sends in
-      let frames : AreSent tag a.rest a.before.held a.before.whole a.frames =
-      are_sent old.ledger.link (record { 0 = 0 }) tag resume a.rest a.before.held a.before.whole a.frames (input_of old.phase old.ledger.link old.receiver together_resumed k.ends) a.framed in
       subst (λ b. IsTagKept b tag (standing resumed_world tag)) (sym together_resumed)
       (subst (IsTagKept true tag) (stands (sym (entry_at-put old.ledger.link.unsettled tag a.entry)) (sym (out_of_list old tag a.next a.others k a.listed)) (sym (entry_at-put old.deliveries tag out_again)) refl (sym (frames_sent tag old.wire a.frames quiet)) (sym (fates_registered tag old.ledger.records)))
-      (way_resumed false tag a.entry a.before (entry_at old.receiver.unsettled tag) a.frames a.rest way rest frames, latest_entered (fates_of tag old.ledger.records) (listed_moved old tag a.next a.others k a.listed a.before a.known)))
+      (way_resumed false tag a.entry a.before (entry_at old.receiver.unsettled tag) a.frames a.rest way rest frames_resumed_are, latest_entered (fates_of tag old.ledger.records) (listed_moved old tag a.next a.others k a.listed a.before a.known)))
 
   there_resumed : (other : Tag) → other ≢ tag → IsTagKept (is_together old.phase) other (standing resumed_world other)
   unfolding resumed_world
@@ -532,6 +561,8 @@ module _ (old new : World) (tag : Tag) (count : ℕ) (resume : Bool) (k : IsWorl
     deliveries = IsMap-put old.deliveries tag out_again k.deliveries;
     resuming = IsMap-others old tag a.next a.others k a.listed;
     apart = λ off. absurd (false_is_not_true (sym off ∙ together_resumed));
+    idle = λ off. absurd (false_is_not_true (sym off ∙ together_resumed));
+    turn = turn_sent old.receiver.more old.wire (under tag a.frames) k.turn frames_resumed_are.turn;
     each = by_tag (λ t. IsTagKept (is_together old.phase) t (standing resumed_world t)) tag here_resumed there_resumed;
   })
 
@@ -558,6 +589,8 @@ module _ (old new : World) (tag : Tag) (p : Progress) (k : IsWorld old) (on : is
     deliveries = IsMap-put old.deliveries tag (taken_out p) k.deliveries;
     resuming = k.resuming;
     apart = k.apart;
+    idle = k.idle;
+    turn = k.turn;
     each = by_tag (λ t. IsTagKept (is_together old.phase) t (standing (after_hand_out old tag p) t)) tag here_given there_given;
   })
 
@@ -639,6 +672,8 @@ module _ (old new : World) (tag : Tag) (k : IsWorld old) (may : refusal (settle_
     deliveries = IsMap-removed old.deliveries tag k.deliveries;
     resuming = k.resuming;
     apart = k.apart;
+    idle = k.idle;
+    turn = k.turn;
     each = by_tag (λ t. IsTagKept (is_together old.phase) t (standing settled t)) tag here_settled there_settled;
   })
 
@@ -795,6 +830,8 @@ module _ (old new : World) (limit count : ℕ) (k : IsWorld old) (may : refusal 
     deliveries = k.deliveries;
     resuming = IsMap-listed old.receiver.unsettled old.ledger.link.unsettled (all_go_on old k off_before) (all_known old k off_before) k.unsettled;
     apart = λ off. absurd (false_is_not_true (sym off));
+    idle = λ off. absurd (false_is_not_true (sym off));
+    turn = idle_turn old.wire (k.idle off_before);
     each = kept_attached;
   })
 
@@ -849,6 +886,11 @@ stopped_map Asked limit count r = refl
 stopped_map Taken limit count r = refl
 stopped_map Answered limit count r = refl
 
+stopped_turn : (stop : AttachStop) (limit count : ℕ) (r : Receiver Target) (wire : List OnWire) → wire ≡ [] → IsInTurn r.more wire → IsInTurn (receiver_at stop limit count r).more wire
+stopped_turn Asked limit count r wire none turn = turn
+stopped_turn Taken limit count r wire none turn = idle_turn wire none
+stopped_turn Answered limit count r wire none turn = idle_turn wire none
+
 pub IsWorld-stops : (stop : AttachStop) (old new : World) (limit : ℕ) → IsWorld old → StopsAt stop old limit new → IsWorld new
 IsWorld-stops stop old new limit k s =
     let count = old.ledger.link.flow_state.delivery_count in
@@ -863,6 +905,8 @@ IsWorld-stops stop old new limit k s =
       deliveries = k.deliveries;
       resuming = k.resuming;
       apart = λ _. k.apart off;
+      idle = λ _. k.idle off;
+      turn = stopped_turn stop limit count old.receiver old.wire (k.idle off) k.turn;
       each = λ tag. subst (IsTagKept false tag) (stands refl refl refl (ap (λ m. entry_at m tag) (sym reports)) refl refl) (subst (λ b. IsTagKept b tag (standing old tag)) off (k.each tag));
     })
 

@@ -8,8 +8,8 @@ use Rattle.amqp_link_types.specs.declared.types.definitions.SenderSettleMode.The
 use Rattle.amqp_link_types.specs.declared.types.terminus.Target.{Target}
 use Rattle.amqp_link_core.specs.Held.{Held, held_bytes}
 use Rattle.amqp_link_core.specs.declared.resumption.ResumingDelivery.{ResumingDelivery}
-use Rattle.amqp_link_core.specs.LinkStates.{Call, next_state}
-use Rattle.amqp_link_state.specs.declared.state.LinkState.TheVariants.{DetachSent, Detached}
+use Rattle.amqp_link_core.specs.LinkStates.{state_without_session}
+use Rattle.amqp_link_state.specs.declared.state.LinkState.TheVariants.{Detached}
 use Rattle.amqp_link_receiver.specs.Receivers.{Receiver}
 use Rattle.amqp_link_sender.specs.Senders.{Sender, next_tag, unsettled_transfer_tests}
 use Rattle.amqp_link_receiver.specs.Completing.{may_receive, transfer_refusal, entered, spent}
@@ -41,12 +41,10 @@ pub record CanGrant (s : Sender Target) (r : Receiver Target) : Type 0 where
   pub sender_drain : s.flow_state.drain ≡ false
   pub receiver_drain : r.flow_state.drain ≡ false
 
--- the sender can send a detach that does not close, and the receiver can take it; both have their handles
+-- both endpoints are detached if their session is lost
 pub record CanCut (s : Sender Target) (r : Receiver Target) : Type 0 where
-  pub sender_output : s.output_handle ≡ Some (record { 0 = 0 })
-  pub receiver_output : r.output_handle ≡ Some (record { 0 = 0 })
-  pub sent : next_state Call.SendDetach false s.local_state ≡ Some DetachSent
-  pub taken : next_state Call.RemoteDetach false r.local_state ≡ Some Detached
+  pub sender : state_without_session s.local_state ≡ Detached
+  pub receiver : state_without_session r.local_state ≡ Detached
 
 -- a delivery of the list has an entry and a rest, its tag is free, and a frame has room for its transfer
 pub record CanResume (w : World) (tag : Tag) (next : ResumingDelivery) : Type 0 where

@@ -20,6 +20,7 @@ use Rattle.amqp_link_ledger.specs.Fates.{is_pending_fate, latest}
 use Rattle.amqp_link_ledger.specs.declared.fate.Fate.{Fate}
 use Rattle.amqp_link_ledger.specs.declared.fate.Fate.TheVariants.{Pending, HandedOut}
 use Rattle.amqp_link_worlds.specs.Resumptions.{entry_of, rest_of, resumes}
+use Rattle.amqp_link_worlds.specs.Wires.{IsInTurn}
 use Rattle.amqp_link_worlds.specs.Steps.{delivery_transfer, zero_output, new_sender, new_receiver}
 use Rattle.amqp_link_worlds.specs.Worlds.{World, Phase, Apart, Halfway, Together, is_together, Standing, standing, IsGood, IsOpen, bytes_in}
 use Rattle.amqp_link_worlds.specs.declared.progress.Progress.{Progress}
@@ -120,7 +121,8 @@ IsTagKept together tag s = IsKeptAs together tag s.own s.listed s.progress s.rep
 
 -- ---- both endpoints
 
--- an endpoint is as it was made, but for its state, handles, counts, credit, frame limit and unsettled map
+-- an endpoint is as it was made, but for its state, handles, counts, credit, frame limit and unsettled map, and at a
+-- receiver whether more is to come of a delivery
 abbrev pub IsPlainSender : Sender Target → Type 0
 IsPlainSender s = let flow = s.flow_state in let plain = new_sender 0 in s ≡ record plain {
   local_state = s.local_state;
@@ -147,6 +149,7 @@ IsPlainReceiver r = let flow = r.flow_state in let plain = new_receiver 0 in r �
   };
   max_frame_size = r.max_frame_size;
   unsettled = r.unsettled;
+  more = r.more;
 }
 
 -- both are attached, at a limit with room for a payload byte beside a transfer that resumes
@@ -208,4 +211,6 @@ pub record IsWorld (w : World) : Type 0 where
   pub deliveries : IsMap w.deliveries
   pub resuming : IsMap w.resuming
   pub apart : is_together w.phase ≡ false → w.resuming ≡ []
+  pub idle : is_together w.phase ≡ false → w.wire ≡ []
+  pub turn : IsInTurn w.receiver.more w.wire
   pub each : (tag : Tag) → IsTagKept (is_together w.phase) tag (standing w tag)

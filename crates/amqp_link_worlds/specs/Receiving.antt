@@ -1,6 +1,7 @@
 -- When the receiver of a pair takes a transfer.
 use Rattle.std.specs.Prelude.{◌≡◌, ℕ, Option, Some, None}
 use Rattle.amqp_link_types.specs.Entries.{Tag}
+use Rattle.amqp_link_types.specs.Frames.{performative_of}
 use Rattle.amqp_link_types.specs.Refusals.{refusal}
 use Rattle.amqp_link_types.specs.declared.frame.LinkFrame.{LinkFrame}
 use Rattle.amqp_link_types.specs.declared.frame.LinkFrame.TheVariants.{FirstTransfer, TransferContinuation}
@@ -25,3 +26,8 @@ CanReceive (Some held) id (FirstTransfer x) =
 CanReceive (Some held) id (TransferContinuation x) =
     IsContinuing x.performative × (refusal (append_tests held x.performative x.payload) ≡ None)
 CanReceive _ id _ = ⊥
+
+-- a transfer as the session passes it on to the receiver: a first one has this id
+abbrev pub transfer_arriving : ℕ → LinkFrame → Transfer
+transfer_arriving id (FirstTransfer x) = record x.performative { delivery_id = Some id }
+transfer_arriving id f = performative_of f

@@ -362,8 +362,8 @@ pub record Sends (old : World) (payload : List ℕ) (tag : Tag) (count : ℕ) (n
     wire = old.wire ++ under tag frames;
   }
 
--- The first transfer leaves the wire, its payload is added to what is held of its delivery, and the receiver
--- reports the position of that. The answer is the delivery's tag, this position, and whether its last
+-- The first transfer leaves the wire, its payload is added to what is held of its delivery, and the receiver, which
+-- notes whether more is to come of it, reports the position of that. The answer is the delivery's tag, this position, and whether its last
 -- transfer has arrived.
 pub record Arrives (old : World) (id : ℕ) (tag : Tag) (place : ℕ × ℕ) (whole : Bool) (new : World) : Type 0 where
   pub first : OnWire
@@ -375,18 +375,23 @@ pub record Arrives (old : World) (id : ℕ) (tag : Tag) (place : ℕ × ℕ) (wh
   pub reported : place ≡ position (bytes_in before.held ++ payload_of first.frame)
   pub ends : whole ≡ (received before id first.frame).whole
   pub world : new ≡ record old {
-    receiver = record old.receiver { unsettled = with_entry old.receiver.unsettled tag (Some (received_at place)) };
+    receiver = record old.receiver {
+      unsettled = with_entry old.receiver.unsettled tag (Some (received_at place));
+      more = (performative_of first.frame).more;
+    };
     deliveries = with_entry old.deliveries tag (received before id first.frame);
     wire = rest;
   }
 
--- A detach that does not close, and its reply: both output handles are released and the wire is lost; what is
--- held and reported, the sender's map and each fate stay.
+-- The session of both endpoints is lost, and the wire with it: both are detached, without handles, and nothing is
+-- under way. What is held and reported, the sender's map and each fate stay.
 pub record Cuts (old new : World) : Type 0 where
   pub world : new ≡ record old {
     phase = Apart;
-    ledger = record old.ledger { link = record old.ledger.link { local_state = Detached; output_handle = None } };
-    receiver = record old.receiver { local_state = Detached; output_handle = None };
+    ledger = record old.ledger {
+      link = record old.ledger.link { local_state = Detached; output_handle = None; input_handle = None };
+    };
+    receiver = record old.receiver { local_state = Detached; output_handle = None; input_handle = None; more = false };
     wire = [];
   }
 

@@ -2,7 +2,7 @@
 //! lemmas.
 //!
 //! Each function here does nothing: its contract is the law.
-ghost use Rattle.std.specs.Prelude.{◌≡◌, ◌⊎◌, [], ◌∷◌, ℕ, Bool, true, false, List, None, Some, Option, Ok, Result, IsSomeAnd, slice_get};
+ghost use Rattle.std.specs.Prelude.{◌≡◌, ◌⊎◌, [], ◌∷◌, ℕ, Bool, true, false, not, List, None, Some, Option, Ok, Result, IsSomeAnd, slice_get};
 ghost use Rattle.std.specs.Map.{keys_of};
 ghost use Rattle.amqp_link_payloads.specs.declared.error.DecodeError.{DecodeError};
 ghost use Rattle.amqp_link_payloads.specs.declared.message.Message.{Message as TheMessage};
@@ -24,7 +24,7 @@ ghost use Rattle.amqp_link_worlds.specs.Invariants.{IsWorld};
 ghost use Rattle.amqp_link_worlds.specs.Receiving.{CanReceive};
 ghost use Rattle.amqp_link_worlds.specs.PairRuns.{Does, FatesMoveOnce, HoldsWhatArrived, HoldsWhatWasSent, IsRun, Moment, RunsEvents, Step, is_out_after, is_send_of, tests_of};
 ghost use Rattle.amqp_link_worlds.specs.Steps.{new_world, list_to_resume, later, sender_asking, receiver_at_limit, receiver_half_attached, receiver_together, Attaches, AttachStop, StopsAt, Grants, Sends, Arrives, Cuts, Resumes, PutsBack, HandsOutDelivery, Settles, after_hand_out, has_flag, attach_tests, send_tests, arrive_tests, cut_tests, next_tests, hand_out_tests, settle_tests};
-ghost use Rattle.amqp_link_worlds.specs.Wires.{OnWire};
+ghost use Rattle.amqp_link_worlds.specs.Wires.{OnWire, does_begin};
 ghost use Rattle.amqp_link_worlds.specs.Worlds.{World, is_out_at, Apart, Halfway, Good, IsOpen, IsRegistered, is_together, standing, entry_in, held_at, bytes_in, receiver_entry};
 ghost use Rattle.amqp_link_worlds.specs.declared.error.PairError.{PairError as Refusal};
 ghost use Rattle.amqp_link_worlds.specs.declared.event.AnswerOf.{AnswerOf};
@@ -66,7 +66,8 @@ pub fn each_call_keeps_a_pair()
 {}
 
 /// If no test of a call holds, the endpoints below refuse it only if they are out of memory. The receiver
-/// reports whatever it holds, so that a further arrival adds no entry to its map.
+/// reports whatever it holds, so that a further arrival adds no entry to its map; and a transfer begins a delivery
+/// exactly if the receiver says so (`ReceiverLink::begins_delivery`).
 pub fn endpoints_refuse_only_for_memory()
     ensures send { (w : World) (payload : List ℕ) → IsWorld w → refusal (send_tests w payload) ≡ None → CanSend w.ledger.link }
     ensures tag { (w : World) (payload : List ℕ) → IsWorld w → refusal (send_tests w payload) ≡ None
@@ -75,6 +76,8 @@ pub fn endpoints_refuse_only_for_memory()
     ensures cut { (w : World) → IsWorld w → is_together w.phase ≡ true → CanCut w.ledger.link w.receiver }
     ensures arrive { (w : World) (next : OnWire) (rest : List OnWire) (id : ℕ) → IsWorld w → w.wire ≡ next ∷ rest
         → IsSomeAnd (entry_at w.deliveries next.tag) (λ p. CanReceive p.held id next.frame) }
+    ensures turn { (w : World) (next : OnWire) (rest : List OnWire) → IsWorld w → w.wire ≡ next ∷ rest
+        → does_begin next.frame ≡ not w.receiver.more }
     ensures report { (w : World) (tag : Tag) (held : Held) → IsWorld w → held_at w tag ≡ Some held
         → entry_at w.receiver.unsettled tag ≡ receiver_entry (Some held) }
     ensures resume_next { (w : World) (tag : Tag) (next : ResumingDelivery) (others : Entries ResumingDelivery) → IsWorld w

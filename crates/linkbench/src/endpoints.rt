@@ -1,6 +1,6 @@
 //! The two endpoints of a link.
 use crate::refused::{Refused, completed, done};
-use amqp_link::types::{Attach, Detach, Handle, OutputHandle, Source, Target, Text};
+use amqp_link::types::{Attach, OutputHandle, Source, Target, Text};
 use amqp_link::{LinkAttach, LinkDetach, LinkExt, LinkFrame, LinkParts, ReceiverLink, SenderLink};
 use std::alloc::Global;
 
@@ -84,20 +84,14 @@ fn grant(ends: &mut Endpoints) -> Result<(), Refused> {
     }
 }
 
-/// Detaches both endpoints, which may attach again with what is unsettled.
-pub fn cut(ends: &mut Endpoints) -> Result<(), Refused> {
-    detach(&mut ends.sender)?;
-    detach(&mut ends.receiver)
+/// Both endpoints lose their session, and may attach again with what is unsettled.
+pub fn cut(ends: &mut Endpoints) {
+    lose_session(&mut ends.sender);
+    lose_session(&mut ends.receiver);
 }
 
-// Detaches an endpoint, whose peer replies.
-fn detach<L: LinkDetach + LinkExt>(link: &mut L) -> Result<(), Refused> {
-    drop(done(link.send_detach(false, None))?);
-    done(link.on_detach_reply(Detach {
-        handle: Handle(0),
-        closed: false,
-        error: None,
-    }))?;
+// An endpoint loses its session, and has a handle for its next attach.
+fn lose_session<L: LinkDetach + LinkExt>(link: &mut L) {
+    link.on_session_lost();
     *link.output_handle_mut() = Some(OutputHandle(0));
-    Ok(())
 }

@@ -1,7 +1,7 @@
 //! Links that are attached again, with deliveries that are unsettled at both endpoints.
 use crate::endpoints::{Endpoints, attach_of_receiver, attach_of_sender, attached, cut};
 use crate::measured::Work;
-use crate::payloads::{Kind, payload_of};
+use crate::payloads::message_of;
 use crate::refused::{Refused, completed, done};
 use crate::sending::send;
 use amqp_link::LinkAttach;
@@ -18,12 +18,13 @@ fn interrupted(alloc: Global, count: u32) -> Result<Endpoints, Refused> {
 
 fn interrupt(ends: &mut Endpoints, alloc: Global, count: u32) -> Result<(), Refused> {
     send_halves(ends, alloc, count)?;
-    cut(ends)
+    cut(ends);
+    Ok(())
 }
 
 // Sends so many deliveries, of which the receiver holds the first half each.
 fn send_halves(ends: &mut Endpoints, alloc: Global, count: u32) -> Result<(), Refused> {
-    let payload = payload_of(alloc, Kind::Text, 64)?;
+    let payload = message_of(alloc, 64)?;
     for _ in 0..count {
         let (tag, frames) = send(&mut ends.sender, &payload)?;
         drop(frames);

@@ -1,7 +1,7 @@
 //! Transfers that are merged, with the position of what is held after each.
 use crate::endpoints::attached;
 use crate::measured::Work;
-use crate::payloads::{Kind, payload_of};
+use crate::payloads::message_of;
 use crate::refused::{Refused, completed, done};
 use crate::sending::{send, transfers_of};
 use amqp_link::IncompleteTransfer;
@@ -9,17 +9,19 @@ use amqp_link::types::{Payload, Transfer};
 use std::alloc::Global;
 use std::mem;
 
-/// Merges a transfer with those of its delivery that arrived before.
+/// Merges a transfer with those of its delivery that arrived before, by whether it begins a delivery in this
+/// attachment.
 pub fn merge(
     alloc: Global,
     held: Option<IncompleteTransfer>,
+    begins_delivery: bool,
     transfer: Transfer,
     payload: Payload,
 ) -> Result<IncompleteTransfer, Refused> {
     match held {
         None => done(IncompleteTransfer::start(alloc, transfer, payload)),
         Some(mut held) => {
-            done(held.try_append(transfer, payload))?;
+            done(held.try_add(begins_delivery, transfer, payload))?;
             Ok(held)
         }
     }
@@ -35,7 +37,7 @@ pub struct Merging {
 impl Merging {
     /// So many deliveries of this length.
     pub fn ready(alloc: Global, length: usize, limit: u32, count: u32) -> Result<Merging, Refused> {
-        let payload = payload_of(alloc, Kind::Text, length)?;
+        let payload = message_of(alloc, length)?;
         let mut work = Merging {
             alloc,
             deliveries: Vec::new(alloc),
@@ -78,7 +80,8 @@ fn merge_all(alloc: Global, transfers: Vec<(Transfer, Payload)>) -> Result<u64, 
     let mut offsets = 0u64;
     let mut held = None;
     for (transfer, payload) in transfers {
-        let merged = merge(alloc, held.take(), transfer, payload)?;
+        let begins = held.is_none();
+        let merged = merge(alloc, held.take(), begins, transfer, payload)?;
         offsets = offsets.wrapping_add(merged.section_offset());
         held = Some(merged);
     }

@@ -1,6 +1,6 @@
 //! Whole runs of a pair.
 use crate::measured::Work;
-use crate::payloads::{Kind, payload_of};
+use crate::payloads::message_of;
 use crate::refused::{Refused, done};
 use crate::unread::Unread;
 use amqp_link::Pair;
@@ -19,7 +19,7 @@ pub struct Walking {
 impl Walking {
     /// So many deliveries of this length.
     pub fn ready(alloc: Global, length: usize, limit: u32, count: u32) -> Result<Walking, Refused> {
-        let payload = payload_of(alloc, Kind::Text, length)?;
+        let payload = message_of(alloc, length)?;
         let pair = done(Pair::new(alloc, 0))?;
         Ok(Walking {
             pair,

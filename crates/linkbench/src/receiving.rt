@@ -2,7 +2,7 @@
 use crate::endpoints::{Endpoints, attached};
 use crate::measured::Work;
 use crate::merging::merge;
-use crate::payloads::{Kind, payload_of};
+use crate::payloads::message_of;
 use crate::refused::{Refused, completed, done};
 use crate::sending::{accept, send, transfers_of};
 use crate::unread::Unread;
@@ -22,8 +22,15 @@ pub fn receive(
     let mut held = None;
     for (transfer, payload) in transfers {
         let more = transfer.more;
+        let begins = receiver.begins_delivery();
         let arrived = arrive(receiver, transfer, payload)?;
-        let merged = merge(alloc, held.take(), arrived.performative, arrived.payload)?;
+        let merged = merge(
+            alloc,
+            held.take(),
+            begins,
+            arrived.performative,
+            arrived.payload,
+        )?;
         if more {
             let (number, offset) = merged.position();
             receiver.on_incomplete_transfer(merged.delivery_tag(), number, offset)?;
@@ -121,7 +128,7 @@ impl Receiving {
     }
 
     fn send(&mut self, length: usize, count: u32) -> Result<(), Refused> {
-        let payload = payload_of(self.alloc, Kind::Text, length)?;
+        let payload = message_of(self.alloc, length)?;
         for id in 0..count {
             let (tag, frames) = send(&mut self.ends.sender, &payload)?;
             drop(tag);
@@ -160,7 +167,7 @@ pub struct Flowing {
 impl Flowing {
     /// So many deliveries of 64 bytes, beside so many that are pending.
     pub fn ready(alloc: Global, pending: usize, count: u32) -> Result<Flowing, Refused> {
-        let payload = payload_of(alloc, Kind::Text, 64)?;
+        let payload = message_of(alloc, 64)?;
         let mut work = Flowing {
             alloc,
             ends: attached(alloc, 512)?,

@@ -1,7 +1,7 @@
 //! Payloads that are split, registered and sent.
 use crate::endpoints::{Endpoints, attached};
 use crate::measured::Work;
-use crate::payloads::{Kind, payload_of};
+use crate::payloads::message_of;
 use crate::refused::{Refused, done};
 use amqp_link::delivery::Settlement;
 use amqp_link::frame::LinkFrame;
@@ -75,7 +75,7 @@ impl Splitting {
         limit: u32,
         count: u32,
     ) -> Result<Splitting, Refused> {
-        let payload = payload_of(alloc, Kind::Text, length)?;
+        let payload = message_of(alloc, length)?;
         let ends = attached(alloc, limit)?;
         Ok(Splitting {
             ends,

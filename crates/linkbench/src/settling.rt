@@ -1,7 +1,7 @@
 //! Dispositions of many deliveries.
 use crate::endpoints::{Endpoints, attached};
 use crate::measured::Work;
-use crate::payloads::{Kind, payload_of};
+use crate::payloads::message_of;
 use crate::receiving::deliver;
 use crate::refused::{Refused, completed, done};
 use crate::sending::{accept, send};
@@ -28,7 +28,7 @@ impl Registered {
     }
 
     fn send(&mut self, alloc: Global, count: u32) -> Result<(), Refused> {
-        let payload = payload_of(alloc, Kind::Text, 64)?;
+        let payload = message_of(alloc, 64)?;
         for id in 0..count {
             let (tag, frames) = send(&mut self.ends.sender, &payload)?;
             drop(frames);
@@ -106,7 +106,7 @@ impl Disposing {
     }
 
     fn deliver(&mut self, alloc: Global, count: u32) -> Result<(), Refused> {
-        let payload = payload_of(alloc, Kind::Text, 64)?;
+        let payload = message_of(alloc, 64)?;
         for id in 0..count {
             let info = deliver(&mut self.ends, alloc, &payload, id)?;
             self.infos.push(info)?;

@@ -1,14 +1,16 @@
 //! The detach that an endpoint sends, and the results of those that it takes (2.7.7). Nothing here allocates.
 ghost use Rattle.std.specs.Prelude.{◌≡◌};
 ghost use Rattle.amqp_link_core.specs.Detaching.{recorded, reply_error, remote_error};
-ghost use Rattle.amqp_link_core.specs.Detaching.{detach_frame as frame_of_detach};
+ghost use Rattle.amqp_link_core.specs.Detaching;
 
 use amqp_link_types::frame::LinkFrame;
 use amqp_link_types::types::{ApplyRemoteDetachError, Detach, DetachError, Error, OutputHandle};
 
-/// The detach that is sent at an output handle.
+/// The detach that is sent at an output handle. It moves no state: `LinkDetach::send_detach` does that. After an
+/// incomplete exchange, from which `send_detach` has no transition, a link is detached by this frame, and the
+/// peer's reply goes to `apply_remote_detach_outcome`.
 pub fn detach_frame(handle: OutputHandle, closed: bool, error: Option<Error>) -> LinkFrame
-    ensures { result ≡ frame_of_detach handle closed error }
+    ensures { result ≡ Detaching.detach_frame handle closed error }
 {
     LinkFrame::Detach(Detach {
         handle: handle.into(),

@@ -1,7 +1,7 @@
 //! What to do after an attach has failed (2.6.3): close the link, end the session, or nothing.
 ghost use Rattle.std.specs.Prelude.{◌≡◌, true, None, IfOk, OnErr, MatchOption, is_some};
-ghost use Rattle.amqp_link_core.specs.Failing.{condition_text, handle_in_use, can_close as does_close, error_sent, handled, state_after};
-ghost use Rattle.amqp_link_core.specs.Failing.{sender_remedy as remedy_at_sender, receiver_remedy as remedy_at_receiver};
+ghost use Rattle.amqp_link_core.specs.Failing.{condition_text, handle_in_use, error_sent, handled, state_after};
+ghost use Rattle.amqp_link_core.specs.Failing;
 
 use crate::endpoint::LinkDetach;
 use crate::endpoint::table::after_sent_detach;
@@ -51,7 +51,7 @@ const UNKNOWN: Remedy = Remedy::Close(Some(Condition::NotImplemented));
 
 /// What follows from an error of a sender's attach. Does not allocate.
 pub fn sender_remedy(error: &SenderAttachError) -> Remedy
-    ensures { result ≡ remedy_at_sender error.now }
+    ensures { result ≡ Failing.sender_remedy error.now }
 {
     match error {
         SenderAttachError::DuplicatedLinkName => Remedy::EndSession,
@@ -68,7 +68,7 @@ pub fn sender_remedy(error: &SenderAttachError) -> Remedy
 
 /// What follows from an error of a receiver's attach. Does not allocate.
 pub fn receiver_remedy(error: &ReceiverAttachError) -> Remedy
-    ensures { result ≡ remedy_at_receiver error.now }
+    ensures { result ≡ Failing.receiver_remedy error.now }
 {
     match error {
         ReceiverAttachError::DuplicatedLinkName => Remedy::EndSession,
@@ -106,7 +106,7 @@ pub fn error_to_send(
 
 // Whether a closing detach can be sent in this state and with this output handle.
 fn can_close(state: LinkState, handle: Option<OutputHandle>) -> bool
-    ensures { result ≡ does_close state handle }
+    ensures { result ≡ Failing.can_close state handle }
 {
     after_sent_detach(state, true).is_some() && handle.is_some()
 }

@@ -1,7 +1,7 @@
 //! The state after each call that attaches or detaches a link, by the table of link states (2.6.3 to 2.6.6):
 //! none if there is no transition. Nothing here allocates.
 ghost use Rattle.std.specs.Prelude.{◌≡◌, MatchOption, false, true, None, Some};
-ghost use Rattle.amqp_link_core.specs.LinkStates.{Call, next_state};
+ghost use Rattle.amqp_link_core.specs.LinkStates.{Call, next_state, state_without_session};
 
 use amqp_link_state::state::LinkState;
 
@@ -78,4 +78,12 @@ pub fn after_remote_detach(state: LinkState, closed: bool) -> Option<LinkState>
         _ if closed => Some(LinkState::Closed),
         _ => Some(LinkState::Detached),
     }
+}
+
+/// The state after the session is lost: the one after a detach of the peer's that does not close the link. A
+/// link that is unattached, detached or closed stays in its state.
+pub fn after_lost_session(state: LinkState) -> LinkState
+    ensures { result ≡ state_without_session state }
+{
+    after_remote_detach(state, false).unwrap_or(state)
 }

@@ -1,11 +1,11 @@
 //! A delivery that was cut off, when it is resumed (2.6.13).
-ghost use Rattle.std.specs.Prelude.{◌≡◌, ◌++◌, [], ◌∷◌, List, IsSome, OnOk, OnErr, MatchOption};
+ghost use Rattle.std.specs.Prelude.{◌≡◌, ◌++◌, [], ◌∷◌, List, IsSome, OnOk, OnErr, MatchOption, if◌then◌else◌};
 ghost use Rattle.std.specs.Option.{option_or};
 ghost use Rattle.amqp_link_payloads.specs.Position.{place};
 ghost use Rattle.amqp_link_core.specs.Merging.{Came, Merged, IsSilent, opening, resumed};
 ghost use Rattle.amqp_link_core.specs.Held.{held_bytes, KeepsFront};
 ghost use Rattle.amqp_link_types.specs.Refusals.{AnswersThenOutOfMemory};
-ghost use Rattle.amqp_link_core.specs.IncompleteRefusals.{resume_tests, is_of_another};
+ghost use Rattle.amqp_link_core.specs.IncompleteRefusals.{add_tests, resume_tests, is_of_another};
 
 use crate::incomplete_transfer::pieces::{carry_of, cut_pieces};
 use crate::incomplete_transfer::{IncompleteTransfer, differs};
@@ -59,6 +59,46 @@ impl IncompleteTransfer {
             return Err(refused);
         }
         self.add(transfer, payload, true)
+    }
+
+    /// Adds any further transfer of the delivery, by whether it begins a delivery in this attachment: the one that does
+    /// resumes this one (`try_resume`), each other continues it (`try_append`). `ReceiverLink::begins_delivery` says
+    /// which it is. Neither the transfer's `resume` nor its id does, since a peer may repeat both on every transfer.
+    ///
+    /// Refused as these are, in their order, with nothing changed, and only then with `OutOfMemory`. Reads the payload
+    /// once, and none of the bytes before it.
+    pub fn try_add(
+        &mut self,
+        begins_delivery: bool,
+        transfer: Transfer,
+        payload: Payload,
+    ) -> Result<(), ReceiverTransferError>
+        // Whatever transfers arrived before, the fields are those of all of them and this one.
+        ensures merged { OnOk result ((came : List Came) → Merged came self.old.performative
+            → Merged (came ++ record { opens = begins_delivery; transfer = transfer } ∷ [])
+            self.new.performative) }
+        ensures pieces { OnOk result (self.new.pieces ≡ self.old.pieces ++ payload ∷ []) }
+        ensures bytes { OnOk result (held_bytes self.new ≡ held_bytes self.old ++ payload) }
+
+        // The part of it that a caller needs most.
+        ensures tag { OnOk result
+            (self.new.performative.delivery_tag ≡ self.old.performative.delivery_tag) }
+        ensures id { OnOk result (self.new.performative.delivery_id
+            ≡ (if begins_delivery then transfer.delivery_id else self.old.performative.delivery_id)) }
+        ensures format { OnOk result (self.new.performative.message_format
+            ≡ option_or self.old.performative.message_format transfer.message_format) }
+        ensures silent { OnOk result (IsSilent transfer → self.new.performative
+            ≡ (if begins_delivery then resumed self.old.performative transfer else self.old.performative)) }
+
+        ensures refused { AnswersThenOutOfMemory ReceiverTransferError.OutOfMemory
+            result (add_tests begins_delivery self.old transfer payload) }
+        ensures err { OnErr result (self.new ≡ self.old) }
+    {
+        if begins_delivery {
+            self.try_resume(transfer, payload)
+        } else {
+            self.try_append(transfer, payload)
+        }
     }
 
     // Whether a transfer carries another tag or format than the delivery's.

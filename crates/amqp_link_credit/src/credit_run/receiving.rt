@@ -7,6 +7,7 @@ ghost use Rattle.amqp_link_core.specs.Held.{held_bytes};
 ghost use Rattle.amqp_link_receiver.specs.Completing.{completion_refusal, entered};
 ghost use Rattle.amqp_link_worlds.specs.Receiving.{CanReceive};
 ghost use Rattle.amqp_link_worlds.specs.Steps.{held_after, zero_output};
+ghost use Rattle.amqp_link_worlds.specs.Wires.{does_begin};
 ghost use Rattle.amqp_link_credit.specs.CreditCalls.{complete_delivery};
 
 use amqp_link_core::incomplete_transfer::IncompleteTransfer;
@@ -33,19 +34,21 @@ pub(crate) fn set(place: &mut Option<IncompleteTransfer>, held: Option<Incomplet
     drop(std::mem::replace(place, held));
 }
 
-// A transfer is added to what is held.
+// A transfer is added to what is held, by whether it begins a delivery.
 pub(crate) fn hold(
     held: &mut Option<IncompleteTransfer>,
+    begins_delivery: bool,
     alloc: Global,
     frame: &LinkFrame,
     id: DeliveryNumber,
 ) -> Result<(), AllocError>
-    requires { CanReceive held.old id frame.now }
+    requires can { CanReceive held.old id frame.now }
+    requires turn { does_begin frame.now ≡ begins_delivery }
     ensures held { OnOk result (held.new ≡ Some (held_after held.old id frame.now)) }
     ensures left { OnErr result (held.new ≡ held.old) }
 {
     match held {
-        Some(held) => go_on(held, frame, id),
+        Some(held) => go_on(held, begins_delivery, frame, id),
         None => {
             *held = Some(begin(alloc, frame, id)?);
             Ok(())
@@ -57,17 +60,19 @@ pub(crate) fn hold(
 // for the delivery.
 pub(crate) fn with_last(
     held: &Option<IncompleteTransfer>,
+    begins_delivery: bool,
     alloc: Global,
     frame: &LinkFrame,
     id: DeliveryNumber,
 ) -> Result<IncompleteTransfer, AllocError>
-    requires { CanReceive held.now id frame.now }
+    requires can { CanReceive held.now id frame.now }
+    requires turn { does_begin frame.now ≡ begins_delivery }
     ensures { IfOk result (λ whole. whole ≡ held_after held.now id frame.now) }
 {
     match held {
         Some(held) => {
             let mut whole = held.clone()?;
-            match go_on(&mut whole, frame, id) {
+            match go_on(&mut whole, begins_delivery, frame, id) {
                 Ok(()) => Ok(whole),
                 Err(refused) => {
                     drop(whole);

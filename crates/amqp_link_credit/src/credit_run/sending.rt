@@ -2,7 +2,8 @@
 ghost use Rattle.std.specs.Prelude.{◌≡◌, IfOk, OnOk, OnErr};
 ghost use Rattle.amqp_link_types.specs.Refusals.{AnswersThenOutOfMemory};
 ghost use Rattle.amqp_link_split.specs.Fitting.{IsFitting};
-ghost use Rattle.amqp_link_sender.specs.Senders.{IsSent, next_tag as tag_of_next};
+ghost use Rattle.amqp_link_sender.specs.Senders.{IsSent};
+ghost use Rattle.amqp_link_sender.specs.Senders;
 ghost use Rattle.amqp_link_credit.specs.CreditCalls.{run_transfer, sender_after_send, sending_tests_at_sender};
 ghost use Rattle.amqp_link_credit.specs.Endpoints.{IsReadyToSend, IsRefusal, tag_in, send_refusal_by};
 
@@ -41,10 +42,10 @@ pub(crate) fn send_on(
     settled: bool,
 ) -> Result<(DeliveryTag, Vec<LinkFrame>), CreditRunError>
     requires { IsReadyToSend sender.old }
-    ensures tag { IfOk result (λ sent. sent.0 ≡ tag_of_next sender.old) }
+    ensures tag { IfOk result (λ sent. sent.0 ≡ Senders.next_tag sender.old) }
     ensures framed { IfOk result (λ sent.
-        IsSent sender.old (run_transfer settled (tag_of_next sender.old)) payload.now sent.1.items) }
-    ensures fits { IfOk result (λ sent. IsFitting (run_transfer settled (tag_of_next sender.old))
+        IsSent sender.old (run_transfer settled (Senders.next_tag sender.old)) payload.now sent.1.items) }
+    ensures fits { IfOk result (λ sent. IsFitting (run_transfer settled (Senders.next_tag sender.old))
         sender.old.max_frame_size payload.now sent.1.items) }
     ensures done { OnOk result (sender.new ≡ sender_after_send settled sender.old payload.now) }
     ensures refused { AnswersThenOutOfMemory CreditRunError.OutOfMemory result (sending_tests_at_sender sender.old settled) }

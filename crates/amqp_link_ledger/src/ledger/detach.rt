@@ -11,7 +11,7 @@ impl<T: LinkTarget> LinkDetach for OutcomeLedger<T> {
     ghost use Rattle.std.specs.Prelude.{refl};
     ghost use Rattle.amqp_link_types.specs.declared.types.errors.DetachError.TheVariants.{IllegalState};
     ghost use Rattle.amqp_link_sender.specs.Detaching.{reply_error};
-    ghost use Rattle.amqp_link_sender.specs.SenderAttaches.{sender_shown};
+    ghost use Rattle.amqp_link_sender.specs.SenderAttaches.{sender_shown, sender_lost};
 
     type DetachError = DetachError;
 
@@ -27,11 +27,15 @@ impl<T: LinkTarget> LinkDetach for OutcomeLedger<T> {
       link = record ledger.link { local_state = s; output_handle = h };
     } };
 
+    ghost lost = { λ ledger. record ledger { link = sender_lost ledger.link } };
+
     ghost illegal_state = { IllegalState };
 
     ghost replied = { reply_error };
 
     ghost shown_moved = { λ ledger s h. refl };
+
+    ghost shown_lost = { λ ledger. refl };
 
     fn on_detach_reply(&mut self, detach: Detach) -> Result<(), DetachError> {
         self.link.on_detach_reply(detach)
@@ -50,5 +54,9 @@ impl<T: LinkTarget> LinkDetach for OutcomeLedger<T> {
         detach: Detach,
     ) -> Result<(), ApplyRemoteDetachError> {
         self.link.apply_remote_detach_outcome(detach)
+    }
+
+    fn on_session_lost(&mut self) {
+        self.link.on_session_lost();
     }
 }

@@ -1,7 +1,7 @@
 //! What follows once the attach of a ledger has failed (2.6.3).
 ghost use Rattle.std.specs.Prelude.{◌≡◌, true, None, IfOk, OnOk, OnErr, MatchOption, is_some};
 ghost use Rattle.amqp_link_core.specs.Failing.{error_sent, handled, state_after};
-ghost use Rattle.amqp_link_core.specs.Failing.{sender_remedy as remedy_of};
+ghost use Rattle.amqp_link_core.specs.Failing;
 
 use crate::ledger::OutcomeLedger;
 use amqp_link_core::endpoint::failing::Action;
@@ -17,15 +17,15 @@ impl<T: LinkTarget> OutcomeLedger<T> {
         error: SenderAttachError,
     ) -> Result<(SenderAttachError, Action), AllocError>
         ensures answer { IfOk result (λ given. given ≡ handled error SenderAttachError.IllegalState
-            (remedy_of error) self.old.link.local_state self.old.link.output_handle) }
-        ensures after { OnOk result (MatchOption (state_after (remedy_of error) self.old.link.local_state)
+            (Failing.sender_remedy error) self.old.link.local_state self.old.link.output_handle) }
+        ensures after { OnOk result (MatchOption (state_after (Failing.sender_remedy error) self.old.link.local_state)
             (self.new ≡ self.old)
             (λ next. self.new ≡ record self.old {
               link = record self.old.link { local_state = next; output_handle = None };
             })) }
         ensures left { OnErr result (self.new ≡ self.old) }
         ensures memory { OnErr result (is_some
-            (error_sent (remedy_of error) self.old.link.local_state self.old.link.output_handle) ≡ true) }
+            (error_sent (Failing.sender_remedy error) self.old.link.local_state self.old.link.output_handle) ≡ true) }
     {
         self.link.handle_attach_error(error)
     }

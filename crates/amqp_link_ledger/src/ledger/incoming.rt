@@ -17,6 +17,7 @@ use amqp_link_types::types::{
     DeliveryNumber, DeliveryState, DeliveryTag, DispositionError, LinkFlow, LinkRelayError,
     Payload, Transfer, has_ended,
 };
+use amqp_link_values::copy::copy_of;
 use std::alloc::AllocError;
 
 // Resolves the pending registration of a tag, if there is an outcome.
@@ -119,17 +120,6 @@ impl<T: LinkTarget> OutcomeLedger<T> {
         if (!settled && !has_ended(state)) || !self.is_pending(tag) {
             return Ok(None);
         }
-        Ok(Some(Ok(copy_of_state(state)?)))
-    }
-}
-
-// A copy of a state, if there is one.
-fn copy_of_state(state: &Option<DeliveryState>) -> Result<Option<DeliveryState>, AllocError>
-    ensures copy { IfOk result (λ copy. copy ≡ state.now) }
-    ensures memory { OnErr result (does_carry state.now ≡ true) }
-{
-    match state {
-        Some(state) => Ok(Some(state.clone()?)),
-        None => Ok(None),
+        Ok(Some(Ok(copy_of(state)?)))
     }
 }

@@ -1,12 +1,13 @@
 //! A transfer arrives: its payload is added to what is held of its delivery, and the receiver reports that
 //! (2.6.12, 2.7.5, 3.4.1).
-ghost use Rattle.std.specs.Prelude.{◌≡◌, ◌++◌, None, Some, IfOk, IsSomeAnd, OnOk, OnErr};
+ghost use Rattle.std.specs.Prelude.{◌≡◌, ◌++◌, not, None, Some, IfOk, IsSomeAnd, OnOk, OnErr};
 ghost use Rattle.amqp_link_payloads.specs.Position.{position};
 ghost use Rattle.amqp_link_types.specs.Entries.{entry_at};
 ghost use Rattle.amqp_link_types.specs.Frames.{payload_of};
 ghost use Rattle.amqp_link_core.specs.Held.{held_bytes};
 ghost use Rattle.amqp_link_worlds.specs.Receiving.{CanReceive};
 ghost use Rattle.amqp_link_worlds.specs.Steps.{held_after, received};
+ghost use Rattle.amqp_link_worlds.specs.Wires.{does_begin};
 ghost use Rattle.amqp_link_worlds.specs.Worlds.{bytes_in, receiver_entry};
 ghost use Rattle.amqp_link_pair.specs.Keeping.{IsReceived, kept_after, with_report};
 
@@ -42,15 +43,17 @@ fn hold(
     id: DeliveryNumber,
 ) -> Result<(u32, u64), AllocError>
     requires can { CanReceive held.old id frame.now }
+    requires turn { does_begin frame.now ≡ not receiver.old.more }
     requires reported { entry_at receiver.old.unsettled tag.now ≡ receiver_entry held.old }
     ensures held { OnOk result (held.new ≡ Some (held_after held.old id frame.now)) }
     ensures place { IfOk result (λ place. place ≡ position (bytes_in held.old ++ payload_of frame.now)) }
     ensures report { IfOk result (λ place. receiver.new ≡ with_report tag.now place receiver.old) }
     ensures left { OnErr result ((held.new ≡ held.old) × (receiver.new ≡ receiver.old)) }
 {
+    let begins_delivery = receiver.begins_delivery();
     match held {
         Some(held) => {
-            go_on(held, frame, id)?;
+            go_on(held, begins_delivery, frame, id)?;
             let place = held.position();
             report(receiver, tag, place)?;
             Ok(place)
@@ -80,6 +83,7 @@ impl Kept {
         id: DeliveryNumber,
     ) -> Result<(u32, u64, bool), AllocError>
         requires can { CanReceive self.old.progress.held id frame.now }
+        requires turn { does_begin frame.now ≡ not receiver.old.more }
         requires reported { entry_at receiver.old.unsettled tag.now
             ≡ receiver_entry self.old.progress.held }
         ensures done { OnOk result (self.new ≡ kept_after self.old id frame.now) }
@@ -110,8 +114,9 @@ impl Deliveries {
         frame: &LinkFrame,
         id: DeliveryNumber,
     ) -> Result<(u32, u64, bool), AllocError>
-        requires { IsSomeAnd (entry_at self.old tag.now) (λ kept. CanReceive kept.progress.held id frame.now
+        requires can { IsSomeAnd (entry_at self.old tag.now) (λ kept. CanReceive kept.progress.held id frame.now
             × (entry_at receiver.old.unsettled tag.now ≡ receiver_entry kept.progress.held)) }
+        requires turn { does_begin frame.now ≡ not receiver.old.more }
         ensures done { IfOk result (λ came. IsReceived self.old receiver.old tag.now id frame.now
             (came.0, came.1) came.2 self.new receiver.new) }
         ensures left { OnErr result ((self.new ≡ self.old) × (receiver.new ≡ receiver.old)) }

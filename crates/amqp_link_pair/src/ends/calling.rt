@@ -1,23 +1,20 @@
-//! Flows, detaches and dispositions between attached endpoints, which do not go over the wire (2.6.4, 2.6.7,
-//! 2.6.12).
-ghost use Rattle.std.specs.Prelude.{◌≡◌, ◌∷◌, [], false, None, Some, Ok, IsSome, OnOk, OnErr};
+//! Flows and dispositions between attached endpoints, which do not go over the wire, and what a lost session leaves of
+//! them (2.5.2, 2.6.4, 2.6.7, 2.6.12).
+ghost use Rattle.std.specs.Prelude.{◌≡◌, ◌∷◌, [], true, false, None, Some, Ok, IsSome};
 ghost use Rattle.amqp_link_types.specs.Entries.{entry_at, without_entry};
 ghost use Rattle.amqp_link_types.specs.declared.types.delivery_state.DeliveryState.TheVariants.{Accepted};
 ghost use Rattle.amqp_link_state.specs.Counts.{granted, stated_flow};
-ghost use Rattle.amqp_link_state.specs.declared.state.LinkState.TheVariants.{DetachSent, Detached};
-ghost use Rattle.amqp_link_core.specs.LinkStates.{Call, next_state};
 ghost use Rattle.amqp_link_ledger.specs.Fates.{Resolves, after};
 ghost use Rattle.amqp_link_worlds.specs.Callable.{CanGrant, CanCut};
 ghost use Rattle.amqp_link_worlds.specs.Steps.{with_credit};
-ghost use Rattle.amqp_link_pair.specs.Endpoints.{IsFlow, detached, detached_ledger};
+ghost use Rattle.amqp_link_pair.specs.Endpoints.{IsFlow, without_session, ledger_without_session};
 
 use crate::ends::{Ends, Stage};
 use amqp_link_core::endpoint::{LinkDetach, LinkExt};
-use amqp_link_ledger::ledger::OutcomeLedger;
 use amqp_link_receiver::receiver_link::ReceiverLink;
 use amqp_link_types::delivery::DeliveryInfo;
 use amqp_link_types::frame::LinkFrame;
-use amqp_link_types::types::{DeliveryState, Detach, DispositionError, Handle, LinkFlow, Target};
+use amqp_link_types::types::{DeliveryState, Disposition, LinkFlow, Target};
 use std::alloc::AllocError;
 
 // The flow in a frame that has one.
@@ -43,36 +40,20 @@ fn state_credit(receiver: &mut ReceiverLink<Target>, credit: u32) -> LinkFlow
     }
 }
 
-// The sender sends a detach after which the link can be attached again.
-fn detach(ledger: &mut OutcomeLedger<Target>) -> Detach
-    requires output { ledger.old.link.output_handle ≡ Some (record { 0 = 0 }) }
-    requires can { next_state Call.SendDetach false ledger.old.link.local_state ≡ Some DetachSent }
-    ensures sent { result ≡ record { handle = record { 0 = 0 }; closed = false; error = None } }
-    ensures after { ledger.new ≡ detached_ledger DetachSent ledger.old }
+// The receiver's disposition of a delivery that it reports: accepted, and settled.
+fn accept(receiver: &mut ReceiverLink<Target>, info: &DeliveryInfo) -> Disposition
+    requires { IsSome (entry_at receiver.old.unsettled info.now.delivery_tag) }
+    ensures settled { result.settled ≡ true }
+    ensures state { result.state ≡ Some Accepted }
+    ensures after { receiver.new ≡ record receiver.old {
+      unsettled = without_entry receiver.old.unsettled info.now.delivery_tag;
+    } }
 {
-    match ledger.send_detach(false, None) {
-        Ok(LinkFrame::Detach(detach)) => detach,
-        _ => unreachable!(),
-    }
-}
-
-// The reply to such a detach.
-fn reply() -> Detach
-    ensures { result ≡ record { handle = record { 0 = 0 }; closed = false; error = None } }
-{
-    Detach {
-        handle: Handle(0),
-        closed: false,
-        error: None,
-    }
-}
-
-// The error of a disposition, which is refused only if it is out of memory.
-fn out_of_memory(error: DispositionError) -> AllocError
-    requires { error ≡ DispositionError.OutOfMemory }
-{
-    drop(error);
-    AllocError
+    let told = receiver.dispose(info, Some(true), DeliveryState::Accepted, false);
+    let Ok(Some(LinkFrame::Disposition(told))) = told else {
+        unreachable!()
+    };
+    told
 }
 
 impl Ends {
@@ -93,26 +74,26 @@ impl Ends {
         self.ledger.flow_state().link_credit()
     }
 
-    /// The sender sends a detach that does not close, which arrives, and its reply arrives.
+    /// Both endpoints lose their session.
     pub(crate) fn cut(&mut self)
         requires { CanCut self.old.ledger.link self.old.receiver }
         ensures { self.new ≡ record self.old {
           stage = Stage.Apart;
-          ledger = detached_ledger Detached self.old.ledger;
-          receiver = detached self.old.receiver;
+          ledger = ledger_without_session self.old.ledger;
+          receiver = without_session self.old.receiver;
         } }
     {
-        let detach = detach(&mut self.ledger);
-        let _ = self.receiver.apply_remote_detach_outcome(detach);
-        let _ = self.ledger.on_detach_reply(reply());
+        self.ledger.on_session_lost();
+        self.receiver.on_session_lost();
         self.stage = Stage::Apart;
     }
 
-    /// Both endpoints settle a delivery as accepted. Refused only if it is out of memory, with nothing
-    /// changed.
-    pub(crate) fn settle(&mut self, info: &DeliveryInfo) -> Result<(), AllocError>
-        requires { IsSome (entry_at self.old.ledger.link.unsettled info.now.delivery_tag) }
-        ensures done { OnOk result (self.new ≡ record self.old {
+    /// The receiver disposes of a delivery as accepted and settled, and the sender takes that disposition. Does not
+    /// allocate.
+    pub(crate) fn settle(&mut self, info: &DeliveryInfo)
+        requires sender { IsSome (entry_at self.old.ledger.link.unsettled info.now.delivery_tag) }
+        requires receiver { IsSome (entry_at self.old.receiver.unsettled info.now.delivery_tag) }
+        ensures { self.new ≡ record self.old {
           ledger = record {
             link = record self.old.ledger.link {
               unsettled = without_entry self.old.ledger.link.unsettled info.now.delivery_tag;
@@ -122,17 +103,16 @@ impl Ends {
           receiver = record self.old.receiver {
             unsettled = without_entry self.old.receiver.unsettled info.now.delivery_tag;
           };
-        }) }
-        ensures left { OnErr result (self.new ≡ self.old) }
+        } }
     {
-        let state = Some(DeliveryState::Accepted);
+        let told = accept(&mut self.receiver, info);
         let tag = info.delivery_tag();
-        match self.ledger.on_incoming_disposition(true, state, tag) {
+        match self
+            .ledger
+            .on_incoming_disposition(told.settled, told.state, tag)
+        {
             Ok(ended) => drop(ended),
-            Err(error) => return Err(out_of_memory(error)),
+            Err(_) => unreachable!(),
         }
-        let state = DeliveryState::Accepted;
-        drop(self.receiver.dispose(info, Some(true), state, false));
-        Ok(())
     }
 }

@@ -3,7 +3,8 @@ ghost use Rattle.std.specs.Prelude.{◌≡◌};
 ghost use Rattle.amqp_link_payloads.specs.Bodies.{whole_message};
 ghost use Rattle.amqp_link_ledger.specs.Fates.{MovesOnce};
 ghost use Rattle.amqp_link_worlds.specs.Invariants.{IsWorld};
-ghost use Rattle.amqp_link_worlds.specs.PairRuns.{FatesMoveOnce, HoldsWhatArrived, HoldsWhatWasSent, RunsEvents, Step, is_answer_out_of_memory as is_memory};
+ghost use Rattle.amqp_link_worlds.specs.PairRuns.{FatesMoveOnce, HoldsWhatArrived, HoldsWhatWasSent, RunsEvents, Step};
+ghost use Rattle.amqp_link_worlds.specs.PairRuns;
 ghost use Rattle.amqp_link_worlds.specs.Worlds.{Good};
 ghost use Rattle.amqp_link_worlds.specs.declared.event.Event.TheVariants as event;
 
@@ -167,7 +168,7 @@ impl Pair {
 
 // Whether a call was out of memory.
 fn is_answer_out_of_memory(answer: &Result<Answer, PairError>) -> bool
-    ensures { result ≡ is_memory answer.now }
+    ensures { result ≡ PairRuns.is_answer_out_of_memory answer.now }
 {
     match answer {
         Ok(_) => false,

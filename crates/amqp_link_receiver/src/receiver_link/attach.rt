@@ -7,7 +7,7 @@ ghost use Rattle.amqp_link_core.specs.AttachSent.{SendsAttach, IsTooLarge};
 ghost use Rattle.amqp_link_core.specs.Shown.{counted_attach};
 ghost use Rattle.amqp_link_core.specs.Attaching.{FitsFrame, with_entries};
 ghost use Rattle.amqp_link_core.specs.LinkStates.{Call, next_state};
-ghost use Rattle.amqp_link_receiver.specs.ReceiverAttaches.{has_entries as names_any, receiver_exchange_in as exchanged_in};
+ghost use Rattle.amqp_link_receiver.specs.ReceiverAttaches;
 ghost use Rattle.amqp_link_receiver.specs.ReceiverAttaches.{receiver_shown, receiver_target_refusal, receiver_source_verdict, is_receiver_out_of_memory};
 ghost use Rattle.amqp_link_core.specs.AttachTests.{verified};
 ghost use Rattle.amqp_link_verification.specs.Termini.{verdict};
@@ -38,8 +38,8 @@ use std::alloc::{AllocError, Global};
 pub enum ReceiverAttachExchange {
     /// The sender's attach states no unsettled delivery: there is nothing to resume.
     Complete,
-    /// An attach did not state all unsettled deliveries. Those that the sender's attach states are resumed
-    /// first.
+    /// An attach did not state all unsettled deliveries. Those that the sender's attach states are resumed,
+    /// and then the link is attached anew (`ReceiverLink`, **Detach**) until an exchange is complete (2.6.13).
     IncompleteUnsettled,
     /// The sender resumes deliveries.
     Resume,
@@ -177,7 +177,7 @@ struct Incoming {
 }
 
 fn has_entries(unsettled: &Option<UnsettledMap<Option<DeliveryState>>>) -> bool
-    ensures { result ≡ names_any (unwrap_or unsettled.now []) }
+    ensures { result ≡ ReceiverAttaches.has_entries (unwrap_or unsettled.now []) }
 {
     match unsettled {
         Some(entries) => entries.len() != 0,
@@ -192,7 +192,7 @@ fn read(attach: Attach) -> Incoming
       source = attach.source;
       target = attach.target;
       incomplete = attach.incomplete_unsettled;
-      has_entries = names_any (remote_entries attach);
+      has_entries = ReceiverAttaches.has_entries (remote_entries attach);
       count = attach.initial_delivery_count;
       max_message_size = attach.max_message_size;
       properties = attach.properties;
@@ -213,7 +213,7 @@ fn read(attach: Attach) -> Incoming
 }
 
 fn exchange(state: LinkState, has_entries: bool) -> ReceiverAttachExchange
-    ensures { result ≡ exchanged_in state has_entries }
+    ensures { result ≡ ReceiverAttaches.receiver_exchange_in state has_entries }
 {
     if !has_entries {
         return ReceiverAttachExchange::Complete;

@@ -3,7 +3,7 @@ ghost use Rattle.std.specs.Prelude.{◌≡◌, ◌⊎◌, ◌≢◌, ◌<◌, �
 ghost use Rattle.std.specs.Prelude.{IfOk, IsErrOf, IsSome, IsSomeAnd, OnOk, OnErr, MatchResult, option_copied};
 ghost use Rattle.std.specs.List.{concat};
 ghost use Rattle.amqp_link_types.specs.Entries.{entry_at};
-ghost use Rattle.amqp_link_receiver.specs.Completing.{may_receive as takes_deliveries, info_of as info_of_transfer};
+ghost use Rattle.amqp_link_receiver.specs.Completing;
 ghost use Rattle.amqp_link_receiver.specs.Completing.{link_refusal, transfer_refusal, delivery_refusal};
 ghost use Rattle.amqp_link_receiver.specs.Completing.{IsDelivery, completion_refusal, unsettled_tag};
 ghost use Rattle.amqp_link_receiver.specs.Completing.{entered, spent, reported};
@@ -110,7 +110,7 @@ impl<T: LinkTarget> ReceiverLink<T> {
         transfer: &'a Transfer,
         pieces: &[Payload],
     ) -> Result<Completion<'a, B>, AllocError>
-        requires open { takes_deliveries self.now.local_state ≡ true }
+        requires open { Completing.may_receive self.now.local_state ≡ true }
         requires credit { 0 < self.now.flow_state.link_credit }
         ensures answer { IfOk result (λ completion. MatchResult completion.answer
             (λ delivery. (option_copied completion.key ≡ unsettled_tag transfer.now)
@@ -146,7 +146,7 @@ impl<T: LinkTarget> ReceiverLink<T> {
         info: DeliveryInfo,
         pieces: &[Payload],
     ) -> Result<Result<Delivery<B>, ReceiverTransferError>, AllocError>
-        requires { info ≡ info_of_transfer transfer.now }
+        requires { info ≡ Completing.info_of transfer.now }
         ensures { IfOk result (λ answer. MatchResult answer
             (λ delivery. IsDelivery self.now transfer.now (B.decoded (concat pieces.now)) delivery
             × (delivery_refusal self.now transfer.now (B.decoded (concat pieces.now)) ≡ None))
@@ -201,7 +201,7 @@ impl<T: LinkTarget> ReceiverLink<T> {
 
 // Whether a link in this state takes deliveries.
 fn may_receive(state: LinkState) -> bool
-    ensures { result ≡ takes_deliveries state }
+    ensures { result ≡ Completing.may_receive state }
 {
     matches!(
         state,
@@ -229,7 +229,7 @@ fn info_of(
 ) -> Result<DeliveryInfo, AllocError>
     requires id { transfer.now.delivery_id ≡ Some delivery_id }
     requires tag { transfer.now.delivery_tag ≡ Some tag.now }
-    ensures { IfOk result (λ info. info ≡ info_of_transfer transfer.now) }
+    ensures { IfOk result (λ info. info ≡ Completing.info_of transfer.now) }
 {
     let mode = if is_settled(transfer) {
         None

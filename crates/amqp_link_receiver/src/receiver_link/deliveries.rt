@@ -1,11 +1,10 @@
 //! Transfers that arrive at a receiver, and the entries of their deliveries (2.6.12, 2.7.5).
-ghost use Rattle.std.specs.Prelude.{◌≡◌, false, None, Some, IfOk, IfErr, IsSome, IsSomeAnd};
+ghost use Rattle.std.specs.Prelude.{◌≡◌, false, not, None, Some, IfOk, IfErr, IsSome, IsSomeAnd};
 ghost use Rattle.std.specs.Prelude.{⊤, OnOk, OnErr, MatchOption, unwrap_or};
 ghost use Rattle.amqp_link_types.specs.Entries.{entry_at, with_entry};
 ghost use Rattle.amqp_link_receiver.specs.ReceiverDeliveries.{frame_come, number_and_tag, session_record};
 ghost use Rattle.amqp_link_receiver.specs.ReceiverDeliveries.{with_kept_state, after_state};
-ghost use Rattle.amqp_link_receiver.specs.ReceiverDeliveries.{has_ended as is_terminal_at};
-ghost use Rattle.amqp_link_receiver.specs.ReceiverDeliveries.{is_settled as is_settled_transfer};
+ghost use Rattle.amqp_link_receiver.specs.ReceiverDeliveries;
 
 use crate::receiver_link::ReceiverLink;
 use amqp_link_core::endpoint::target::LinkTarget;
@@ -17,12 +16,23 @@ use amqp_link_types::types::{
 use std::alloc::AllocError;
 
 impl<T: LinkTarget> ReceiverLink<T> {
+    /// Whether the next transfer begins a delivery in this attachment (2.6.14, 2.7.5): the transfer before it had no
+    /// `more`, or none has arrived since the peer's attach. Otherwise it continues the delivery that is under way,
+    /// whatever id, tag and flags it repeats. Ask before `on_incoming_transfer` takes the transfer; what it is added to is
+    /// told this by `IncompleteTransfer::try_add`. Does not allocate.
+    pub fn begins_delivery(&self) -> bool
+        ensures { result ≡ not self.now.more }
+    {
+        !self.more
+    }
+
     /// Takes a transfer from the session, and returns the frame to hand to the link's user. Beside it stand
     /// the transfer's delivery id and tag, if the link is in mode `Second`, the transfer is not settled, and
     /// no delivery is under way: the transfer before it had no `more`, or none has arrived since the peer's
     /// attach. A disposition of the sender names the id: the session passes it on with this tag (2.7.6).
     ///
-    /// Refused with `OutOfMemory`, and nothing changed; only a tag that is returned is allocated.
+    /// Refused with `OutOfMemory`, and nothing changed; only a tag that is returned is allocated. The transfer and
+    /// its payload are dropped then: to make the call again, keep copies.
     pub fn on_incoming_transfer(
         &mut self,
         transfer: Transfer,
@@ -119,7 +129,7 @@ impl<T: LinkTarget> ReceiverLink<T> {
 
     // Whether the delivery has a terminal state.
     fn has_ended(&self, tag: &DeliveryTag) -> bool
-        ensures { result ≡ is_terminal_at (entry_at self.now.unsettled tag.now) }
+        ensures { result ≡ ReceiverDeliveries.has_ended (entry_at self.now.unsettled tag.now) }
     {
         match self.unsettled.get(tag) {
             Some(state) => has_ended(state),
@@ -178,7 +188,7 @@ fn frame_of(transfer: Transfer, payload: Payload) -> LinkFrame
 
 // Whether a delivery is settled by its transfer; absent means false (2.7.5).
 pub(super) fn is_settled(transfer: &Transfer) -> bool
-    ensures { result ≡ is_settled_transfer transfer.now }
+    ensures { result ≡ ReceiverDeliveries.is_settled transfer.now }
 {
     transfer.settled.unwrap_or(false)
 }

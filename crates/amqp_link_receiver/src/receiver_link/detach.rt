@@ -4,7 +4,9 @@ ghost use Rattle.std.specs.Prelude.{◌≡◌, None};
 use crate::receiver_link::ReceiverLink;
 use amqp_link_core::endpoint::LinkDetach;
 use amqp_link_core::endpoint::detached::{detach_frame, result_of_remote_detach, result_of_reply};
-use amqp_link_core::endpoint::table::{after_detach_reply, after_remote_detach, after_sent_detach};
+use amqp_link_core::endpoint::table::{
+    after_detach_reply, after_lost_session, after_remote_detach, after_sent_detach,
+};
 use amqp_link_core::endpoint::target::LinkTarget;
 use amqp_link_state::state::LinkState;
 use amqp_link_types::frame::LinkFrame;
@@ -27,7 +29,7 @@ impl<T: LinkTarget> LinkDetach for ReceiverLink<T> {
     ghost use Rattle.std.specs.Prelude.{refl};
     ghost use Rattle.amqp_link_types.specs.declared.types.errors.DetachError.TheVariants.{IllegalState};
     ghost use Rattle.amqp_link_core.specs.Detaching.{reply_error};
-    ghost use Rattle.amqp_link_receiver.specs.ReceiverAttaches.{receiver_shown};
+    ghost use Rattle.amqp_link_receiver.specs.ReceiverAttaches.{receiver_shown, receiver_lost};
 
     type DetachError = DetachError;
 
@@ -41,11 +43,15 @@ impl<T: LinkTarget> LinkDetach for ReceiverLink<T> {
 
     ghost moved = { λ link s h. record link { local_state = s; output_handle = h } };
 
+    ghost lost = { receiver_lost };
+
     ghost illegal_state = { IllegalState };
 
     ghost replied = { reply_error };
 
     ghost shown_moved = { λ link s h. refl };
+
+    ghost shown_lost = { λ link. refl };
 
     fn on_detach_reply(&mut self, detach: Detach) -> Result<(), DetachError> {
         let Some(next) = after_detach_reply(self.local_state, detach.closed) else {
@@ -84,5 +90,11 @@ impl<T: LinkTarget> LinkDetach for ReceiverLink<T> {
         };
         self.release_handle(next);
         result_of_remote_detach(detach)
+    }
+
+    fn on_session_lost(&mut self) {
+        self.release_handle(after_lost_session(self.local_state));
+        self.input_handle = None;
+        self.more = false;
     }
 }

@@ -27,6 +27,10 @@ impl<T: LinkTarget> ReceiverLink<T> {
     /// settled delivery leaves the unsettled map; otherwise its entry gets this state. The disposition has
     /// `first` alone and no `last`. A delivery without an entry gets none, and nothing changes.
     ///
+    /// The map changes in any state of the link: one that is not attached cannot send the disposition, and the
+    /// entry of a delivery that it settles is gone all the same, so that a later attach does not report it.
+    /// Dispose of it once the link is attached again and the sender has resumed it, by the id that it has then.
+    ///
     /// Refused if it is out of memory, with nothing changed, and only for a delivery that has an entry and is
     /// not settled.
     pub fn dispose(

@@ -42,8 +42,9 @@ impl<T: LinkTarget> ReceiverLink<T> {
 
     /// Takes the sender's flow, and returns the flow to reply with, if the flow asks for an echo. The
     /// delivery-count and `available` are updated if the flow has them; the link-credit and the drain flag
-    /// are the receiver's own, and stay. The reply has the flow state afterwards, without properties and
-    /// without `echo`.
+    /// are the receiver's own, and stay, also if the sender has drained: then nothing more arrives, though the
+    /// credit stands as it was stated, until the next `send_flow` states it anew. The reply has the flow state
+    /// afterwards, without properties and without `echo`.
     ///
     /// Refused with `UnattachedHandle`, and nothing changed, without output handle. Does not allocate.
     pub fn on_incoming_flow(&mut self, flow: LinkFlow) -> Result<Option<LinkFlow>, LinkRelayError>

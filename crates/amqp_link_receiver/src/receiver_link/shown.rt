@@ -7,6 +7,7 @@ use amqp_link_core::endpoint::target::LinkTarget;
 use amqp_link_core::endpoint::{Link, LinkExt};
 use amqp_link_state::role::ReceiverMarker;
 use amqp_link_state::state::{LinkFlowState, LinkState};
+use amqp_link_types::types::unsettled_map::UnsettledMap;
 use amqp_link_types::types::{self, DeliveryState, DeliveryTag, Fields};
 use indexmap::IndexMap;
 
@@ -23,6 +24,13 @@ impl<T: LinkTarget> ReceiverLink<T> {
         ensures { result ≡ self.now.input_handle }
     {
         self.input_handle
+    }
+
+    /// The unsettled deliveries, with the calls of this library.
+    pub fn unsettled_map(&self) -> &UnsettledMap<Option<DeliveryState>>
+        ensures { result.now ≡ self.now.unsettled }
+    {
+        &self.unsettled
     }
 
     /// Whether the sender sends its deliveries settled.

@@ -3,7 +3,8 @@
 ghost use Rattle.std.specs.Prelude.{◌≡◌, ◌≢◌, ◌∷◌, ◌&&◌, ◌↔◌, ◌⊎◌, [], map, true, false, None};
 ghost use Rattle.std.specs.Prelude.{IfOk, IfErr, IfSome, IsSome, IsErrOf, OnOk, OnErr, if◌then◌else◌};
 ghost use Rattle.std.specs.Option.{option_map};
-ghost use Rattle.amqp_link_dispositions.specs.Ending.{all_closed as all_closed_for, detach_allocates, ended_by, reply_of, map_after_receiver_disposition};
+ghost use Rattle.amqp_link_dispositions.specs.Ending.{detach_allocates, ended_by, reply_of, map_after_receiver_disposition};
+ghost use Rattle.amqp_link_dispositions.specs.Ending;
 ghost use Rattle.amqp_link_dispositions.specs.Listed.{tags_in_order};
 ghost use Rattle.amqp_link_sender.specs.Senders.{settles};
 ghost use Rattle.amqp_link_sender.specs.SenderDisposes.{Dispositions, ended_at, after_disposing, is_echoed};
@@ -25,6 +26,10 @@ impl<T: LinkTarget> SenderLink<T> {
     /// that leaves the unsettled map and is resolved with the state stored in its entry; otherwise the entry,
     /// if there is one, gets this state. The disposition has `first` alone and no `last`. In mode `Settled`
     /// there is no disposition, and nothing is resolved.
+    ///
+    /// The map changes in any state of the link: one that is not attached cannot send the disposition, and a
+    /// delivery that it settles is resolved all the same. The id is the one that the delivery has in this
+    /// attachment.
     ///
     /// Refused only if it is out of memory, with nothing changed; in mode `Settled` it does not allocate.
     pub fn dispose(
@@ -149,7 +154,7 @@ impl<T: LinkTarget> SenderLink<T> {
     /// Its cost grows with the number of pending deliveries.
     pub fn fail_pending_unsettled(&mut self, detach: &Detach) -> Result<Outcomes, AllocError>
         ensures ended { IfOk result (λ outcomes.
-            outcomes.items ≡ all_closed_for detach.now.error self.old.unsettled) }
+            outcomes.items ≡ Ending.all_closed detach.now.error self.old.unsettled) }
         ensures after { OnOk result (self.new ≡ record self.old { unsettled = [] }) }
         ensures memory { OnErr result (self.old.unsettled ≢ []) }
         ensures left { OnErr result (self.new ≡ self.old) }
@@ -178,7 +183,7 @@ impl<T: LinkTarget> SenderLink<T> {
             then option_map (λ handle. reply_of handle detach.now) self.old.output_handle else None)) }
         ensures ended { IfOk result (λ answer. answer.1.items
             ≡ (if remote_initiated && detach.now.closed
-            then all_closed_for detach.now.error self.old.unsettled else [])) }
+            then Ending.all_closed detach.now.error self.old.unsettled else [])) }
         ensures after { OnOk result (self.new ≡ (if remote_initiated && detach.now.closed
             then record self.old { unsettled = [] } else self.old)) }
         ensures unattached { IsErrOf result LinkRelayError.UnattachedHandle

@@ -1,7 +1,7 @@
 //! What follows once the attach of a sender's link has failed (2.6.3).
 ghost use Rattle.std.specs.Prelude.{◌≡◌, true, None, IfOk, OnOk, OnErr, MatchOption, is_some};
 ghost use Rattle.amqp_link_core.specs.Failing.{error_sent, handled, state_after};
-ghost use Rattle.amqp_link_core.specs.Failing.{sender_remedy as remedy_of};
+ghost use Rattle.amqp_link_core.specs.Failing;
 
 use crate::sender_link::SenderLink;
 use amqp_link_core::endpoint::failing::{Action, carry_out, error_to_send, sender_remedy};
@@ -30,13 +30,13 @@ impl<T: LinkTarget> SenderLink<T> {
         error: SenderAttachError,
     ) -> Result<(SenderAttachError, Action), AllocError>
         ensures answer { IfOk result (λ given. given ≡ handled error SenderAttachError.IllegalState
-            (remedy_of error) self.old.local_state self.old.output_handle) }
-        ensures after { OnOk result (MatchOption (state_after (remedy_of error) self.old.local_state)
+            (Failing.sender_remedy error) self.old.local_state self.old.output_handle) }
+        ensures after { OnOk result (MatchOption (state_after (Failing.sender_remedy error) self.old.local_state)
             (self.new ≡ self.old)
             (λ next. self.new ≡ record self.old { local_state = next; output_handle = None })) }
         ensures left { OnErr result (self.new ≡ self.old) }
         ensures memory { OnErr result (is_some
-            (error_sent (remedy_of error) self.old.local_state self.old.output_handle) ≡ true) }
+            (error_sent (Failing.sender_remedy error) self.old.local_state self.old.output_handle) ≡ true) }
     {
         let remedy = sender_remedy(&error);
         let sent = error_to_send(self.alloc, remedy, self.local_state, self.output_handle)?;

@@ -17,6 +17,8 @@ impl<T: LinkTarget> SenderLink<T> {
     /// delivery-count, and there is always a reply; otherwise there is one if the flow asks for an echo. The
     /// reply has the flow state afterwards, without properties and without `echo`.
     ///
+    /// So credit that is granted with `drain` is given back at once, before anything is sent with it.
+    ///
     /// Refused with `UnattachedHandle`, and nothing changed, without output handle. Does not allocate.
     pub fn on_incoming_flow(&mut self, flow: LinkFlow) -> Result<Option<LinkFlow>, LinkRelayError>
         ensures answer { MatchOption self.old.output_handle

@@ -8,7 +8,8 @@ ghost use Rattle.amqp_link_types.specs.declared.types.attach.Attach.{Attach as T
 ghost use Rattle.amqp_link_core.specs.AttachFields.{remote_entries, merged_properties, merging_allocates, next_of};
 ghost use Rattle.amqp_link_exchange.specs.Exchanges.{outcomes_returned};
 ghost use Rattle.amqp_link_exchange.specs.Plans.{IsPlanOf};
-ghost use Rattle.amqp_link_sender.specs.SenderAttaches.{disagree as do_disagree, is_nothing, resumption_in, exchange_in};
+ghost use Rattle.amqp_link_sender.specs.SenderAttaches.{is_nothing, resumption_in, exchange_in};
+ghost use Rattle.amqp_link_sender.specs.SenderAttaches;
 ghost use Rattle.amqp_link_core.specs.AttachTests.{verified};
 ghost use Rattle.amqp_link_core.specs.Targets.{target_of};
 ghost use Rattle.amqp_link_verification.specs.Termini.{verdict};
@@ -34,8 +35,9 @@ use std::alloc::{AllocError, Global};
 pub enum SenderAttachExchange {
     /// Neither endpoint has an unsettled delivery.
     Complete,
-    /// An attach did not state all deliveries. These are resumed first, then the link is detached and
-    /// attached again for the others.
+    /// An attach did not state all unsettled deliveries. The list has every own one, as in `Resume`; those that
+    /// the receiver's attach states are resumed, the others put back, and then the link is attached anew
+    /// (`SenderLink`, **Detach**) until an exchange is complete (2.6.13).
     IncompleteUnsettled(ResumingDeliveries),
     /// These deliveries are to be resumed.
     Resume(ResumingDeliveries),
@@ -174,7 +176,7 @@ fn read(attach: Attach) -> Incoming
 
 // Whether one endpoint settles what the other leaves unsettled.
 fn disagree(own: SenderSettleMode, theirs: SenderSettleMode) -> bool
-    ensures { result ≡ do_disagree own theirs }
+    ensures { result ≡ SenderAttaches.disagree own theirs }
 {
     matches!(
         (own, theirs),

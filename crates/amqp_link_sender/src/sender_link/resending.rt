@@ -2,7 +2,7 @@
 ghost use Rattle.std.specs.Prelude.{◌≡◌, ◌<◌, ◌∷◌, [], None, Some, Ok, Err, IfOk, IfErr, OnOk, OnErr, MatchOption, length};
 ghost use Rattle.amqp_link_types.specs.Entries.{entry_at, with_entry, without_entry};
 ghost use Rattle.amqp_link_types.specs.Refusals.{AnswersExactly};
-ghost use Rattle.amqp_link_split.specs.Room.{payload_limit as limit_of_payload};
+ghost use Rattle.amqp_link_split.specs.Room;
 ghost use Rattle.amqp_link_split.specs.Fitting.{IsFitting};
 ghost use Rattle.amqp_link_sender.specs.Senders.{delivery_of, resuming_transfer, IsSent};
 ghost use Rattle.amqp_link_sender.specs.Senders.{is_pending, unsettled_transfer_tests, HandsBackThenOutOfMemory};
@@ -159,7 +159,7 @@ impl<T: LinkTarget> SenderLink<T> {
     ) -> Result<(InputHandle, usize), LinkStateError>
         ensures handle { IfOk result (λ admitted. self.now.input_handle ≡ Some admitted.0) }
         ensures limit { IfOk result (λ admitted.
-            admitted.1 ≡ limit_of_payload transfer.old self.now.max_frame_size) }
+            admitted.1 ≡ Room.payload_limit transfer.old self.now.max_frame_size) }
         ensures some { IfOk result (λ admitted. 0 < length rest.now → 0 < admitted.1) }
         ensures refused { AnswersExactly result
             (unsettled_transfer_tests self.now transfer.old tag.now rest.now) }

@@ -4,7 +4,8 @@
 ghost use Rattle.std.specs.Prelude.{◌≡◌, ◌↔◌, ◌+◌, ◌%◌, ◌^◌, ◌<◌, ◌≤◌, true, if◌then◌else◌, None};
 ghost use Rattle.std.specs.Prelude.{IfOk, IfErr, IsErr, OnErr, OnOk, is_some};
 ghost use Rattle.std.specs.Int.{w32, to_be_bytes};
-ghost use Rattle.amqp_link_state.specs.Counts.{sdiff, granted as granted_by, count_limit, after_consuming};
+ghost use Rattle.amqp_link_state.specs.Counts.{sdiff, count_limit, after_consuming};
+ghost use Rattle.amqp_link_state.specs.Counts;
 ghost use Rattle.amqp_link_state.specs.Counts.{flow_of, credit_after, sender_after, sender_reply};
 ghost use Rattle.amqp_link_state.specs.Counts.{receiver_after, receiver_reply, with_stated, stated_flow};
 
@@ -23,7 +24,7 @@ fn difference(count: SequenceNo, own: SequenceNo) -> i32
 
 // A sender's link-credit at its own count, if a receiver at this count grants this much.
 fn granted(count: SequenceNo, grant: u32, own: SequenceNo) -> u32
-    ensures { result ≡ granted_by count grant own }
+    ensures { result ≡ Counts.granted count grant own }
 {
     grant.saturating_add_signed(difference(count, own))
 }

@@ -7,7 +7,8 @@ use std::alloc::AllocError;
 use std::marker::Model;
 
 /// Which delivery it is, and how it is to be settled: all that a receiver needs to settle a delivery after
-/// its message is gone.
+/// its message is gone. The id is that of one attachment: once the link is attached again, the delivery has the
+/// id with which it is resumed, and an info of that id (`new`) settles it.
 ///
 /// A contract sees the id, the tag and the mode.
 #[derive(Debug, PartialEq, Eq, Drop)]

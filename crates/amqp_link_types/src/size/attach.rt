@@ -3,7 +3,8 @@
 
 ghost use Rattle.std.specs.Prelude.{◌≡◌};
 ghost use Rattle.amqp_link_values.specs.Length.{IsU64Of};
-ghost use Rattle.amqp_link_types.specs.Size.{snd_mode_field, rcv_mode_field, entry_len as entry_length};
+ghost use Rattle.amqp_link_types.specs.Size.{snd_mode_field, rcv_mode_field};
+ghost use Rattle.amqp_link_types.specs.Size;
 ghost use Rattle.amqp_link_types.specs.Size.{unsettled_len, attach_len};
 
 use crate::size::{before, before_flag, before_given, before_optional, described};
@@ -38,7 +39,7 @@ fn rcv_mode_len(mode: ReceiverSettleMode) -> Option<u64>
 
 // A tag and its state, or null.
 fn entry_len(tag: &DeliveryTag, state: &Option<DeliveryState>) -> Option<u64>
-    ensures { IsU64Of (entry_length (tag.now, state.now)) result }
+    ensures { IsU64Of (Size.entry_len (tag.now, state.now)) result }
 {
     let tag = tag.encoded_len()?;
     match state {

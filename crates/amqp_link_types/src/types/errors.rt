@@ -269,7 +269,9 @@ pub enum ReceiverTransferError {
     /// The state of the link does not allow transfers, or the link has no output handle.
     #[error("the link is not in a state for this call")]
     IllegalState,
-    /// There is less link-credit than the delivery takes. The sender's fault (2.6.7).
+    /// There is less link-credit than the delivery takes (2.6.7). Not always the sender's fault: the receiver may
+    /// have lowered its credit while the delivery was under way, and a delivery that is resumed takes a credit here
+    /// and none at the sender.
     #[error("there is less link credit than the delivery takes")]
     TransferLimitExceeded,
     /// The first transfer of a delivery has no delivery id. The sender's fault (2.7.5).

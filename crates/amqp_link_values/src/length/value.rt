@@ -3,14 +3,8 @@ ghost use Rattle.std.specs.Prelude.{◌≡◌, ◌+◌, ◌≤◌, length, nat_l
 ghost use Rattle.std.specs.List.{list_all};
 ghost use Rattle.amqp_link_values.specs.Data.{list, map};
 ghost use Rattle.amqp_link_values.specs.View.{view, items_view, pairs_view};
-ghost use Rattle.amqp_link_values.specs.Length.{IsU64Of, encoded_len as length_of};
-ghost use Rattle.amqp_link_values.specs.Length.{unsigned_len as unsigned_length};
-ghost use Rattle.amqp_link_values.specs.Length.{signed_len as signed_length, text_len as text_length};
-ghost use Rattle.amqp_link_values.specs.Length.{compound_len as compound_length};
-ghost use Rattle.amqp_link_values.specs.Length.{array_len as array_length};
-ghost use Rattle.amqp_link_values.specs.Length.{elements_len as elements_length};
-ghost use Rattle.amqp_link_values.specs.Length.{counted_len as counted_length};
-ghost use Rattle.amqp_link_values.specs.Length.{descriptor_len as descriptor_length};
+ghost use Rattle.amqp_link_values.specs.Length.{IsU64Of};
+ghost use Rattle.amqp_link_values.specs.Length;
 
 use crate::length::EncodedLen;
 use crate::symbol::Symbol;
@@ -18,7 +12,7 @@ use crate::value::{Descriptor, Value};
 
 /// The length of an unsigned number whose widest code takes `wide` bytes.
 pub fn unsigned_len(wide: u64, number: u64) -> u64
-    ensures { result ≡ unsigned_length wide number }
+    ensures { result ≡ Length.unsigned_len wide number }
 {
     if number == 0 {
         1
@@ -31,7 +25,7 @@ pub fn unsigned_len(wide: u64, number: u64) -> u64
 
 // The length of a signed number whose widest code takes `wide` bytes.
 fn signed_len(wide: u64, number: i64) -> u64
-    ensures { result ≡ signed_length wide number }
+    ensures { result ≡ Length.signed_len wide number }
 {
     if -128 <= number && number <= 127 {
         2
@@ -42,7 +36,7 @@ fn signed_len(wide: u64, number: i64) -> u64
 
 /// The length of a binary, a text or a symbol of `len` bytes.
 pub fn text_len(len: usize) -> Option<u64>
-    ensures { IsU64Of (text_length len) result }
+    ensures { IsU64Of (Length.text_len len) result }
 {
     let len = len as u64;
     if len <= 255 {
@@ -54,7 +48,7 @@ pub fn text_len(len: usize) -> Option<u64>
 
 /// The length of a list that is not empty, or of a map, whose parts take `content` bytes.
 pub fn compound_len(content: u64) -> Option<u64>
-    ensures { IsU64Of (compound_length content) result }
+    ensures { IsU64Of (Length.compound_len content) result }
 {
     if content <= 254 {
         Some(3 + content)
@@ -85,7 +79,7 @@ fn total_len(names: &[Symbol], each: u64) -> Option<u64>
 
 // The elements of an array have one code: a single long name makes all sizes long.
 fn elements_len(names: &[Symbol]) -> Option<u64>
-    ensures { IsU64Of (elements_length names.now) result }
+    ensures { IsU64Of (Length.elements_len names.now) result }
 {
     if are_short(names) {
         total_len(names, 1)
@@ -96,7 +90,7 @@ fn elements_len(names: &[Symbol]) -> Option<u64>
 
 // The length of an array of `count` elements that take `content` bytes.
 fn counted_len(count: usize, content: u64) -> Option<u64>
-    ensures { IsU64Of (counted_length count content) result }
+    ensures { IsU64Of (Length.counted_len count content) result }
 {
     if content <= 253 && count <= 255 {
         Some(4 + content)
@@ -107,14 +101,14 @@ fn counted_len(count: usize, content: u64) -> Option<u64>
 
 /// The length of an array of symbols.
 pub fn array_len(names: &[Symbol]) -> Option<u64>
-    ensures { IsU64Of (array_length names.now) result }
+    ensures { IsU64Of (Length.array_len names.now) result }
 {
     counted_len(names.len(), elements_len(names)?)
 }
 
 // The length of the descriptor of a described value.
 fn descriptor_len(descriptor: &Descriptor) -> Option<u64>
-    ensures { IsU64Of (descriptor_length descriptor.now) result }
+    ensures { IsU64Of (Length.descriptor_len descriptor.now) result }
 {
     match descriptor {
         Descriptor::Code(code) => Some(unsigned_len(9, *code)),
@@ -123,7 +117,7 @@ fn descriptor_len(descriptor: &Descriptor) -> Option<u64>
 }
 
 impl EncodedLen for Value {
-    ghost len_of = { λ value. length_of (view value) };
+    ghost len_of = { λ value. Length.encoded_len (view value) };
 
     fn encoded_len(&self) -> Option<u64> {
         value_len(self)
@@ -133,7 +127,7 @@ impl EncodedLen for Value {
 // Values hold values, so three functions call one another.
 #[cycle(encoded_len)]
 fn value_len(value: &Value) -> Option<u64>
-    ensures { IsU64Of (length_of (view value.now)) result }
+    ensures { IsU64Of (Length.encoded_len (view value.now)) result }
 {
     match value {
         Value::Null => Some(1),
@@ -163,7 +157,7 @@ fn value_len(value: &Value) -> Option<u64>
 // A list without items has a code of its own.
 #[cycle(encoded_len)]
 fn list_len(items: &Vec<Value>) -> Option<u64>
-    ensures { IsU64Of (length_of (list (items_view items.now.items))) result }
+    ensures { IsU64Of (Length.encoded_len (list (items_view items.now.items))) result }
 {
     let mut content = 0u64;
     for item in items {
@@ -179,7 +173,7 @@ fn list_len(items: &Vec<Value>) -> Option<u64>
 // Unlike an empty list, an empty map has a size and a count.
 #[cycle(encoded_len)]
 fn map_len(pairs: &Vec<(Value, Value)>) -> Option<u64>
-    ensures { IsU64Of (length_of (map (pairs_view pairs.now.items))) result }
+    ensures { IsU64Of (Length.encoded_len (map (pairs_view pairs.now.items))) result }
 {
     let mut content = 0u64;
     for (key, value) in pairs {

@@ -1,5 +1,5 @@
 use Rattle.amqp_link_worlds.proofs.CallLemmas.{can_send, next_is_free, can_grant, can_cut, can_resume, held_is_reported, can_complete, can_settle}
-use Rattle.amqp_link_worlds.proofs.WorldLemmas.{IsWorld-receives}
+use Rattle.amqp_link_worlds.proofs.WorldLemmas.{IsWorld-receives, IsWorld-turn}
 use Rattle.amqp_link_worlds.proofs.laws.endpoints_refuse_only_for_memory.Goals as goal
 
 pub returns-clause-send : goal.returns-clause-send
@@ -16,6 +16,9 @@ returns-clause-cut c = can_cut
 
 pub returns-clause-arrive : goal.returns-clause-arrive
 returns-clause-arrive c = IsWorld-receives
+
+pub returns-clause-turn : goal.returns-clause-turn
+returns-clause-turn c = IsWorld-turn
 
 pub returns-clause-report : goal.returns-clause-report
 returns-clause-report c = held_is_reported

@@ -1,11 +1,12 @@
 use Rattle.std.proofs.Common.{◌≡◌, ◌∙◌, ap, sym, subst, rules, refl, true, None, ◌∷◌}
 use Rattle.amqp_link_types.specs.Entries.{with_entry}
+use Rattle.amqp_link_types.specs.Frames.{performative_of}
 use Rattle.amqp_link_types.specs.Refusals.{refusal}
 use Rattle.amqp_link_worlds.specs.Invariants.{IsWorld}
 use Rattle.amqp_link_worlds.specs.Steps.{Arrives, arrive_tests}
 use Rattle.amqp_link_worlds.specs.Wires.{OnWire}
 use Rattle.amqp_link_worlds.specs.Worlds.{World, is_together}
-use Rattle.amqp_link_worlds.proofs.WorldLemmas.{IsWorld-arrives, Good-from_world}
+use Rattle.amqp_link_worlds.proofs.WorldLemmas.{IsWorld-arrives, IsWorld-turn, Good-from_world}
 use Rattle.amqp_link_pair.specs.Keeping.{IsReceived, kept_after}
 use Rattle.amqp_link_pair.specs.PairViews.{AreMarked, world_of}
 use Rattle.amqp_link_pair.specs.declared.deliveries.Kept.{Kept}
@@ -19,41 +20,47 @@ pub receive-requires : goal.receive-requires
 receive-requires c =
     let same : c.in_ok-tag.tag ≡ c.in-Some.tag.now = search rules in
     let s : OnWire = record { tag = c.in-Some.tag.now; frame = c.in-Some.frame.now } in
-    can_receive (world_of c.self.inside) c.self.inside.deliveries s _ c.in_ok-tag.tag c.args.id c.self.invariant.world refl
-    (first_and_rest c.self.inside.wire.transfers s (sym c.in-Some.ensures)) same
+    let wire = first_and_rest c.self.inside.wire.transfers s (sym c.in-Some.ensures) in
+    record {
+      can = can_receive (world_of c.self.inside) c.self.inside.deliveries s _ c.in_ok-tag.tag c.args.id c.self.invariant.world refl wire same;
+      turn = IsWorld-turn (world_of c.self.inside) s _ c.self.invariant.world wire;
+    }
 
 -- the transfer that arrives
-abbrev first : goal.After-drop_first → OnWire
+abbrev first : goal.After-take_off → OnWire
 first c = record { tag = c.in-Some.tag.now; frame = c.in-Some.frame.now }
 
 -- the endpoints after it, and the world
-abbrev ends : goal.After-drop_first → Ends
-ends c = record c.self.inside.ends { receiver = c.receive.new.receiver }
+abbrev ends : goal.After-take_off → Ends
+ends c = record c.self.inside.ends { receiver = c.take_off.new.receiver }
 
-abbrev new : goal.After-drop_first → World
-new c = record (with_parts (world_of c.self.inside) (ends c) c.receive.new.self) { wire = c.drop_first.new.self.transfers }
+abbrev new : goal.After-take_off → World
+new c = record (with_parts (world_of c.self.inside) (ends c) c.receive.new.self) { wire = c.take_first.new.self.transfers }
 
-on : (c : goal.After-drop_first) → is_together (world_of c.self.inside).phase ≡ true
+on : (c : goal.After-take_off) → is_together (world_of c.self.inside).phase ≡ true
 on c = search rules
 
-may : (c : goal.After-drop_first) → refusal (arrive_tests (world_of c.self.inside)) ≡ None
+may : (c : goal.After-take_off) → refusal (arrive_tests (world_of c.self.inside)) ≡ None
 may c = search rules
 
-same : (c : goal.After-drop_first) → c.in_ok-tag.tag ≡ c.in-Some.tag.now
+same : (c : goal.After-take_off) → c.in_ok-tag.tag ≡ c.in-Some.tag.now
 same c = search rules
 
-wire : (c : goal.After-drop_first) → c.self.inside.wire.transfers ≡ first c ∷ c.drop_first.new.self.transfers
-wire c = first_and_rest c.self.inside.wire.transfers (first c) (sym c.in-Some.ensures) ∙ ap (λ l. first c ∷ l) (sym c.drop_first.ensures)
+wire : (c : goal.After-take_off) → c.self.inside.wire.transfers ≡ first c ∷ c.take_first.new.self.transfers
+wire c = first_and_rest c.self.inside.wire.transfers (first c) (sym c.in-Some.ensures) ∙ ap (λ l. first c ∷ l) (sym c.take_first.ensures.rest)
 
-got : (c : goal.After-drop_first) → IsReceived c.self.inside.deliveries c.self.inside.ends.receiver c.in_ok-tag.tag c.args.id c.in-Some.frame.now (c.in_ok-section_number.section_number, c.in_ok-section_number.section_offset) c.in_ok-section_number.whole c.receive.new.self c.receive.new.receiver
+got : (c : goal.After-take_off) → IsReceived c.self.inside.deliveries c.self.inside.ends.receiver c.in_ok-tag.tag c.args.id c.in-Some.frame.now (c.in_ok-section_number.section_number, c.in_ok-section_number.section_offset) c.in_ok-section_number.whole c.receive.new.self c.receive.new.receiver
 got c = search rules
 
-did : (c : goal.After-drop_first) → Arrives (world_of c.self.inside) c.args.id c.in_ok-tag.tag (c.in_ok-section_number.section_number, c.in_ok-section_number.section_offset) c.in_ok-section_number.whole (new c)
-did c =
-    arrives (world_of c.self.inside) c.self.inside.deliveries c.receive.new.self c.receive.new.receiver (first c) c.drop_first.new.self.transfers c.args.id c.in_ok-tag.tag
-    (c.in_ok-section_number.section_number, c.in_ok-section_number.section_offset) c.in_ok-section_number.whole refl (wire c) (same c) (got c)
+told : (c : goal.After-take_off) → c.take_off.new.receiver ≡ record c.receive.new.receiver { more = (performative_of c.in-Some.frame.now).more }
+told c = search rules
 
-kept : (c : goal.After-drop_first) → IsWorld (new c)
+did : (c : goal.After-take_off) → Arrives (world_of c.self.inside) c.args.id c.in_ok-tag.tag (c.in_ok-section_number.section_number, c.in_ok-section_number.section_offset) c.in_ok-section_number.whole (new c)
+did c =
+    arrives (world_of c.self.inside) c.self.inside.deliveries c.receive.new.self c.receive.new.receiver c.take_off.new.receiver (first c) c.take_first.new.self.transfers c.args.id c.in_ok-tag.tag
+    (c.in_ok-section_number.section_number, c.in_ok-section_number.section_offset) c.in_ok-section_number.whole refl (wire c) (same c) (got c) (told c)
+
+kept : (c : goal.After-take_off) → IsWorld (new c)
 kept c = IsWorld-arrives (world_of c.self.inside) (new c) _ _ _ _ c.self.invariant.world (may c) (did c)
 
 pub invariant_of-self-2 : goal.invariant_of-self-2

@@ -14,7 +14,7 @@ use Rattle.amqp_link_pair.proofs.pair.Pair.settle.Goals as goal
 
 -- the world after it
 abbrev new : goal.After-remove → World
-new c = with_parts (world_of c.self.inside) c.settle-settled.new.self c.remove.new.self
+new c = with_parts (world_of c.self.inside) c.settle.new.self c.remove.new.self
 
 may : (c : goal.After-remove) → refusal (settle_tests (world_of c.self.inside) c.args.tag.now) ≡ None
 may c = search rules
@@ -22,20 +22,20 @@ may c = search rules
 on : (c : goal.After-remove) → is_together (world_of c.self.inside).phase ≡ true
 on c = search rules
 
-ends_are : (c : goal.After-remove) → c.settle-settled.new.self ≡ settled_ends c.args.tag.now c.self.inside.ends
+ends_are : (c : goal.After-remove) → c.settle.new.self ≡ settled_ends c.args.tag.now c.self.inside.ends
 ends_are c =
     let tag_is : c.new-info.result.delivery_tag ≡ c.args.tag.now = search rules in
-    c.in_ok-settled.ensures.done ∙ ap (λ tag. settled_ends tag c.self.inside.ends) tag_is
+    c.settle.ensures ∙ ap (λ tag. settled_ends tag c.self.inside.ends) tag_is
 
 did : (c : goal.After-remove) → Settles (world_of c.self.inside) c.args.tag.now (new c)
-did c = settles (world_of c.self.inside) c.self.inside.ends c.settle-settled.new.self c.self.inside.deliveries c.remove.new.self c.args.tag.now (ends_are c) c.remove.ensures
+did c = settles (world_of c.self.inside) c.self.inside.ends c.settle.new.self c.self.inside.deliveries c.remove.new.self c.args.tag.now (ends_are c) c.remove.ensures
 
 kept : (c : goal.After-remove) → IsWorld (new c)
 kept c = IsWorld-settles (world_of c.self.inside) (new c) c.args.tag.now c.self.invariant.world (may c) (did c)
 
-pub invariant_of-self-2 : goal.invariant_of-self-2
-invariant_of-self-2 c = record {
-  ends = IsEnds-together c.self.inside.ends c.settle-settled.new.self c.self.invariant.ends (on c)
+pub invariant_of-self : goal.invariant_of-self
+invariant_of-self c = record {
+  ends = IsEnds-together c.self.inside.ends c.settle.new.self c.self.invariant.ends (on c)
       (ap (λ (e : Ends). e.stage) (ends_are c)) (ap (λ (e : Ends). e.limit) (ends_are c)) (ap (λ (e : Ends). e.ledger.link.max_frame_size) (ends_are c));
   world = kept c;
   marks = subst (AreMarked (new c)) (sym c.remove.ensures)
