@@ -1,1 +1,4 @@
+pub mod BrokerLemmas
 pub mod PeerLemmas
+pub mod RelayLemmas
+pub mod MapLemmas

@@ -1,3 +1,7 @@
 pub mod Brokers
+pub mod Clients
 pub mod Peers
+pub mod Relays
+pub mod Sends
+pub mod Shorts
 pub mod Walks

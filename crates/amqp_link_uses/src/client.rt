@@ -3,13 +3,21 @@
 //! It attaches first (`Opening::new`, `Opening::on_attach`). The server grants credit by its flows (`on_flow`). Each
 //! request takes one credit, and the client waits for the server's disposition before it sends another.
 
-ghost use Rattle.std.specs.Prelude.{◌≡◌, ◌↔◌, true, None, Some, Ok, map, IfOk, Err, IfSome, OnOk, OnErr, IsSome, IsErrOf, MatchOption};
+ghost use Rattle.std.specs.Prelude.{◌≡◌, ◌↔◌, ◌⊎◌, true, false, [], None, Some, Ok, map, IfOk, Err, IfErr, IfSome, OnOk, OnErr};
+ghost use Rattle.std.specs.Prelude.{IsSome, IsSomeAnd, IsErrOf, MatchOption, MatchResult};
 ghost use Rattle.std.specs.List.{concat};
 ghost use Rattle.amqp_link.specs.Counts.{sender_after, sender_reply};
 ghost use Rattle.amqp_link.specs.Ending.{does_end};
 ghost use Rattle.amqp_link.specs.Entries.{entry_at, with_entry};
 ghost use Rattle.amqp_link.specs.Frames.{payload_of};
-ghost use Rattle.amqp_link.specs.Senders.{new_entry};
+ghost use Rattle.amqp_link.specs.AttachSent.{IsTooLarge, SendsAttach};
+ghost use Rattle.amqp_link.specs.SenderAttaches.{sender_attached, sender_left, sender_refusal, sender_shown, sender_taken};
+ghost use Rattle.amqp_link.specs.Senders.{delivery_of, new_entry, payload_tests};
+ghost use Rattle.amqp_link.specs.Targets.{plain_target};
+ghost use Rattle.amqp_link.specs.Termini.{sender_refuses_target};
+ghost use Rattle.amqp_link.specs.declared.state.LinkState.{LinkState};
+ghost use Rattle.amqp_link.specs.declared.types.TargetArchetype.TheVariants as TargetArchetype;
+ghost use Rattle.amqp_link_uses.specs.Clients.{RequestsThenOutOfMemory, attach_failed, opened_with};
 
 use amqp_link::delivery::Settlement;
 use amqp_link::endpoint::Action;
@@ -43,6 +51,8 @@ pub struct Opening {
 impl Opening {
     /// A sender with these parts at an output handle, which sends its deliveries unsettled, and its attach,
     /// which the caller sends.
+    ///
+    /// Refused with `AttachTooLarge` if the attach does not fit a frame. `OutOfMemory` may come before that.
     pub fn new(
         alloc: Global,
         mut parts: LinkParts<Target>,
@@ -51,6 +61,12 @@ impl Opening {
         ensures handle { IfOk result (λ opened. opened.0.link.output_handle ≡ Some handle) }
         ensures mode { IfOk result (λ opened.
             opened.0.link.snd_settle_mode ≡ SenderSettleMode.Unsettled) }
+        ensures sent { IfOk result (λ opened. (next : LinkState)
+            × SendsAttach (sender_shown TargetArchetype.Target (opened_with parts handle)) [] opened.1 next
+            × (opened.0.link ≡ sender_attached (opened_with parts handle) next)) }
+        ensures refused { IfErr result (λ error. (error ≡ SenderAttachError.OutOfMemory)
+            ⊎ ((error ≡ SenderAttachError.AttachTooLarge)
+            × IsTooLarge (sender_shown TargetArchetype.Target (opened_with parts handle)) [])) }
     {
         parts.snd_settle_mode = SenderSettleMode::Unsettled;
         let mut link = SenderLink::new(alloc, parts).with_output_handle(handle);
@@ -72,6 +88,13 @@ impl Opening {
     pub fn on_attach(mut self, attach: Attach) -> Result<Client, (SenderAttachError, Action)>
         ensures request { IfOk result (λ client. client.request ≡ None) }
         ensures mode { IfOk result (λ client. client.link.snd_settle_mode ≡ self.link.snd_settle_mode) }
+        ensures taken { IfOk result (λ client. client.link ≡ sender_taken plain_target self.link attach) }
+        ensures refused { MatchResult result
+            (λ _. sender_refusal plain_target (λ own theirs. sender_refuses_target theirs) self.link attach ≡ None)
+            (λ refused. (refused ≡ (SenderAttachError.OutOfMemory, Action.Nothing))
+            ⊎ IsSomeAnd (sender_refusal plain_target (λ own theirs. sender_refuses_target theirs) self.link attach)
+            (λ error. refused ≡ attach_failed error (sender_left plain_target
+            (λ own theirs. sender_refuses_target theirs) error self.link attach))) }
     {
         match self.link.on_incoming_attach(attach) {
             Ok(exchange) => {
@@ -116,7 +139,8 @@ impl Client {
 
     /// Sends a request as one unsettled delivery, and returns the frames to send, in their order.
     ///
-    /// Refused with nothing changed: with `Busy`, otherwise with `CreditMissing` or the error of the link.
+    /// Refused in this order, with nothing changed: `Busy`; `IllegalState` of the link without output handle or input
+    /// handle; `CreditMissing`; `TagPending` and `NoRoom` of the link; its `OutOfMemory`, only if none of these holds.
     pub fn request(&mut self, payload: &Payload) -> Result<Vec<LinkFrame>, RequestError>
         ensures sent { IfOk result (λ frames. concat (map payload_of frames.items) ≡ payload.now) }
         ensures awaited { OnOk result (IsSome self.new.request) }
@@ -124,6 +148,8 @@ impl Client {
             → OnOk result (IfSome self.new.request (λ tag.
             self.new.link.unsettled ≡ with_entry self.old.link.unsettled tag (new_entry 0 payload.now))) }
         ensures busy { IsErrOf result RequestError.Busy ↔ IsSome self.old.request }
+        ensures refused { self.old.request ≡ None → RequestsThenOutOfMemory result
+            (payload_tests self.old.link (delivery_of 0 None None false) payload.now) }
         ensures left { OnErr result (self.new ≡ self.old) }
     {
         if self.request.is_some() {

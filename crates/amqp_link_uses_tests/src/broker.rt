@@ -1,80 +1,25 @@
 //! A broker's core.
+use crate::arrivals::{Came, Incoming, kept, take, taken, transfer};
 use crate::assertions::{assert_equal, assert_equal_at};
-use crate::samples::{attached_receiver, attached_sender, payload, tag_of};
+use crate::samples::{attached_receiver, attached_sender, tag_of};
 use amqp_link::delivery::{DeliveryOutcome, Settlement};
-use amqp_link::errors::{DispositionError, LinkStateError, ReceiverTransferError};
+use amqp_link::errors::{DispositionError, LinkStateError};
 use amqp_link::sender_link::DispositionAnswer;
 use amqp_link::types::{Target, Transfer};
 use amqp_link::{
-    Delivery, DeliveryInfo, DeliveryState, IncompleteTransfer, LinkExt, LinkFrame, ReceiverLink,
-    SenderLink, Whole,
+    Delivery, DeliveryInfo, DeliveryState, LinkFrame, ReceiverLink, SenderLink, Whole,
 };
-use amqp_link_uses::broker::{Arrival, Forwarded, send_on, settle_with, take_in};
+use amqp_link_uses::broker::{Arrival, Forwarded, send_on, settle_with};
 use std::process::Abort;
 
-// A transfer of the delivery with id 7 and the tag of the count 5; more is to come, or not.
-fn transfer(rt: &(impl Abort + AllocGlobal), more: bool) -> Transfer {
-    Transfer {
-        delivery_id: Some(7),
-        delivery_tag: Some(tag_of(rt, 5)),
-        more,
-        ..Transfer::default()
-    }
-}
-
-// What a transfer made of its delivery: a complete one has the bytes 1, 2 and 3, or others.
-#[derive(Clone, Copy, Debug, PartialEq, Eq)]
-enum Came {
-    Begun,
-    Complete(bool),
-    Aborted,
-    Refused,
-}
-
-fn made_by(arrival: &Result<Arrival, ReceiverTransferError>) -> Came {
-    match arrival {
-        Ok(Arrival::Begun) => Came::Begun,
-        Ok(Arrival::Complete(delivery)) => {
-            Came::Complete(delivery.body().0.as_slice() == [1, 2, 3].as_slice())
-        }
-        Ok(Arrival::Aborted) => Came::Aborted,
-        Err(_) => Came::Refused,
-    }
-}
-
-fn take(
-    rt: &(impl Abort + AllocGlobal),
-    link: &mut ReceiverLink<Target>,
-    begun: &mut Option<IncompleteTransfer>,
-    transfer: Transfer,
-    bytes: &[u8],
-) -> Result<Arrival, ReceiverTransferError> {
-    take_in(rt.alloc(), link, begun, transfer, payload(rt, bytes))
-}
-
-fn taken(
-    rt: &(impl Abort + AllocGlobal),
-    link: &mut ReceiverLink<Target>,
-    begun: &mut Option<IncompleteTransfer>,
-    transfer: Transfer,
-    bytes: &[u8],
-) -> Came {
-    let arrival = take(rt, link, begun, transfer, bytes);
-    let shown = made_by(&arrival);
-    drop(arrival);
-    shown
-}
-
 // A delivery of three bytes that has arrived in two transfers.
-fn complete(rt: &(impl Abort + AllocGlobal), link: &mut ReceiverLink<Target>) -> Delivery<Whole> {
-    let mut begun = None;
-    let first = taken(rt, link, &mut begun, transfer(rt, true), &[1, 2]);
+fn complete(rt: &(impl Abort + AllocGlobal), at: &mut Incoming) -> Delivery<Whole> {
+    let first = taken(rt, at, transfer(rt, true), &[1, 2], &[]);
     assert_equal(rt, &first, &Came::Begun);
-    let arrival = take(rt, link, &mut begun, transfer(rt, false), &[3]);
-    drop(begun);
+    let arrival = take(rt, at, transfer(rt, false), &[3]);
     match arrival.expect(rt, "a last transfer") {
         Arrival::Complete(delivery) => delivery,
-        Arrival::Begun | Arrival::Aborted => rt.abort(),
+        Arrival::Begun | Arrival::Known | Arrival::Aborted => rt.abort(),
     }
 }
 
@@ -171,12 +116,12 @@ fn forwarded(
 
 #[test]
 fn delivery_is_sent_on_and_settled(rt: HostRuntime) {
-    let mut incoming = attached_receiver(&rt);
+    let mut incoming = Incoming::new(attached_receiver(&rt));
     let delivery = complete(&rt, &mut incoming);
     let (sent, outcome) = forwarded(&rt, &delivery);
     let info = DeliveryInfo::of(&delivery).expect(&rt, "memory");
     drop(delivery);
-    let disposition = settled(&mut incoming, &info, &outcome);
+    let disposition = settled(&mut incoming.link, &info, &outcome);
     drop((info, outcome));
     drop(incoming);
     let first = Forward::Sent {
@@ -189,33 +134,23 @@ fn delivery_is_sent_on_and_settled(rt: HostRuntime) {
 
 // Two bytes of a delivery have arrived, and then this transfer: what it made, whether something is kept, and how
 // many entries the link has.
-fn after(rt: &(impl Abort + AllocGlobal), last: Transfer) -> (Came, bool, usize) {
-    let mut link = attached_receiver(rt);
-    let mut begun = None;
-    let first = taken(rt, &mut link, &mut begun, transfer(rt, true), &[1, 2]);
+fn after(rt: &(impl Abort + AllocGlobal), last: Transfer) -> (Came, (bool, usize)) {
+    let mut at = Incoming::new(attached_receiver(rt));
+    let first = taken(rt, &mut at, transfer(rt, true), &[1, 2], &[]);
     assert_equal(rt, &first, &Came::Begun);
-    let shown = taken(rt, &mut link, &mut begun, last, &[3]);
-    let left = (shown, begun.is_some(), link.unsettled().len());
-    drop(begun);
-    drop(link);
-    left
+    let shown = taken(rt, &mut at, last, &[3], &[1, 2, 3]);
+    let left = kept(&at);
+    drop(at);
+    (shown, left)
 }
 
-// A transfer that resumes a delivery has an id of its own, and what had arrived before is joined to it. An aborted
-// delivery leaves nothing, neither bytes nor an entry that a later attach would report.
+// An aborted delivery leaves nothing, neither bytes nor an entry that a later attach would report.
 #[test]
-fn begun_delivery_is_resumed_or_given_up(rt: HostRuntime) {
-    let resuming = Transfer {
-        delivery_id: Some(9),
-        resume: true,
-        ..transfer(&rt, false)
-    };
-    let resumed = after(&rt, resuming);
-    assert_equal_at(&rt, &resumed, &(Came::Complete(true), false, 1), &"resumed");
+fn begun_delivery_is_given_up(rt: HostRuntime) {
     let last = Transfer {
         aborted: true,
         ..transfer(&rt, false)
     };
     let aborted = after(&rt, last);
-    assert_equal_at(&rt, &aborted, &(Came::Aborted, false, 0), &"aborted");
+    assert_equal_at(&rt, &aborted, &(Came::Aborted, (false, 0)), &"aborted");
 }

@@ -2,6 +2,8 @@
 #![tactic(auto)]
 
 #[cfg(test)]
+mod arrivals;
+#[cfg(test)]
 mod assertions;
 #[cfg(test)]
 mod broker;
@@ -10,7 +12,11 @@ mod client;
 #[cfg(test)]
 mod peer;
 #[cfg(test)]
+mod reattached;
+#[cfg(test)]
 mod relay;
+#[cfg(test)]
+mod resumed;
 #[cfg(test)]
 mod samples;
 #[cfg(test)]

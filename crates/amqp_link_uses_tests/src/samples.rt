@@ -55,8 +55,9 @@ pub fn attached_sender(rt: &(impl Abort + AllocGlobal), credit: u32) -> SenderLi
     link
 }
 
-fn state_credit(link: &mut ReceiverLink<Target>) {
-    drop(link.send_flow(Some(1), None, false, false));
+/// States this credit.
+pub fn grant(link: &mut ReceiverLink<Target>, credit: u32) {
+    drop(link.send_flow(Some(credit), None, false, false));
 }
 
 /// An attached receiver with one credit.
@@ -66,6 +67,6 @@ pub fn attached_receiver(rt: &(impl Abort + AllocGlobal)) -> ReceiverLink<Target
     drop(send_attach(&mut link, false));
     let theirs = attach_of(rt, Role::Sender, SenderSettleMode::Unsettled);
     drop(take_attach(&mut link, theirs));
-    state_credit(&mut link);
+    grant(&mut link, 1);
     link
 }

@@ -1,11 +1,13 @@
 //! The shortest callers: one that sends, one that receives, a pair, and a receiver that keeps its window open.
-use crate::assertions::{assert_equal, assert_holds};
-use crate::samples::{attach_of, attached_receiver, attaching_sender, flow_of, payload, tag_of};
-use amqp_link::types::{Role, SenderSettleMode, Target, Transfer};
+use crate::arrivals::{resuming, transfer};
+use crate::assertions::{assert_equal, assert_equal_at, assert_holds};
+use crate::samples::{attach_of, attached_receiver, attaching_sender, flow_of, payload};
+use amqp_link::errors::SenderAttachError;
+use amqp_link::types::{Attach, Role, SenderSettleMode, Target, Transfer};
 use amqp_link::{
     CreditRun, CreditRunError, Delivery, LinkExt, LinkFrame, Payload, ReceiverLink, Whole,
 };
-use amqp_link_uses::short::{accept, receive_one, send_one};
+use amqp_link_uses::short::{ReceiveOneError, SendOneError, accept, receive_one, send_one};
 use amqp_link_uses::walk::deliver_through_a_cut;
 use amqp_link_uses::window::{keep_open, take_next};
 use std::process::Abort;
@@ -30,13 +32,63 @@ fn one_delivery_is_sent(rt: HostRuntime) {
 
 // A delivery of three bytes that has arrived in one transfer.
 fn received(rt: &(impl Abort + AllocGlobal), link: &mut ReceiverLink<Target>) -> Delivery<Whole> {
-    let transfer = Transfer {
-        delivery_id: Some(7),
-        delivery_tag: Some(tag_of(rt, 5)),
-        ..Transfer::default()
-    };
-    let received = receive_one(rt.alloc(), link, transfer, payload(rt, &[1, 2, 3]));
+    let received = receive_one(
+        rt.alloc(),
+        link,
+        transfer(rt, false),
+        payload(rt, &[1, 2, 3]),
+    );
     received.expect(rt, "a delivery")
+}
+
+// Whether a transfer with these bytes is refused as no whole delivery, with nothing changed.
+fn is_not_whole(rt: &(impl Abort + AllocGlobal), transfer: Transfer) -> bool {
+    let mut link = attached_receiver(rt);
+    let received = receive_one(rt.alloc(), &mut link, transfer, payload(rt, &[1]));
+    let is_refused = matches!(&received, Err(ReceiveOneError::NotWhole));
+    drop(received);
+    let is_kept = link.begins_delivery() && link.unsettled().is_empty();
+    drop(link);
+    is_refused && is_kept
+}
+
+#[test]
+fn only_a_whole_delivery_is_received(rt: HostRuntime) {
+    let more = Transfer {
+        more: true,
+        ..transfer(&rt, false)
+    };
+    assert_equal_at(&rt, &is_not_whole(&rt, more), &true, &"more");
+    let aborted = Transfer {
+        aborted: true,
+        ..transfer(&rt, false)
+    };
+    assert_equal_at(&rt, &is_not_whole(&rt, aborted), &true, &"aborted");
+    let rest = resuming(&rt, false);
+    assert_equal_at(&rt, &is_not_whole(&rt, rest), &true, &"a rest");
+    assert_equal(&rt, &is_not_whole(&rt, transfer(&rt, false)), &false);
+}
+
+// Whether a sender refuses an attach without a target, by its name.
+fn is_without_target(rt: &(impl Abort + AllocGlobal)) -> bool {
+    let mut link = attaching_sender(rt);
+    let theirs = Attach {
+        target: None,
+        ..attach_of(rt, Role::Receiver, SenderSettleMode::Unsettled)
+    };
+    let bytes = payload(rt, &[1]);
+    let sent = send_one(&mut link, theirs, flow_of(1), &bytes);
+    let is_named = matches!(
+        &sent,
+        Err(SendOneError::Attach(SenderAttachError::IncomingTargetIsNone))
+    );
+    drop((sent, link, bytes));
+    is_named
+}
+
+#[test]
+fn refused_attach_keeps_its_name(rt: HostRuntime) {
+    assert_holds(&rt, is_without_target(&rt));
 }
 
 // Whether a disposition accepts the delivery.

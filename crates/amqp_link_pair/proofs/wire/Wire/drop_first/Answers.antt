@@ -1,7 +1,0 @@
-use Rattle.std.proofs.Common.{length, ◌<◌}
-use Rattle.amqp_link_pair.specs.declared.wire.Batch.{Batch}
-use Rattle.amqp_link_pair.proofs.WireLemmas.{rest_of_all}
-use Rattle.amqp_link_pair.proofs.wire.Wire.drop_first.Goals as goal
-
-pub invariant_of-self-else-not-is_empty : goal.invariant_of-self-else-not-is_empty
-invariant_of-self-else-not-is_empty c = rest_of_all (λ (b : Batch). 0 < length b.frames.items) c.self.inside.batches.items c.in-Some.batch c.pop_front.new.self.items c.in-Some.ensures.items c.self.invariant
