@@ -300,11 +300,12 @@ impl<T: LinkTarget> SenderLink<T> {
         }
     }
 
-    /// Sends a payload as a new delivery, for one credit, in frames that fit the frame limit (2.7.5): one if its
-    /// transfer fits alone, else the fewest pieces of the payload limit, which is measured at the longest
-    /// transfer. The delivery-tag is the delivery-count before the send, as four bytes. Whether the delivery
-    /// is settled is decided as in `generate_non_resuming_transfer_performative`. An unsettled delivery is
-    /// registered with its whole payload until it is settled. The payload is cut without copying its bytes.
+    /// Sends a payload as a new delivery, for one credit, in frames that fit the frame limit (2.7.5). It is cut into
+    /// the fewest pieces of the payload limit, which is the room that a frame has beside the longest transfer of the
+    /// delivery: a first transfer that would have more room by itself is not filled up. The pieces share the
+    /// payload's bytes. The delivery-tag is the delivery-count before the send, as four bytes. Whether the delivery
+    /// is settled is decided as in `generate_non_resuming_transfer_performative`. An unsettled delivery is registered
+    /// with its whole payload until it is settled.
     ///
     /// Whatever is pending is handled before the send. A detach is recorded as by
     /// `apply_remote_detach_outcome`, which moves the state and releases the output handle; the send then
