@@ -111,7 +111,7 @@ impl<T: LinkTarget> Model for ReceiverLink<T> {
 }
 
 impl<T: LinkTarget> ReceiverLink<T> {
-    ghost use Rattle.amqp_link_state.specs.declared.state.LinkState.TheVariants.{Unattached};
+    ghost use Rattle.amqp_link_receiver.specs.Receivers.{receiver_of_parts};
 
     /// A link that is not attached, without handles and unsettled deliveries. Does not allocate.
     ///
@@ -119,25 +119,7 @@ impl<T: LinkTarget> ReceiverLink<T> {
     /// frame's size in front of them. If the peer's limit counts those as well, the caller passes that limit
     /// less 4.
     pub fn new(alloc: Global, parts: LinkParts<T>) -> ReceiverLink<T>
-        ensures { result ≡ record {
-          local_state = Unattached;
-          name = parts.name;
-          snd_settle_mode = parts.snd_settle_mode;
-          rcv_settle_mode = parts.rcv_settle_mode;
-          source = parts.source;
-          target = parts.target;
-          max_message_size = parts.max_message_size;
-          offered_capabilities = parts.offered_capabilities;
-          desired_capabilities = parts.desired_capabilities;
-          output_handle = None;
-          input_handle = None;
-          flow_state = parts.flow_state;
-          max_frame_size = parts.max_frame_size;
-          verify_incoming_source = parts.verify_incoming_source;
-          verify_incoming_target = parts.verify_incoming_target;
-          unsettled = [];
-          more = false;
-        } }
+        ensures { result ≡ receiver_of_parts parts }
     {
         ReceiverLink {
             alloc,

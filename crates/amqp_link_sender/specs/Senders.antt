@@ -17,6 +17,7 @@ use Rattle.amqp_link_types.specs.declared.delivery.Settlement.{Settlement}
 use Rattle.amqp_link_types.specs.declared.delivery.Settlement.TheVariants as settlement
 use Rattle.amqp_link_types.specs.declared.delivery.UnsettledMessage.{UnsettledMessage}
 use Rattle.amqp_link_state.specs.declared.state.LinkState.{LinkState}
+use Rattle.amqp_link_state.specs.declared.state.LinkState.TheVariants.{Unattached}
 use Rattle.amqp_link_state.specs.declared.state.LinkFlowStateInner.{LinkFlowStateInner}
 use Rattle.amqp_link_types.specs.declared.frame.LinkFrame.{LinkFrame}
 use Rattle.amqp_link_sender.specs.declared.sender_link.Sending.{Sending}
@@ -25,6 +26,7 @@ use Rattle.amqp_link_state.specs.Counts.{after_consuming}
 use Rattle.amqp_link_types.specs.Entries.{Tag, Entries, with_entry, entry_at}
 use Rattle.amqp_link_types.specs.Frames.{payload_of, AreFramesOf}
 use Rattle.amqp_link_types.specs.Refusals.{refusal}
+use Rattle.amqp_link_core.specs.declared.link_parts.LinkParts.{LinkParts}
 use Rattle.amqp_link_split.specs.Fitting.{IsFitting}
 use Rattle.amqp_link_split.specs.Room.{has_room, payload_limit}
 use Rattle.amqp_link_split.specs.Split.{IsSplit}
@@ -48,6 +50,27 @@ pub record Sender (T : Type 0) : Type 0 where
   pub verify_incoming_source : Bool
   pub verify_incoming_target : Bool
   pub unsettled : Entries UnsettledMessage
+
+-- the endpoint that is made of these parts: not attached, without handles and unsettled deliveries
+abbrev pub sender_of_parts : {T : Type 0} → LinkParts T → Sender T
+sender_of_parts parts = record {
+  local_state = Unattached;
+  name = parts.name;
+  snd_settle_mode = parts.snd_settle_mode;
+  rcv_settle_mode = parts.rcv_settle_mode;
+  source = parts.source;
+  target = parts.target;
+  max_message_size = parts.max_message_size;
+  offered_capabilities = parts.offered_capabilities;
+  desired_capabilities = parts.desired_capabilities;
+  output_handle = None;
+  input_handle = None;
+  flow_state = parts.flow_state;
+  max_frame_size = parts.max_frame_size;
+  verify_incoming_source = parts.verify_incoming_source;
+  verify_incoming_target = parts.verify_incoming_target;
+  unsettled = [];
+}
 
 -- ---- settling
 

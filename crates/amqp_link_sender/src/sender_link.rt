@@ -158,11 +158,10 @@ impl<T: LinkTarget> Model for SenderLink<T> {
 impl<T: LinkTarget> SenderLink<T> {
     ghost use Rattle.amqp_link_sender.specs.Senders.{SendsOrLacksCredit, SendsTransfer, IsSent, SendAnswersThenOutOfMemory};
     ghost use Rattle.amqp_link_types.specs.Refusals.{AnswersExactly, AnswersThenOutOfMemory};
-    ghost use Rattle.amqp_link_sender.specs.Senders.{delivery_of, next_tag, new_transfer, new_entry, settled_on_send, SendsFitting};
+    ghost use Rattle.amqp_link_sender.specs.Senders.{sender_of_parts, delivery_of, next_tag, new_transfer, new_entry, settled_on_send, SendsFitting};
     ghost use Rattle.amqp_link_types.specs.Entries.{with_entry};
     ghost use Rattle.amqp_link_sender.specs.Waits.{waiting_error, after_waiting};
     ghost use Rattle.amqp_link_sender.specs.Senders.{IsSendable, transfer_tests, tagged_tests, tagged_transfer_tests, delivery_tests, payload_tests, untagged};
-    ghost use Rattle.amqp_link_state.specs.declared.state.LinkState.TheVariants.{Unattached};
 
     /// A link that is not attached, without handles and unsettled deliveries. Does not allocate.
     ///
@@ -170,24 +169,7 @@ impl<T: LinkTarget> SenderLink<T> {
     /// frame's size in front of them. If the peer's limit counts those as well, the caller passes that limit
     /// less 4.
     pub fn new(alloc: Global, parts: LinkParts<T>) -> SenderLink<T>
-        ensures { result ≡ record {
-          local_state = Unattached;
-          name = parts.name;
-          snd_settle_mode = parts.snd_settle_mode;
-          rcv_settle_mode = parts.rcv_settle_mode;
-          source = parts.source;
-          target = parts.target;
-          max_message_size = parts.max_message_size;
-          offered_capabilities = parts.offered_capabilities;
-          desired_capabilities = parts.desired_capabilities;
-          output_handle = None;
-          input_handle = None;
-          flow_state = parts.flow_state;
-          max_frame_size = parts.max_frame_size;
-          verify_incoming_source = parts.verify_incoming_source;
-          verify_incoming_target = parts.verify_incoming_target;
-          unsettled = [];
-        } }
+        ensures { result ≡ sender_of_parts parts }
     {
         SenderLink {
             alloc,

@@ -1,14 +1,13 @@
 -- What a client attaches and sends, and why it is refused (OASIS AMQP 1.0 core, 2.6.3 and 2.6.7).
-use Rattle.std.specs.Prelude.{◌≡◌, ◌⊎◌, Bool, List, [], Some, None, Result, Ok, Err}
+use Rattle.std.specs.Prelude.{◌≡◌, ◌⊎◌, Bool, List, Some, None, Result, Ok, Err}
 use Rattle.amqp_link.specs.Failing.{handled, sender_remedy}
 use Rattle.amqp_link.specs.Refusals.{refusal}
-use Rattle.amqp_link.specs.Senders.{SendStop, Sender, missing_credit, refused}
+use Rattle.amqp_link.specs.Senders.{SendStop, Sender, missing_credit, refused, sender_of_parts}
 use Rattle.amqp_link.specs.declared.LinkParts.{LinkParts}
 use Rattle.amqp_link.specs.declared.endpoint.Action.{Action}
 use Rattle.amqp_link.specs.declared.errors.LinkStateError.TheVariants.{OutOfMemory}
 use Rattle.amqp_link.specs.declared.errors.SenderAttachError.{SenderAttachError}
 use Rattle.amqp_link.specs.declared.errors.SenderAttachError.TheVariants.{IllegalState}
-use Rattle.amqp_link.specs.declared.state.LinkState.TheVariants.{Unattached}
 use Rattle.amqp_link.specs.declared.types.OutputHandle.{OutputHandle}
 use Rattle.amqp_link.specs.declared.types.SenderSettleMode.TheVariants.{Unsettled}
 use Rattle.amqp_link.specs.declared.types.Target.{Target}
@@ -17,24 +16,7 @@ use Rattle.amqp_link_uses.specs.declared.client.RequestError.TheVariants.{Busy, 
 
 -- the sender that a client opens with these parts at this handle: it sends its deliveries unsettled
 abbrev pub opened_with : LinkParts Target → OutputHandle → Sender Target
-opened_with parts handle = record {
-  local_state = Unattached;
-  name = parts.name;
-  snd_settle_mode = Unsettled;
-  rcv_settle_mode = parts.rcv_settle_mode;
-  source = parts.source;
-  target = parts.target;
-  max_message_size = parts.max_message_size;
-  offered_capabilities = parts.offered_capabilities;
-  desired_capabilities = parts.desired_capabilities;
-  output_handle = Some handle;
-  input_handle = None;
-  flow_state = parts.flow_state;
-  max_frame_size = parts.max_frame_size;
-  verify_incoming_source = parts.verify_incoming_source;
-  verify_incoming_target = parts.verify_incoming_target;
-  unsettled = [];
-}
+opened_with parts handle = record (sender_of_parts parts) { snd_settle_mode = Unsettled; output_handle = Some handle }
 
 -- the error of an attach that is refused, and what to do, at the link that the refusal leaves
 abbrev pub attach_failed : SenderAttachError → Sender Target → SenderAttachError × Action
