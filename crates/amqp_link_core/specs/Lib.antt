@@ -7,17 +7,8 @@ pub use Rattle.amqp_link_payloads.specs.Position
 pub use Rattle.amqp_link_payloads.specs.Sections
 pub use Rattle.amqp_link_types.specs.Refusals
 pub use Rattle.amqp_link_types.specs.Size
-pub mod AttachFields
-pub mod AttachSent
-pub mod AttachTests
-pub mod Attaching
 pub mod Carries
-pub mod Detaching
-pub mod Failing
 pub mod Held
 pub mod IncompleteRefusals
-pub mod LinkStates
 pub mod Merging
 pub mod Resuming
-pub mod Shown
-pub mod Targets

@@ -1,13 +1,13 @@
 //! What an attach sends of the endpoint's own (2.7.3), and what follows once one has arrived: the properties of
 //! the link, and how each delivery is resolved, by rows of the table that were worked out by hand (2.6.13).
 use crate::assertions::{assert_equal_at, assert_holds_at};
-use amqp_link_core::endpoint::attached::{
-    archetype_of, merged_with, name_and_properties_of, termini_of,
-};
-use amqp_link_core::endpoint::failing::{Remedy, error_to_send};
 use amqp_link_core::resumption::{
     PlannedResolution, Resolution, ResumingDelivery, plan_resumption, resume_delivery,
 };
+use amqp_link_endpoint::endpoint::attached::{
+    archetype_of, merged_with, name_and_properties_of, termini_of,
+};
+use amqp_link_endpoint::endpoint::failing::{Remedy, error_to_send};
 use amqp_link_state::state::LinkState;
 use amqp_link_types::delivery::UnsettledMessage;
 use amqp_link_types::types::{

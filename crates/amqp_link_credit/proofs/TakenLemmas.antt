@@ -24,7 +24,7 @@ use Rattle.amqp_link_sender.specs.Senders.{Sender}
 use Rattle.amqp_link_receiver.specs.Receivers.{Receiver}
 use Rattle.amqp_link_receiver.specs.ReceiverDeliveries.{is_settled}
 use Rattle.amqp_link_receiver.specs.Completing.{may_receive, is_illegal_mode, link_refusal, transfer_refusal, delivery_refusal, completion_refusal, leaving, entered, spent}
-use Rattle.amqp_link_core.specs.AttachTests.{first_of}
+use Rattle.amqp_link_endpoint.specs.AttachTests.{first_of}
 use Rattle.amqp_link_worlds.specs.Invariants.{IsContinuing}
 use Rattle.amqp_link_worlds.specs.Receiving.{CanReceive}
 use Rattle.amqp_link_worlds.specs.Steps.{held_after}

@@ -17,8 +17,8 @@ mod sending;
 
 use crate::error::CreditRunError;
 use crate::queue::Queue;
-use amqp_link_core::endpoint::LinkExt;
 use amqp_link_core::incomplete_transfer::IncompleteTransfer;
+use amqp_link_endpoint::endpoint::LinkExt;
 use amqp_link_pair::Sent;
 use amqp_link_pair::receiving::take_off;
 use amqp_link_payloads::message::whole::Whole;

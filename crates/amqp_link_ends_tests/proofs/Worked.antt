@@ -4,7 +4,8 @@ use Rattle.std.specs.Prelude.{codes}
 use Rattle.amqp_link_types.specs.Refusals.{refusal}
 use Rattle.amqp_link_types.specs.Size.{transfer_len, before, list_of}
 use Rattle.amqp_link_types.specs.declared.types.transfer.Transfer.{Transfer}
-use Rattle.amqp_link_state.specs.declared.state.LinkState.TheVariants.{Attached}
+use Rattle.amqp_link_state.specs.declared.role.SenderMarker.{SenderMarker}
+use Rattle.amqp_link_state.specs.declared.state.LinkState.TheVariants.{Attached, Detached}
 use Rattle.amqp_link_types.specs.declared.types.definitions.ReceiverSettleMode.TheVariants.{First, Second}
 use Rattle.amqp_link_types.specs.declared.types.definitions.SenderSettleMode.TheVariants as mode
 use Rattle.amqp_link_types.specs.declared.types.errors.LinkStateError.TheVariants.{IllegalState, NoRoom}
@@ -16,7 +17,9 @@ use Rattle.amqp_link_types.specs.declared.types.terminus.Target.{Target}
 use Rattle.amqp_link_payloads.specs.declared.error.DecodeError.{DecodeError}
 use Rattle.amqp_link_types.specs.declared.types.errors.ReceiverTransferError.TheVariants.{DeliveryIdIsNone, TransferLimitExceeded}
 use Rattle.amqp_link_payloads.specs.declared.message.Message.{Message}
-use Rattle.amqp_link_core.specs.AttachTests.{first_of}
+use Rattle.amqp_link_endpoint.specs.declared.link_inner.LinkInner.{LinkInner}
+use Rattle.amqp_link_endpoint.specs.Links.{Endpoint, inner_of, released, with_inner, without_session}
+use Rattle.amqp_link_endpoint.specs.AttachTests.{first_of}
 use Rattle.amqp_link_receiver.specs.Completing.{is_illegal_mode, info_of, unsettled_tag, transfer_refusal, completion_refusal}
 use Rattle.amqp_link_receiver.specs.ReceiverDeliveries.{is_settled, session_record}
 use Rattle.amqp_link_receiver.specs.Receivers.{Receiver}
@@ -72,9 +75,9 @@ third_of_three = refl
 
 -- ---- sends
 
--- the link "l" with handles 0 and count 258, at 25 bytes a frame, with this credit
-abbrev link : ℕ → Sender Target
-link credit = record {
+-- the link "l" in mode first with handles 0, at this count, at 25 bytes a frame, with this credit
+abbrev attached_at : {D M : Type 0} → ℕ → ℕ → D → M → Endpoint Target D M
+attached_at count credit unsettled more = record {
   local_state = Attached;
   name = codes "l";
   snd_settle_mode = mode.Mixed;
@@ -88,7 +91,7 @@ link credit = record {
   input_handle = Some (record { 0 = 0 });
   flow_state = record {
     initial_delivery_count = 0;
-    delivery_count = 258;
+    delivery_count = count;
     link_credit = credit;
     available = 0;
     drain = false;
@@ -97,8 +100,26 @@ link credit = record {
   max_frame_size = 25;
   verify_incoming_source = false;
   verify_incoming_target = false;
-  unsettled = [];
+  unsettled = unsettled;
+  more = more;
 }
+
+-- a sender, whose count is 258, with this credit
+abbrev link : ℕ → Sender Target
+link credit = attached_at 258 credit [] tt
+
+-- the part that both roles hold, put back, released by a detach, and after the session is lost
+abbrev part : LinkInner SenderMarker Target
+part = inner_of (link 0)
+
+own_part_changes_nothing : with_inner (link 0) part ≡ link 0
+own_part_changes_nothing = refl
+
+detach_releases_one_handle : with_inner (link 0) (released Detached part) ≡ record (link 0) { local_state = Detached; output_handle = None }
+detach_releases_one_handle = refl
+
+lost_session_releases_both : with_inner (link 0) (without_session part) ≡ record (link 0) { local_state = Detached; output_handle = None; input_handle = None }
+lost_session_releases_both = refl
 
 count_names_the_delivery : next_tag (link 0) ≡ 0 ∷ 0 ∷ 1 ∷ 2 ∷ []
 count_names_the_delivery = refl
@@ -130,34 +151,9 @@ nothing_stands_against_it = refl
 
 -- ---- deliveries that a receiver takes
 
--- the link "l" in mode first with handles 0, at the last count, with this credit
+-- a receiver at the last count, with this credit
 abbrev receiver : ℕ → Receiver Target
-receiver credit = record {
-  local_state = Attached;
-  name = codes "l";
-  snd_settle_mode = mode.Mixed;
-  rcv_settle_mode = First;
-  source = None;
-  target = None;
-  max_message_size = 0;
-  offered_capabilities = None;
-  desired_capabilities = None;
-  output_handle = Some (record { 0 = 0 });
-  input_handle = Some (record { 0 = 0 });
-  flow_state = record {
-    initial_delivery_count = 0;
-    delivery_count = 4294967295;
-    link_credit = credit;
-    available = 0;
-    drain = false;
-    properties = None;
-  };
-  max_frame_size = 25;
-  verify_incoming_source = false;
-  verify_incoming_target = false;
-  unsettled = [];
-  more = false;
-}
+receiver credit = attached_at 4294967295 credit [] false
 
 -- the transfer of delivery 3 with tag 01, in mode second
 abbrev third : Transfer

@@ -4,9 +4,9 @@ use Rattle.std.specs.Prelude.{◌≡◌, [], Option, Some}
 use Rattle.amqp_link_types.specs.declared.types.attach.Attach.{Attach}
 use Rattle.amqp_link_types.specs.declared.types.delivery_state.DeliveryState.{DeliveryState}
 use Rattle.amqp_link_types.specs.Entries.{Entries}
-use Rattle.amqp_link_core.specs.AttachFields.{message_limit}
-use Rattle.amqp_link_core.specs.Attaching.{IsDivided}
-use Rattle.amqp_link_core.specs.Shown.{Shown, count_stated, attach_stated, after_exchange}
+use Rattle.amqp_link_endpoint.specs.AttachFields.{message_limit}
+use Rattle.amqp_link_endpoint.specs.Attaching.{IsDivided}
+use Rattle.amqp_link_endpoint.specs.Shown.{Shown, count_stated, attach_stated, after_exchange}
 
 -- the attach is that of the endpoint, at its output handle, with these deliveries
 pub record IsStatedBy {D : Type 0} (s : Shown D) (entries : Entries (Option DeliveryState)) (attach : Attach) : Type 0 where

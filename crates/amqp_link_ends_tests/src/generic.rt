@@ -2,14 +2,14 @@
 ghost use Rattle.std.specs.Prelude.{◌≡◌, ◌⊎◌, [], Bool, None, Some, MatchOption, IsSomeAnd, IfOk, OnOk, OnErr};
 ghost use Rattle.amqp_link_state.specs.declared.state.LinkState.TheVariants.{Attached, Detached};
 ghost use Rattle.amqp_link_types.specs.declared.types.attach.Attach.{Attach as TheAttach};
-ghost use Rattle.amqp_link_core.specs.AttachFields.{next_of, remote_entries};
-ghost use Rattle.amqp_link_core.specs.Detaching.{detach_frame};
-ghost use Rattle.amqp_link_core.specs.LinkStates.{Call, next_state, state_without_session};
+ghost use Rattle.amqp_link_endpoint.specs.AttachFields.{next_of, remote_entries};
+ghost use Rattle.amqp_link_endpoint.specs.Detaching.{detach_frame};
+ghost use Rattle.amqp_link_endpoint.specs.LinkStates.{Call, next_state, state_without_session};
 ghost use Rattle.amqp_link_ends_tests.specs.Stated.{IsStatedBy, Keeps, GivesUp, Takes};
 
 use crate::assertions::assert_equal;
 use crate::samples::{coming, parts};
-use amqp_link_core::endpoint::{LinkAttach, LinkDetach, LinkExt};
+use amqp_link_endpoint::endpoint::{LinkAttach, LinkDetach, LinkExt};
 use amqp_link_receiver::receiver_link::ReceiverLink;
 use amqp_link_sender::sender_link::SenderLink;
 use amqp_link_state::state::LinkState;

@@ -1,5 +1,5 @@
 //! Samples for tests: a test that is out of memory stops.
-use amqp_link_core::link_parts::LinkParts;
+use amqp_link_endpoint::link_parts::LinkParts;
 use amqp_link_tests_support::{links, table};
 use amqp_link_types::types::{Attach, DeliveryTag, Role, SenderSettleMode, Target};
 use std::process::Abort;

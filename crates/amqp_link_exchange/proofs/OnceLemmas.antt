@@ -10,7 +10,7 @@ use Rattle.amqp_link_types.specs.Entries.{Tag, Entries, entry_at, IsMap}
 use Rattle.amqp_link_types.specs.Deliveries.{Ended}
 use Rattle.amqp_link_types.specs.declared.delivery.UnsettledMessage.{UnsettledMessage}
 use Rattle.amqp_link_types.specs.declared.types.delivery_state.DeliveryState.{DeliveryState}
-use Rattle.amqp_link_core.specs.Attaching.{States}
+use Rattle.amqp_link_endpoint.specs.Attaching.{States}
 use Rattle.amqp_link_core.specs.declared.resumption.Resolution.{Resolution}
 use Rattle.amqp_link_core.specs.declared.resumption.Resolution.TheVariants.{Resuming, Outcome}
 use Rattle.amqp_link_core.specs.declared.resumption.ResumingDelivery.{ResumingDelivery}

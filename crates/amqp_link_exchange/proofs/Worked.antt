@@ -5,7 +5,7 @@ use Rattle.amqp_link_payloads.specs.Position.{starts}
 use Rattle.amqp_link_types.specs.Entries.{Entries}
 use Rattle.amqp_link_types.specs.declared.delivery.UnsettledMessage.{UnsettledMessage}
 use Rattle.amqp_link_types.specs.declared.types.delivery_state.DeliveryState.TheVariants.{Accepted, Released, Received}
-use Rattle.amqp_link_core.specs.Attaching.{States}
+use Rattle.amqp_link_endpoint.specs.Attaching.{States}
 use Rattle.amqp_link_core.specs.Resuming.{resolution_by, outcome_by}
 use Rattle.amqp_link_core.specs.declared.resumption.PlannedResolution.TheVariants as plan
 use Rattle.amqp_link_core.specs.declared.resumption.Resolution.TheVariants.{Outcome}

@@ -4,7 +4,7 @@ use Rattle.std.specs.Prelude.{List, ◌++◌, map, filter, Option, Some, None, i
 use Rattle.std.specs.List.{filter_map}
 use Rattle.amqp_link_types.specs.Deliveries.{Ended}
 use Rattle.amqp_link_types.specs.Entries.{Tag, Entries, entry_at}
-use Rattle.amqp_link_core.specs.Attaching.{States}
+use Rattle.amqp_link_endpoint.specs.Attaching.{States}
 use Rattle.amqp_link_core.specs.Resuming.{resolution}
 use Rattle.amqp_link_types.specs.declared.delivery.UnsettledMessage.{UnsettledMessage}
 use Rattle.amqp_link_core.specs.declared.resumption.Resolution.{Resolution}

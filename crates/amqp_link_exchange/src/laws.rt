@@ -8,7 +8,7 @@ ghost use Rattle.std.specs.Str.{bytes_eq};
 ghost use Rattle.amqp_link_payloads.specs.Position.{position};
 ghost use Rattle.amqp_link_types.specs.declared.delivery.UnsettledMessage.{UnsettledMessage};
 ghost use Rattle.amqp_link_types.specs.Entries.{Tag, Entries, IsMap, entry_at};
-ghost use Rattle.amqp_link_core.specs.Attaching.{States};
+ghost use Rattle.amqp_link_endpoint.specs.Attaching.{States};
 ghost use Rattle.amqp_link_core.specs.Resuming.{rest_from};
 ghost use Rattle.amqp_link_exchange.specs.Exchanges.{deliveries_to_resume, outcomes_returned};
 

@@ -1,7 +1,7 @@
 //! The exchange of a sender's unsettled map with the receiver's (2.6.13), in two halves.
 ghost use Rattle.std.specs.Prelude.{◌≡◌, ◌≢◌, ◌+◌, ◌<◌, ◌≤◌, ◌++◌, ◌∷◌, [], true, None, Some, slice_set, IfOk, OnOk, OnErr, map, length, vec_len, vec_capacity};
 ghost use Rattle.amqp_link_types.specs.Entries.{IsMap};
-ghost use Rattle.amqp_link_core.specs.Attaching.{States};
+ghost use Rattle.amqp_link_endpoint.specs.Attaching.{States};
 ghost use Rattle.amqp_link_core.specs.Resuming.{does_carry_tag};
 ghost use Rattle.amqp_link_exchange.specs.Exchanges.{deliveries_to_resume, outcomes_returned};
 ghost use Rattle.amqp_link_exchange.specs.Plans.{Pairwise, IsStepFor, IsPlanOf, IsResolvable, IsProgress};

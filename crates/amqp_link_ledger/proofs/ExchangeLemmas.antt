@@ -6,7 +6,7 @@ use Rattle.std.specs.List.{filter_map}
 use Rattle.std.proofs.lemmas.Bool.Decides.{nat_tests}
 use Rattle.amqp_link_types.specs.Deliveries.{Ended}
 use Rattle.amqp_link_types.specs.Entries.{Tag, Entries, entry_at}
-use Rattle.amqp_link_core.specs.AttachTests.{Tests, refused_if, first_refusal, left_by_first, left_after, left_after_is, refused_leaves}
+use Rattle.amqp_link_endpoint.specs.AttachTests.{Tests, refused_if, first_refusal, left_by_first, left_after, left_after_is, refused_leaves}
 use Rattle.amqp_link_types.specs.declared.delivery.UnsettledMessage.{UnsettledMessage}
 use Rattle.amqp_link_types.specs.declared.types.attach.Attach.{Attach}
 use Rattle.amqp_link_types.specs.declared.types.errors.LinkStateError.TheVariants as link_error
@@ -15,8 +15,8 @@ use Rattle.amqp_link_types.specs.declared.types.errors.SenderAttachError.TheVari
 use Rattle.amqp_link_types.specs.declared.types.terminus.TargetArchetype.{TargetArchetype}
 use Rattle.amqp_link_state.specs.declared.state.LinkState.{LinkState}
 use Rattle.amqp_link_state.specs.declared.state.LinkState.TheVariants.{Unattached, AttachSent, IncompleteAttachSent, AttachReceived, IncompleteAttachReceived, Attached, IncompleteAttachExchanged, DetachSent, Detached, CloseSent, Closed}
-use Rattle.amqp_link_core.specs.AttachFields.{next_of, remote_entries}
-use Rattle.amqp_link_core.specs.Attaching.{States}
+use Rattle.amqp_link_endpoint.specs.AttachFields.{next_of, remote_entries}
+use Rattle.amqp_link_endpoint.specs.Attaching.{States}
 use Rattle.amqp_link_core.specs.Resuming.{resolution}
 use Rattle.amqp_link_core.specs.declared.resumption.Resolution.{Resolution}
 use Rattle.amqp_link_core.specs.declared.resumption.Resolution.TheVariants.{Resuming, Outcome}
@@ -24,7 +24,8 @@ use Rattle.amqp_link_exchange.specs.Exchanges.{resolutions, to_resume, to_return
 use Rattle.amqp_link_sender.specs.declared.sender_link.incoming.AttachPlan.{AttachPlan}
 use Rattle.amqp_link_sender.specs.declared.sender_link.incoming.SenderAttachExchange.{SenderAttachExchange}
 use Rattle.amqp_link_sender.specs.declared.sender_link.incoming.SenderAttachExchange.TheVariants as exchange
-use Rattle.amqp_link_sender.specs.SenderAttaches.{all_illegal, is_nothing, resumption_in, exchange_in, disagree, sender_attached, sender_came, sender_targeted, sender_termini_refusal, sender_tests, sender_refusal, sender_left, is_sender_out_of_memory, IsAttachPlan}
+use Rattle.amqp_link_endpoint.specs.Shown.{all_illegal}
+use Rattle.amqp_link_sender.specs.SenderAttaches.{is_nothing, resumption_in, exchange_in, disagree, sender_attached, sender_came, sender_targeted, sender_termini_refusal, sender_tests, sender_refusal, sender_left, is_sender_out_of_memory, IsAttachPlan}
 use Rattle.amqp_link_sender.specs.Senders.{Sender}
 use Rattle.amqp_link_ledger.specs.Exchanging.{deliveries_in, given_up, ledger_taken}
 use Rattle.amqp_link_ledger.specs.Fates.{Records, HandsOut, Resolves, after, IsRecorded}

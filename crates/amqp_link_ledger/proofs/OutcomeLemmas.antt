@@ -16,14 +16,14 @@ use Rattle.amqp_link_types.specs.declared.types.errors.LinkStateError.TheVariant
 use Rattle.amqp_link_types.specs.Deliveries.{Ended}
 use Rattle.amqp_link_types.specs.Entries.{Tag, Entries, entry_at, IsMap}
 use Rattle.amqp_link_types.proofs.EntriesLemmas.{IsMap-none}
-use Rattle.amqp_link_core.specs.Attaching.{States}
+use Rattle.amqp_link_endpoint.specs.Attaching.{States}
 use Rattle.amqp_link_core.specs.Resuming.{resolution}
 use Rattle.amqp_link_core.specs.declared.resumption.Resolution.TheVariants.{Resuming, Outcome}
 use Rattle.amqp_link_dispositions.specs.Ending.{settled_of, ended_of, ended_by, does_end, all_closed, closed_for}
 use Rattle.amqp_link_dispositions.proofs.EndingLemmas.{each_once, each_kept}
 use Rattle.amqp_link_exchange.specs.Exchanges.{to_return, outcomes_returned}
 use Rattle.amqp_link_sender.specs.Senders.{Sender, settles}
-use Rattle.amqp_link_sender.specs.SenderAttaches.{all_illegal}
+use Rattle.amqp_link_endpoint.specs.Shown.{all_illegal}
 use Rattle.amqp_link_sender.specs.SenderDisposes.{ended_at}
 use Rattle.amqp_link_ledger.specs.Disposing.{OutcomeSeen}
 use Rattle.amqp_link_ledger.specs.Fates.{Records, pending_count, IsRecorded, AreOfPending}

@@ -13,7 +13,7 @@ use Rattle.amqp_link_types.specs.declared.types.errors.LinkStateError.{LinkState
 use Rattle.amqp_link_types.specs.declared.types.errors.LinkStateError.TheVariants as error
 use Rattle.amqp_link_types.specs.declared.types.transfer.Transfer.{Transfer}
 use Rattle.amqp_link_state.specs.declared.state.LinkState.{LinkState}
-use Rattle.amqp_link_core.specs.LinkStates.{Call, next_state}
+use Rattle.amqp_link_endpoint.specs.LinkStates.{Call, next_state}
 use Rattle.amqp_link_split.specs.Room.{has_room}
 use Rattle.amqp_link_sender.specs.declared.sender_link.Sending.{Sending}
 use Rattle.amqp_link_sender.specs.declared.sender_link.Sending.TheVariants as sending

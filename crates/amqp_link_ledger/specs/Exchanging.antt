@@ -3,12 +3,13 @@ use Rattle.std.specs.Prelude.{[], Option}
 use Rattle.amqp_link_types.specs.Entries.{Entries}
 use Rattle.amqp_link_types.specs.declared.types.attach.Attach.{Attach}
 use Rattle.amqp_link_types.specs.declared.types.terminus.TargetArchetype.{TargetArchetype}
-use Rattle.amqp_link_core.specs.AttachFields.{remote_entries}
+use Rattle.amqp_link_endpoint.specs.AttachFields.{remote_entries}
 use Rattle.amqp_link_core.specs.declared.resumption.ResumingDelivery.{ResumingDelivery}
 use Rattle.amqp_link_exchange.specs.Exchanges.{deliveries_to_resume, outcomes_returned}
 use Rattle.amqp_link_sender.specs.declared.sender_link.incoming.SenderAttachExchange.{SenderAttachExchange}
 use Rattle.amqp_link_sender.specs.declared.sender_link.incoming.SenderAttachExchange.TheVariants as exchange
-use Rattle.amqp_link_sender.specs.SenderAttaches.{all_illegal, sender_taken}
+use Rattle.amqp_link_endpoint.specs.Shown.{all_illegal}
+use Rattle.amqp_link_sender.specs.SenderAttaches.{sender_taken}
 use Rattle.amqp_link_ledger.specs.Fates.{HandsOut, Resolves, after}
 use Rattle.amqp_link_ledger.specs.Ledgers.{Ledger}
 

@@ -7,11 +7,11 @@ ghost use Rattle.amqp_link_types.specs.declared.delivery.UnsettledMessage.{Unset
 ghost use Rattle.amqp_link_types.specs.declared.types.definitions.Error.{Error};
 ghost use Rattle.amqp_link_types.specs.declared.types.delivery_state.DeliveryState.{DeliveryState};
 ghost use Rattle.amqp_link_types.specs.Entries.{Tag, Entries};
-ghost use Rattle.amqp_link_core.specs.Attaching.{States};
+ghost use Rattle.amqp_link_endpoint.specs.Attaching.{States};
 ghost use Rattle.amqp_link_dispositions.specs.Ending.{ended_by, all_closed};
 ghost use Rattle.amqp_link_exchange.specs.Exchanges.{outcomes_returned};
 ghost use Rattle.amqp_link_sender.specs.Senders.{Sender};
-ghost use Rattle.amqp_link_sender.specs.SenderAttaches.{all_illegal};
+ghost use Rattle.amqp_link_endpoint.specs.Shown.{all_illegal};
 ghost use Rattle.amqp_link_sender.specs.SenderDisposes.{ended_at};
 ghost use Rattle.amqp_link_ledger.specs.Fates.{AreOfPending, IsRecorded};
 ghost use Rattle.amqp_link_ledger.specs.Fates.{Change, MovesOnce, Records, after_all};

@@ -6,27 +6,25 @@
 //! called: a refused call makes no registration and resolves none.
 ghost use Rattle.std.specs.Prelude.{◌≡◌, ◌≢◌, [], map, slice_get, IfOk, IfErr, OnErr};
 ghost use Rattle.std.specs.Option.{option_map, option_copied};
-ghost use Rattle.amqp_link_types.specs.Entries.{Entries, IsMap};
+ghost use Rattle.amqp_link_types.specs.Entries.{IsMap};
 ghost use Rattle.amqp_link_sender.specs.Senders.{is_pending};
 ghost use Rattle.amqp_link_ledger.specs.declared.fate.Fate.TheVariants.{Pending};
 ghost use Rattle.amqp_link_ledger.specs.Fates.{IsRecorded};
 
 mod attach;
 mod closing;
-mod detach;
 mod disposing;
+mod either;
 mod entering;
-mod failing;
 mod incoming;
 mod sending;
-mod shown;
 
 use crate::fate::Fate;
 use crate::registrations::Registrations;
-use amqp_link_core::endpoint::LinkExt;
-use amqp_link_core::endpoint::target::LinkTarget;
+use amqp_link_endpoint::endpoint::LinkExt;
+use amqp_link_endpoint::endpoint::target::LinkTarget;
 use amqp_link_sender::sender_link::SenderLink;
-use amqp_link_types::types::{DeliveryTag, OutputHandle};
+use amqp_link_types::types::DeliveryTag;
 use indexmap::map::Slice;
 use std::alloc::{AllocError, Global};
 use std::marker::Model;
@@ -111,22 +109,6 @@ impl<T: LinkTarget> OutcomeLedger<T> {
         })
     }
 
-    /// The ledger of the endpoint with this output handle. Does not allocate.
-    pub fn with_output_handle(self, handle: OutputHandle) -> OutcomeLedger<T>
-        ensures { result ≡ record self { link = record self.link { output_handle = Some handle } } }
-    {
-        let OutcomeLedger {
-            alloc,
-            link,
-            registrations,
-        } = self;
-        OutcomeLedger {
-            alloc,
-            link: link.with_output_handle(handle),
-            registrations,
-        }
-    }
-
     /// A reference to the endpoint.
     pub fn link(&self) -> &SenderLink<T>
         ensures { result.now ≡ self.now.link }
@@ -148,16 +130,6 @@ impl<T: LinkTarget> OutcomeLedger<T> {
         ensures recorded { IsRecorded self.now.link.unsettled self.now.records }
     {
         self.registrations.fate(number)
-    }
-
-    /// Sets the greatest size of a frame in bytes, as `SenderLink::set_max_frame_size` does. Does not
-    /// allocate.
-    pub fn set_max_frame_size(&mut self, max_frame_size: u32)
-        ensures { self.new ≡ record self.old {
-          link = record self.old.link { max_frame_size = max_frame_size };
-        } }
-    {
-        self.link.set_max_frame_size(max_frame_size);
     }
 
     // Whether the delivery of a tag is pending.

@@ -1,6 +1,6 @@
 //! Calls of a ledger as functions without a contract, for tests that make several; those of any link endpoint stand
 //! in `amqp_link_tests_support`.
-use amqp_link_core::endpoint::LinkExt;
+use amqp_link_endpoint::endpoint::LinkExt;
 use amqp_link_ledger::ledger::OutcomeLedger;
 use amqp_link_sender::{DispositionAnswer, Sending, Waiting};
 use amqp_link_tests_support::links::went;

@@ -5,7 +5,7 @@ use crate::assertions::{assert_equal, assert_equal_at};
 use crate::calls::{self, credit_of, pending_in};
 use crate::ledgers::{Sent, send, sent_as};
 use crate::shown::{Shown, fate_shown};
-use amqp_link_core::endpoint::{LinkAttach, LinkDetach, LinkExt};
+use amqp_link_endpoint::endpoint::{LinkAttach, LinkDetach, LinkExt};
 use amqp_link_ledger::ledger::OutcomeLedger;
 use amqp_link_sender::{SenderAttachExchange, SenderLink};
 use amqp_link_state::state::LinkState;

@@ -2,6 +2,7 @@
 use crate::assertions::{assert_equal, assert_holds_at};
 use crate::calls::{put_back, send_payload, take_flow};
 use crate::samples::{attach_of, count_tag, parts, payload_of};
+use amqp_link_endpoint::endpoint::LinkExt;
 use amqp_link_ledger::ledger::OutcomeLedger;
 use amqp_link_sender::{SenderLink, Sending};
 use amqp_link_state::state::LinkState;

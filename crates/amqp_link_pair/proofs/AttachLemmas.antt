@@ -5,10 +5,10 @@ use Rattle.amqp_link_types.specs.declared.frame.LinkFrame.TheVariants as frames
 use Rattle.amqp_link_types.specs.declared.types.attach.Attach.{Attach}
 use Rattle.amqp_link_types.specs.declared.types.definitions.OutputHandle.{OutputHandle}
 use Rattle.amqp_link_state.specs.declared.state.LinkState.{LinkState}
-use Rattle.amqp_link_core.specs.AttachSent.{SendsAttach}
-use Rattle.amqp_link_core.specs.Attaching.{FitsFrame, Divided, IsDivided, States, with_entries}
-use Rattle.amqp_link_core.specs.LinkStates.{Call, next_state}
-use Rattle.amqp_link_core.specs.Shown.{Shown, attach_stated}
+use Rattle.amqp_link_endpoint.specs.AttachSent.{SendsAttach}
+use Rattle.amqp_link_endpoint.specs.Attaching.{FitsFrame, Divided, IsDivided, States, with_entries}
+use Rattle.amqp_link_endpoint.specs.LinkStates.{Call, next_state}
+use Rattle.amqp_link_endpoint.specs.Shown.{Shown, attach_stated}
 use Rattle.amqp_link_worlds.specs.Attachable.{CanAttach}
 
 -- an attach that fits is not halved

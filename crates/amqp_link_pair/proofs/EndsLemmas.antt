@@ -9,11 +9,11 @@ use Rattle.amqp_link_types.specs.declared.types.terminus.TargetArchetype.TheVari
 use Rattle.amqp_link_types.specs.Entries.{Entries}
 use Rattle.amqp_link_state.specs.declared.state.LinkState.{LinkState}
 use Rattle.amqp_link_state.specs.declared.state.LinkState.TheVariants as state
-use Rattle.amqp_link_core.specs.AttachFields.{remote_entries}
-use Rattle.amqp_link_core.specs.Attaching.{with_entries}
-use Rattle.amqp_link_core.specs.LinkStates.{Call, next_state}
-use Rattle.amqp_link_core.specs.Shown.{attach_stated}
-use Rattle.amqp_link_core.specs.Targets.{plain_target}
+use Rattle.amqp_link_endpoint.specs.AttachFields.{remote_entries}
+use Rattle.amqp_link_endpoint.specs.Attaching.{with_entries}
+use Rattle.amqp_link_endpoint.specs.LinkStates.{Call, next_state}
+use Rattle.amqp_link_endpoint.specs.Shown.{attach_stated}
+use Rattle.amqp_link_endpoint.specs.Targets.{plain_target}
 use Rattle.amqp_link_core.specs.declared.resumption.ResumingDelivery.{ResumingDelivery}
 use Rattle.amqp_link_exchange.specs.Exchanges.{deliveries_to_resume, outcomes_returned}
 use Rattle.amqp_link_ledger.specs.Exchanging.{ledger_taken}

@@ -8,7 +8,7 @@ use Rattle.amqp_link_types.specs.declared.types.definitions.OutputHandle.{Output
 use Rattle.amqp_link_types.specs.declared.types.terminus.Target.{Target}
 use Rattle.amqp_link_state.specs.declared.state.LinkState.TheVariants as state
 use Rattle.amqp_link_core.specs.declared.resumption.ResumingDelivery.{ResumingDelivery}
-use Rattle.amqp_link_core.specs.declared.link_parts.LinkParts.{LinkParts}
+use Rattle.amqp_link_endpoint.specs.declared.link_parts.LinkParts.{LinkParts}
 use Rattle.amqp_link_ledger.specs.Ledgers.{Ledger}
 use Rattle.amqp_link_receiver.specs.Receivers.{Receiver}
 use Rattle.amqp_link_worlds.specs.Attachable.{attach_asked, attach_answered}

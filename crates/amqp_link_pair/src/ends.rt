@@ -8,8 +8,8 @@ ghost use Rattle.amqp_link_pair.specs.Endpoints.{new_ends, phase_of, plain_parts
 mod attaching;
 mod calling;
 
-use amqp_link_core::endpoint::LinkExt;
-use amqp_link_core::link_parts::LinkParts;
+use amqp_link_endpoint::endpoint::LinkExt;
+use amqp_link_endpoint::link_parts::LinkParts;
 use amqp_link_ledger::ledger::OutcomeLedger;
 use amqp_link_receiver::receiver_link::ReceiverLink;
 use amqp_link_sender::sender_link::SenderLink;

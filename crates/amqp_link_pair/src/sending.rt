@@ -15,8 +15,8 @@ ghost use Rattle.amqp_link_worlds.specs.Steps.{after_registration, after_one_cre
 ghost use Rattle.amqp_link_pair.specs.Queues.{handed_back_as, IsMadeOf};
 
 use crate::resuming::{put_together, taken_apart};
-use amqp_link_core::endpoint::LinkExt;
 use amqp_link_core::resumption::ResumingDelivery;
+use amqp_link_endpoint::endpoint::LinkExt;
 use amqp_link_ledger::ledger::OutcomeLedger;
 use amqp_link_sender::sender_link::{SenderLink, Sending, Waiting};
 use amqp_link_types::delivery::{Settlement, UnsettledMessage};

@@ -7,8 +7,8 @@ use Rattle.amqp_link_types.specs.declared.types.errors.ReceiverAttachError.TheVa
 use Rattle.amqp_link_types.specs.declared.types.terminus.Source.{Source}
 use Rattle.amqp_link_types.specs.declared.types.terminus.TargetArchetype.{TargetArchetype}
 use Rattle.amqp_link_state.specs.declared.state.LinkState.{LinkState}
-use Rattle.amqp_link_core.specs.AttachFields.{next_of}
-use Rattle.amqp_link_core.specs.AttachTests.{Tests, refused_if, first_of, first_refusal}
+use Rattle.amqp_link_endpoint.specs.AttachFields.{next_of}
+use Rattle.amqp_link_endpoint.specs.AttachTests.{Tests, refused_if, first_of, first_refusal}
 use Rattle.amqp_link_receiver.specs.ReceiverAttaches.{receiver_came, receiver_sourced, receiver_source_refusal, receiver_target_refusal, receiver_refusal, receiver_source_verdict, is_listing}
 use Rattle.amqp_link_receiver.specs.Receivers.{Receiver}
 

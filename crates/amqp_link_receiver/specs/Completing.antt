@@ -14,7 +14,7 @@ use Rattle.amqp_link_types.specs.declared.types.errors.ReceiverTransferError.The
 use Rattle.amqp_link_payloads.specs.declared.message.Message.{Message}
 use Rattle.amqp_link_types.specs.declared.types.transfer.Transfer.{Transfer}
 use Rattle.amqp_link_state.specs.Counts.{after_consuming}
-use Rattle.amqp_link_core.specs.AttachTests.{first_of}
+use Rattle.amqp_link_endpoint.specs.AttachTests.{first_of}
 use Rattle.amqp_link_types.specs.Deliveries.{Info, Delivered}
 use Rattle.amqp_link_types.specs.Entries.{Tag}
 use Rattle.amqp_link_types.specs.Refusals.{refusal}

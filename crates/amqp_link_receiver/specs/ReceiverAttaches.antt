@@ -1,5 +1,5 @@
 -- The attach that a receiver sends, and the one that it takes (OASIS AMQP 1.0 core, 2.6.3 and 2.7.3).
-use Rattle.std.specs.Prelude.{◌≡◌, ℕ, ◌||◌, Bool, true, false, [], ◌∷◌, Option, Some, None, is_some, is_none, option_map, unwrap_or, if◌then◌else◌, refl}
+use Rattle.std.specs.Prelude.{◌≡◌, ℕ, ◌||◌, Bool, true, false, [], ◌∷◌, Option, Some, None, is_some, is_none, unwrap_or, if◌then◌else◌, refl}
 use Rattle.amqp_link_state.specs.declared.state.LinkState.{LinkState}
 use Rattle.amqp_link_state.specs.declared.state.LinkState.TheVariants.{IncompleteAttachSent, IncompleteAttachReceived, IncompleteAttachExchanged}
 use Rattle.amqp_link_types.specs.declared.types.attach.Attach.{Attach}
@@ -10,12 +10,13 @@ use Rattle.amqp_link_types.specs.declared.types.errors.ReceiverAttachError.TheVa
 use Rattle.amqp_link_types.specs.declared.types.terminus.TargetArchetype.{TargetArchetype}
 use Rattle.amqp_link_types.specs.Entries.{Entries}
 use Rattle.amqp_link_types.specs.declared.types.terminus.Source.{Source}
-use Rattle.amqp_link_core.specs.AttachFields.{smaller_limit, merged_properties, merging_allocates, is_foreign, next_of}
-use Rattle.amqp_link_core.specs.Attaching.{States}
-use Rattle.amqp_link_core.specs.AttachTests.{Tests, refused_if, verified, first_of, first_refusal, left_after, left_after_is}
-use Rattle.amqp_link_core.specs.LinkStates.{state_without_session}
-use Rattle.amqp_link_core.specs.Targets.{target_of}
-use Rattle.amqp_link_core.specs.Shown.{Shown, with_terms_of}
+use Rattle.amqp_link_endpoint.specs.AttachFields.{smaller_limit, merged_properties, merging_allocates, is_foreign, next_of}
+use Rattle.amqp_link_endpoint.specs.Attaching.{States}
+use Rattle.amqp_link_endpoint.specs.AttachTests.{Tests, refused_if, verified, first_of, first_refusal, left_after, left_after_is}
+use Rattle.amqp_link_endpoint.specs.Links.{inner_of, with_inner, without_session}
+use Rattle.amqp_link_state.specs.declared.role.ReceiverMarker.{ReceiverMarker}
+use Rattle.amqp_link_endpoint.specs.Targets.{target_of}
+use Rattle.amqp_link_endpoint.specs.Shown.{Shown, shown_of, with_terms_of}
 use Rattle.amqp_link_receiver.specs.declared.receiver_link.attach.ReceiverAttachExchange.{ReceiverAttachExchange}
 use Rattle.amqp_link_receiver.specs.declared.receiver_link.attach.ReceiverAttachExchange.TheVariants as exchange
 use Rattle.amqp_link_receiver.specs.Receivers.{Receiver}
@@ -51,33 +52,11 @@ is_refused_by_list (Some error) = is_listing error
 module _ {T : Type 0} where
   -- what a receiver shows; the first parameter is how its target is sent
   abbrev pub receiver_shown : (T → TargetArchetype) → Receiver T → Shown (Entries (Option DeliveryState))
-  receiver_shown sent_as r = record {
-    role = role.Receiver;
-    local_state = r.local_state;
-    output_handle = r.output_handle;
-    name = r.name;
-    snd_settle_mode = r.snd_settle_mode;
-    rcv_settle_mode = r.rcv_settle_mode;
-    source = r.source;
-    target = option_map sent_as r.target;
-    max_message_size = r.max_message_size;
-    max_frame_size = r.max_frame_size;
-    offered_capabilities = r.offered_capabilities;
-    desired_capabilities = r.desired_capabilities;
-    flow_state = r.flow_state;
-    unsettled = r.unsettled;
-    entries = r.unsettled;
-    ended = [];
-  }
+  receiver_shown sent_as r = shown_of role.Receiver sent_as (inner_of {R = ReceiverMarker} r) r.unsettled r.unsettled []
 
   -- the receiver after its session is lost: without handles, and no delivery under way
   abbrev pub receiver_lost : Receiver T → Receiver T
-  receiver_lost r = record r {
-    local_state = state_without_session r.local_state;
-    output_handle = None;
-    input_handle = None;
-    more = false;
-  }
+  receiver_lost r = record (with_inner r (without_session (inner_of {R = ReceiverMarker} r))) { more = false }
 
   -- ---- the attach that arrives
 

@@ -1,25 +1,20 @@
 //! The receiver of a link (2.6).
-ghost use Rattle.std.specs.Prelude.{◌≡◌, [], None, Some, false};
+ghost use Rattle.std.specs.Prelude.{◌≡◌, false};
 
 mod attach;
 mod completing;
 mod deliveries;
-mod detach;
 mod disposing;
-mod failing;
+mod either;
 mod flow;
-mod shown;
 
-pub use amqp_link_core::endpoint::attached::get_max_message_size;
-use amqp_link_core::endpoint::target::LinkTarget;
-use amqp_link_core::link_parts::LinkParts;
+pub use amqp_link_endpoint::endpoint::attached::get_max_message_size;
+use amqp_link_endpoint::endpoint::target::LinkTarget;
+use amqp_link_endpoint::link_inner::LinkInner;
+use amqp_link_endpoint::link_parts::LinkParts;
 use amqp_link_state::role::ReceiverMarker;
-use amqp_link_state::state::{LinkFlowState, LinkState};
+use amqp_link_types::types::DeliveryState;
 use amqp_link_types::types::unsettled_map::UnsettledMap;
-use amqp_link_types::types::{
-    DeliveryState, InputHandle, OutputHandle, ReceiverSettleMode, SenderSettleMode, Source,
-    Symbols, Text,
-};
 pub use attach::ReceiverAttachExchange;
 use std::alloc::Global;
 use std::marker::Model;
@@ -61,21 +56,7 @@ use std::marker::Model;
 #[derive(Drop)]
 pub struct ReceiverLink<T: LinkTarget> {
     alloc: Global,
-    local_state: LinkState,
-    name: Text,
-    snd_settle_mode: SenderSettleMode,
-    rcv_settle_mode: ReceiverSettleMode,
-    source: Option<Source>,
-    target: Option<T>,
-    max_message_size: u64,
-    offered_capabilities: Option<Symbols>,
-    desired_capabilities: Option<Symbols>,
-    output_handle: Option<OutputHandle>,
-    input_handle: Option<InputHandle>,
-    flow_state: LinkFlowState<ReceiverMarker>,
-    max_frame_size: u32,
-    verify_incoming_source: bool,
-    verify_incoming_target: bool,
+    inner: LinkInner<ReceiverMarker, T>,
     unsettled: UnsettledMap<Option<DeliveryState>>,
     more: bool,
 }
@@ -83,31 +64,14 @@ pub struct ReceiverLink<T: LinkTarget> {
 impl<T: LinkTarget> Model for ReceiverLink<T> {
     ghost use Rattle.std.specs.Coded.{codes};
     ghost use Rattle.amqp_link_values.specs.contracts.fields.Fields as fields;
+    ghost use Rattle.amqp_link_endpoint.specs.Links.{endpoint_of};
     ghost use Rattle.amqp_link_receiver.specs.Receivers.{Receiver};
 
     ghost Value = { Receiver T };
 
     ghost coded = { Prim.hlevel (codes, fields.the_row.coded) };
 
-    ghost view = { λ link. record {
-      local_state = link.local_state;
-      name = link.name;
-      snd_settle_mode = link.snd_settle_mode;
-      rcv_settle_mode = link.rcv_settle_mode;
-      source = link.source;
-      target = link.target;
-      max_message_size = link.max_message_size;
-      offered_capabilities = link.offered_capabilities;
-      desired_capabilities = link.desired_capabilities;
-      output_handle = link.output_handle;
-      input_handle = link.input_handle;
-      flow_state = link.flow_state;
-      max_frame_size = link.max_frame_size;
-      verify_incoming_source = link.verify_incoming_source;
-      verify_incoming_target = link.verify_incoming_target;
-      unsettled = link.unsettled;
-      more = link.more;
-    } };
+    ghost view = { λ link. endpoint_of link.inner link.unsettled link.more };
 }
 
 impl<T: LinkTarget> ReceiverLink<T> {
@@ -123,40 +87,9 @@ impl<T: LinkTarget> ReceiverLink<T> {
     {
         ReceiverLink {
             alloc,
-            local_state: LinkState::Unattached,
-            name: parts.name,
-            snd_settle_mode: parts.snd_settle_mode,
-            rcv_settle_mode: parts.rcv_settle_mode,
-            source: parts.source,
-            target: parts.target,
-            max_message_size: parts.max_message_size,
-            offered_capabilities: parts.offered_capabilities,
-            desired_capabilities: parts.desired_capabilities,
-            output_handle: None,
-            input_handle: None,
-            flow_state: LinkFlowState::receiver(parts.flow_state),
-            max_frame_size: parts.max_frame_size,
-            verify_incoming_source: parts.verify_incoming_source,
-            verify_incoming_target: parts.verify_incoming_target,
+            inner: LinkInner::new(parts),
             unsettled: UnsettledMap::new(alloc),
             more: false,
         }
-    }
-
-    /// The link with this output handle.
-    pub fn with_output_handle(mut self, handle: OutputHandle) -> ReceiverLink<T>
-        ensures { result ≡ record self { output_handle = Some handle } }
-    {
-        self.output_handle = Some(handle);
-        self
-    }
-
-    /// Sets the largest size of a frame in bytes: its header of four bytes and its body, without the four
-    /// bytes of the frame's size in front of them. If the peer's limit counts those as well, the caller
-    /// passes that limit less 4.
-    pub fn set_max_frame_size(&mut self, max_frame_size: u32)
-        ensures { self.new ≡ record self.old { max_frame_size = max_frame_size } }
-    {
-        self.max_frame_size = max_frame_size;
     }
 }

@@ -3,7 +3,7 @@
 use crate::assertions::{assert_equal, assert_equal_at};
 use crate::samples::{byte_of, fields, link_of, link_with, parts, payload_of, tag_of};
 use crate::table::{front_arrives, lead_to};
-use amqp_link_core::endpoint::LinkExt;
+use amqp_link_endpoint::endpoint::LinkExt;
 use amqp_link_receiver::ReceiverLink;
 use amqp_link_state::state::{LinkFlowStateInner, LinkState};
 use amqp_link_tests_support::links::{FlowFields, flow_fields, reply_fields, went};

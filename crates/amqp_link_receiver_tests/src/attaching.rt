@@ -2,7 +2,7 @@
 use crate::assertions::{assert_equal, assert_equal_at};
 use crate::samples::{attach_of, fields, link_of, link_with, parts, symbol, tag_of};
 use crate::table::lead_to;
-use amqp_link_core::endpoint::LinkExt;
+use amqp_link_endpoint::endpoint::LinkExt;
 use amqp_link_receiver::{ReceiverAttachExchange, ReceiverLink, get_max_message_size};
 use amqp_link_state::state::{LinkFlowStateInner, LinkState};
 use amqp_link_tests_support::calls::{local_state, take_attach};

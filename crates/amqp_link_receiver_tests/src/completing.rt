@@ -5,7 +5,7 @@ use crate::arriving::{Kept, kept};
 use crate::assertions::{assert_equal, assert_equal_at};
 use crate::samples::{byte_of, link_with, payload_of, tag_of};
 use crate::table::lead_to;
-use amqp_link_core::endpoint::LinkExt;
+use amqp_link_endpoint::endpoint::LinkExt;
 use amqp_link_payloads::Message;
 use amqp_link_receiver::ReceiverLink;
 use amqp_link_state::state::{LinkFlowStateInner, LinkState};

@@ -2,7 +2,7 @@
 //! 2.6.6), and the attaches that it sends.
 use crate::assertions::{assert_equal, assert_equal_at};
 use crate::samples::{attach_of, link_of, parts, tag_of};
-use amqp_link_core::endpoint::{LinkDetach, LinkExt};
+use amqp_link_endpoint::endpoint::{LinkDetach, LinkExt};
 use amqp_link_receiver::ReceiverLink;
 use amqp_link_state::state::LinkState;
 use amqp_link_tests_support::calls::{

@@ -1,5 +1,5 @@
 -- The attach that a sender sends, and the one that it takes (OASIS AMQP 1.0 core, 2.6.3 and 2.7.3).
-use Rattle.std.specs.Prelude.{◌≡◌, ℕ, Bool, true, false, List, [], ◌∷◌, ◌==◌, ◌&&◌, ◌||◌, not, length, map, Option, Some, None, is_some, is_none, option_map, unwrap_or, if◌then◌else◌, Err, refl}
+use Rattle.std.specs.Prelude.{◌≡◌, ℕ, Bool, true, false, [], ◌∷◌, ◌==◌, ◌&&◌, ◌||◌, not, length, Option, Some, is_some, is_none, option_map, unwrap_or, if◌then◌else◌, refl}
 use Rattle.std.specs.Option.{option_or}
 use Rattle.amqp_link_types.specs.declared.delivery.UnsettledMessage.{UnsettledMessage}
 use Rattle.amqp_link_state.specs.declared.state.LinkState.{LinkState}
@@ -8,32 +8,27 @@ use Rattle.amqp_link_types.specs.declared.types.attach.Attach.{Attach}
 use Rattle.amqp_link_types.specs.declared.types.definitions.Role.TheVariants as role
 use Rattle.amqp_link_types.specs.declared.types.definitions.SenderSettleMode.{SenderSettleMode}
 use Rattle.amqp_link_types.specs.declared.types.definitions.SenderSettleMode.TheVariants as mode
-use Rattle.amqp_link_types.specs.declared.types.errors.LinkStateError.TheVariants as link_error
 use Rattle.amqp_link_types.specs.declared.types.errors.SenderAttachError.{SenderAttachError}
 use Rattle.amqp_link_types.specs.declared.types.errors.SenderAttachError.TheVariants as error
 use Rattle.amqp_link_types.specs.declared.types.terminus.TargetArchetype.{TargetArchetype}
 use Rattle.amqp_link_types.specs.Entries.{Entries}
 use Rattle.amqp_link_types.specs.declared.types.terminus.Source.{Source}
-use Rattle.amqp_link_types.specs.Deliveries.{Ended}
 use Rattle.amqp_link_types.specs.Unsettled.{states_of}
-use Rattle.amqp_link_core.specs.AttachFields.{smaller_limit, merged_properties, merging_allocates, is_foreign, next_of, remote_entries}
-use Rattle.amqp_link_core.specs.Attaching.{States}
-use Rattle.amqp_link_core.specs.AttachTests.{Tests, refused_if, verified, first_of, first_refusal, left_after, left_after_is}
+use Rattle.amqp_link_endpoint.specs.AttachFields.{smaller_limit, merged_properties, merging_allocates, is_foreign, next_of, remote_entries}
+use Rattle.amqp_link_endpoint.specs.Attaching.{States}
+use Rattle.amqp_link_endpoint.specs.AttachTests.{Tests, refused_if, verified, first_of, first_refusal, left_after, left_after_is}
 use Rattle.amqp_link_core.specs.declared.resumption.ResumingDelivery.{ResumingDelivery}
 use Rattle.amqp_link_exchange.specs.Exchanges.{deliveries_to_resume}
 use Rattle.amqp_link_exchange.specs.Plans.{IsPlanOf}
-use Rattle.amqp_link_core.specs.Shown.{Shown, stated_count, with_terms_of}
-use Rattle.amqp_link_core.specs.LinkStates.{state_without_session}
-use Rattle.amqp_link_core.specs.Targets.{target_of}
+use Rattle.amqp_link_endpoint.specs.Shown.{Shown, all_illegal, shown_of, stated_count, with_terms_of}
+use Rattle.amqp_link_endpoint.specs.Links.{inner_of, with_inner, without_session}
+use Rattle.amqp_link_state.specs.declared.role.SenderMarker.{SenderMarker}
+use Rattle.amqp_link_endpoint.specs.Targets.{target_of}
 use Rattle.amqp_link_sender.specs.declared.sender_link.incoming.AttachPlan.{AttachPlan}
 use Rattle.amqp_link_sender.specs.declared.sender_link.incoming.SenderAttachExchange.{SenderAttachExchange}
 use Rattle.amqp_link_sender.specs.declared.sender_link.incoming.SenderAttachExchange.TheVariants as exchange
 use Rattle.amqp_link_sender.specs.Senders.{Sender}
 use Rattle.amqp_link_verification.specs.Termini.{sender_refuses_source}
-
--- the outcomes of the deliveries if the link is reattached
-abbrev pub all_illegal : Entries UnsettledMessage → List Ended
-all_illegal entries = map (λ entry. (entry.0, Err link_error.IllegalState)) entries
 
 -- whether neither endpoint has an unsettled delivery
 abbrev pub is_nothing : Entries UnsettledMessage → States → Bool
@@ -65,32 +60,12 @@ disagree _ _ = false
 module _ {T : Type 0} where
   -- what a sender shows; the first parameter is how its target is sent
   abbrev pub sender_shown : (T → TargetArchetype) → Sender T → Shown (Entries UnsettledMessage)
-  sender_shown sent_as s = record {
-    role = role.Sender;
-    local_state = s.local_state;
-    output_handle = s.output_handle;
-    name = s.name;
-    snd_settle_mode = s.snd_settle_mode;
-    rcv_settle_mode = s.rcv_settle_mode;
-    source = s.source;
-    target = option_map sent_as s.target;
-    max_message_size = s.max_message_size;
-    max_frame_size = s.max_frame_size;
-    offered_capabilities = s.offered_capabilities;
-    desired_capabilities = s.desired_capabilities;
-    flow_state = s.flow_state;
-    unsettled = s.unsettled;
-    entries = states_of s.unsettled;
-    ended = all_illegal s.unsettled;
-  }
+  sender_shown sent_as s =
+      shown_of role.Sender sent_as (inner_of {R = SenderMarker} s) s.unsettled (states_of s.unsettled) (all_illegal s.unsettled)
 
   -- the sender after its session is lost: without handles
   abbrev pub sender_lost : Sender T → Sender T
-  sender_lost s = record s {
-    local_state = state_without_session s.local_state;
-    output_handle = None;
-    input_handle = None;
-  }
+  sender_lost s = with_inner s (without_session (inner_of {R = SenderMarker} s))
 
   -- ---- the attach that is sent
 

@@ -5,20 +5,14 @@ use Rattle.std.specs.Int.{w32, to_be_bytes}
 use Rattle.std.specs.Option.{option_map_or}
 use Rattle.amqp_link_types.specs.declared.types.errors.LinkStateError.{LinkStateError}
 use Rattle.amqp_link_types.specs.declared.types.errors.LinkStateError.TheVariants as error
-use Rattle.amqp_link_types.specs.declared.types.definitions.InputHandle.{InputHandle}
 use Rattle.amqp_link_types.specs.declared.types.definitions.OutputHandle.{OutputHandle}
 use Rattle.amqp_link_types.specs.declared.types.definitions.SenderSettleMode.{SenderSettleMode}
 use Rattle.amqp_link_types.specs.declared.types.definitions.SenderSettleMode.TheVariants as mode
-use Rattle.amqp_link_types.specs.declared.types.definitions.ReceiverSettleMode.{ReceiverSettleMode}
 use Rattle.amqp_link_types.specs.declared.types.delivery_state.DeliveryState.{DeliveryState}
-use Rattle.amqp_link_types.specs.declared.types.terminus.Source.{Source}
 use Rattle.amqp_link_types.specs.declared.types.transfer.Transfer.{Transfer}
 use Rattle.amqp_link_types.specs.declared.delivery.Settlement.{Settlement}
 use Rattle.amqp_link_types.specs.declared.delivery.Settlement.TheVariants as settlement
 use Rattle.amqp_link_types.specs.declared.delivery.UnsettledMessage.{UnsettledMessage}
-use Rattle.amqp_link_state.specs.declared.state.LinkState.{LinkState}
-use Rattle.amqp_link_state.specs.declared.state.LinkState.TheVariants.{Unattached}
-use Rattle.amqp_link_state.specs.declared.state.LinkFlowStateInner.{LinkFlowStateInner}
 use Rattle.amqp_link_types.specs.declared.frame.LinkFrame.{LinkFrame}
 use Rattle.amqp_link_sender.specs.declared.sender_link.Sending.{Sending}
 use Rattle.amqp_link_sender.specs.declared.sender_link.Sending.TheVariants as sending
@@ -26,51 +20,20 @@ use Rattle.amqp_link_state.specs.Counts.{after_consuming}
 use Rattle.amqp_link_types.specs.Entries.{Tag, Entries, with_entry, entry_at}
 use Rattle.amqp_link_types.specs.Frames.{payload_of, AreFramesOf}
 use Rattle.amqp_link_types.specs.Refusals.{refusal}
-use Rattle.amqp_link_core.specs.declared.link_parts.LinkParts.{LinkParts}
+use Rattle.amqp_link_state.specs.declared.role.SenderMarker.{SenderMarker}
+use Rattle.amqp_link_endpoint.specs.declared.link_parts.LinkParts.{LinkParts}
+use Rattle.amqp_link_endpoint.specs.Links.{Endpoint, endpoint_of, inner_of_parts}
 use Rattle.amqp_link_split.specs.Fitting.{IsFitting}
 use Rattle.amqp_link_split.specs.Room.{has_room, payload_limit}
 use Rattle.amqp_link_split.specs.Split.{IsSplit}
 
 -- what a caller sees of a sender's link endpoint with a target of type T
-pub record Sender (T : Type 0) : Type 0 where
-  pub local_state : LinkState
-  pub name : List ℕ
-  pub snd_settle_mode : SenderSettleMode
-  pub rcv_settle_mode : ReceiverSettleMode
-  pub source : Option Source
-  pub target : Option T
-  pub max_message_size : ℕ
-  pub offered_capabilities : Option (List (List ℕ))
-  pub desired_capabilities : Option (List (List ℕ))
-  pub output_handle : Option OutputHandle
-  pub input_handle : Option InputHandle
-  pub flow_state : LinkFlowStateInner
-  pub max_frame_size : ℕ
-  -- whether the termini of the peer's attach are to be verified
-  pub verify_incoming_source : Bool
-  pub verify_incoming_target : Bool
-  pub unsettled : Entries UnsettledMessage
+abbrev pub Sender : Type 0 → Type 0
+Sender T = Endpoint T (Entries UnsettledMessage) (Unit {0})
 
 -- the endpoint that is made of these parts: not attached, without handles and unsettled deliveries
 abbrev pub sender_of_parts : {T : Type 0} → LinkParts T → Sender T
-sender_of_parts parts = record {
-  local_state = Unattached;
-  name = parts.name;
-  snd_settle_mode = parts.snd_settle_mode;
-  rcv_settle_mode = parts.rcv_settle_mode;
-  source = parts.source;
-  target = parts.target;
-  max_message_size = parts.max_message_size;
-  offered_capabilities = parts.offered_capabilities;
-  desired_capabilities = parts.desired_capabilities;
-  output_handle = None;
-  input_handle = None;
-  flow_state = parts.flow_state;
-  max_frame_size = parts.max_frame_size;
-  verify_incoming_source = parts.verify_incoming_source;
-  verify_incoming_target = parts.verify_incoming_target;
-  unsettled = [];
-}
+sender_of_parts parts = endpoint_of {R = SenderMarker} (inner_of_parts parts) [] tt
 
 -- ---- settling
 

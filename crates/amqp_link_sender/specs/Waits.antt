@@ -11,7 +11,7 @@ use Rattle.amqp_link_types.specs.declared.types.errors.LinkStateError.{LinkState
 use Rattle.amqp_link_types.specs.declared.types.errors.LinkStateError.TheVariants as error
 use Rattle.amqp_link_types.specs.declared.types.performatives.Detach.{Detach}
 use Rattle.amqp_link_types.specs.declared.types.stop_reason.SessionStopReason.{SessionStopReason}
-use Rattle.amqp_link_core.specs.LinkStates.{Call, next_state}
+use Rattle.amqp_link_endpoint.specs.LinkStates.{Call, next_state}
 use Rattle.amqp_link_sender.specs.declared.sender_link.Waiting.{Waiting}
 use Rattle.amqp_link_sender.specs.declared.sender_link.Waiting.TheVariants as waiting
 use Rattle.amqp_link_sender.specs.Senders.{Sender}

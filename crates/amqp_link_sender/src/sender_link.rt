@@ -2,33 +2,31 @@
 //!
 //! A new link is attached first, then the receiver grants credit, then payloads are sent, one credit for each
 //! delivery. The caller sends the frames that a call returns in their order.
-ghost use Rattle.std.specs.Prelude.{◌≡◌, ◌<◌, [], length, true, None, Some, IfOk, IsSomeAnd, OnOk, OnErr, MatchOption, is_none};
+ghost use Rattle.std.specs.Prelude.{◌≡◌, ◌<◌, length, true, None, Some, IfOk, IsSomeAnd, OnOk, OnErr, MatchOption, is_none};
 ghost use Rattle.amqp_link_split.specs.Room.{has_room};
 ghost use Rattle.amqp_link_split.specs.Room;
 ghost use Rattle.amqp_link_split.specs.Fitting.{IsFitting};
 
 mod attach;
-mod detach;
 mod disposing;
-mod failing;
+mod either;
 mod flow;
 pub mod incoming;
 mod resending;
-mod shown;
 mod waits;
 
-use amqp_link_core::endpoint::target::LinkTarget;
-use amqp_link_core::link_parts::LinkParts;
+use amqp_link_endpoint::endpoint::target::LinkTarget;
+use amqp_link_endpoint::link_inner::LinkInner;
+use amqp_link_endpoint::link_parts::LinkParts;
 use amqp_link_split::room::{payload_limit, payload_limit_with_tag};
 use amqp_link_split::split::frames;
 use amqp_link_state::role::SenderMarker;
-use amqp_link_state::state::{LinkFlowState, LinkState};
 use amqp_link_types::delivery::{DeliveryOutcome, Settlement, UnsettledMessage};
 use amqp_link_types::frame::LinkFrame;
 use amqp_link_types::types::unsettled_map::UnsettledMap;
 use amqp_link_types::types::{
     DeliveryState, DeliveryTag, InputHandle, LinkStateError, MessageFormat, OutputHandle, Payload,
-    ReceiverSettleMode, SenderSettleMode, SessionStopReason, Source, Symbols, Text, Transfer,
+    SenderSettleMode, SessionStopReason, Transfer,
 };
 pub use incoming::SenderAttachExchange;
 use std::alloc::{AllocError, Global};
@@ -108,51 +106,21 @@ pub struct DispositionAnswer {
 #[derive(Drop)]
 pub struct SenderLink<T: LinkTarget> {
     alloc: Global,
-    local_state: LinkState,
-    name: Text,
-    snd_settle_mode: SenderSettleMode,
-    rcv_settle_mode: ReceiverSettleMode,
-    source: Option<Source>,
-    target: Option<T>,
-    max_message_size: u64,
-    offered_capabilities: Option<Symbols>,
-    desired_capabilities: Option<Symbols>,
-    output_handle: Option<OutputHandle>,
-    input_handle: Option<InputHandle>,
-    flow_state: LinkFlowState<SenderMarker>,
-    max_frame_size: u32,
-    verify_incoming_source: bool,
-    verify_incoming_target: bool,
+    inner: LinkInner<SenderMarker, T>,
     unsettled: UnsettledMap<UnsettledMessage>,
 }
 
 impl<T: LinkTarget> Model for SenderLink<T> {
     ghost use Rattle.std.specs.Coded.{codes};
     ghost use Rattle.amqp_link_values.specs.contracts.fields.Fields as fields;
+    ghost use Rattle.amqp_link_endpoint.specs.Links.{endpoint_of};
     ghost use Rattle.amqp_link_sender.specs.Senders.{Sender};
 
     ghost Value = { Sender T };
 
     ghost coded = { Prim.hlevel (codes, fields.the_row.coded) };
 
-    ghost view = { λ link. record {
-      local_state = link.local_state;
-      name = link.name;
-      snd_settle_mode = link.snd_settle_mode;
-      rcv_settle_mode = link.rcv_settle_mode;
-      source = link.source;
-      target = link.target;
-      max_message_size = link.max_message_size;
-      offered_capabilities = link.offered_capabilities;
-      desired_capabilities = link.desired_capabilities;
-      output_handle = link.output_handle;
-      input_handle = link.input_handle;
-      flow_state = link.flow_state;
-      max_frame_size = link.max_frame_size;
-      verify_incoming_source = link.verify_incoming_source;
-      verify_incoming_target = link.verify_incoming_target;
-      unsettled = link.unsettled;
-    } };
+    ghost view = { λ link. endpoint_of link.inner link.unsettled tt };
 }
 
 impl<T: LinkTarget> SenderLink<T> {
@@ -173,40 +141,9 @@ impl<T: LinkTarget> SenderLink<T> {
     {
         SenderLink {
             alloc,
-            local_state: LinkState::Unattached,
-            name: parts.name,
-            snd_settle_mode: parts.snd_settle_mode,
-            rcv_settle_mode: parts.rcv_settle_mode,
-            source: parts.source,
-            target: parts.target,
-            max_message_size: parts.max_message_size,
-            offered_capabilities: parts.offered_capabilities,
-            desired_capabilities: parts.desired_capabilities,
-            output_handle: None,
-            input_handle: None,
-            flow_state: LinkFlowState::sender(parts.flow_state),
-            max_frame_size: parts.max_frame_size,
-            verify_incoming_source: parts.verify_incoming_source,
-            verify_incoming_target: parts.verify_incoming_target,
+            inner: LinkInner::new(parts),
             unsettled: UnsettledMap::new(alloc),
         }
-    }
-
-    /// The link with this output handle.
-    pub fn with_output_handle(mut self, handle: OutputHandle) -> SenderLink<T>
-        ensures { result ≡ record self { output_handle = Some handle } }
-    {
-        self.output_handle = Some(handle);
-        self
-    }
-
-    /// Sets the largest size of a frame in bytes: its header of four bytes and its body, without the four
-    /// bytes of the frame's size in front of them. If the peer's limit counts those as well, the caller
-    /// passes that limit less 4.
-    pub fn set_max_frame_size(&mut self, max_frame_size: u32)
-        ensures { self.new ≡ record self.old { max_frame_size = max_frame_size } }
-    {
-        self.max_frame_size = max_frame_size;
     }
 
     /// Whether a transfer is sent settled, so that its delivery awaits no outcome: by its `settled` flag if
@@ -214,7 +151,7 @@ impl<T: LinkTarget> SenderLink<T> {
     pub fn is_settled_on_send(&self, transfer: &Transfer) -> bool
         ensures { result ≡ settled_on_send self.now transfer.now }
     {
-        let by_mode = matches!(self.snd_settle_mode, SenderSettleMode::Settled);
+        let by_mode = matches!(self.inner.snd_settle_mode, SenderSettleMode::Settled);
         transfer.settled.unwrap_or(by_mode)
     }
 
@@ -236,7 +173,7 @@ impl<T: LinkTarget> SenderLink<T> {
             (λ handle. result ≡ Ok (new_transfer self.now handle delivery_tag
             (delivery_of message_format settled state batchable))) }
     {
-        let Some(handle) = self.output_handle else {
+        let Some(handle) = self.inner.output_handle else {
             drop((delivery_tag, state));
             return Err(LinkStateError::IllegalState);
         };
@@ -262,7 +199,7 @@ impl<T: LinkTarget> SenderLink<T> {
     ) -> Transfer
         ensures { result ≡ untagged self.now handle (delivery_of message_format settled state batchable) }
     {
-        let settled = match self.snd_settle_mode {
+        let settled = match self.inner.snd_settle_mode {
             SenderSettleMode::Settled => true,
             SenderSettleMode::Unsettled => false,
             SenderSettleMode::Mixed => settled.unwrap_or(false), // unset means false (2.7.5)
@@ -347,15 +284,15 @@ impl<T: LinkTarget> SenderLink<T> {
             (delivery_of message_format settled state batchable) payload.now) }
         ensures left { OnErr result (self.new ≡ self.old) }
     {
-        let Some(handle) = self.output_handle else {
+        let Some(handle) = self.inner.output_handle else {
             drop(state);
             return Err(LinkStateError::IllegalState);
         };
-        let Some(input_handle) = self.input_handle else {
+        let Some(input_handle) = self.inner.input_handle else {
             drop(state);
             return Err(LinkStateError::IllegalState);
         };
-        if self.flow_state.link_credit() == 0 {
+        if self.inner.flow_state.link_credit() == 0 {
             drop(state);
             return Ok(Sending::CreditMissing);
         }
@@ -367,7 +304,7 @@ impl<T: LinkTarget> SenderLink<T> {
             payload,
         )?;
         // All tests and all allocations are done.
-        self.flow_state.spend_one();
+        self.inner.flow_state.spend_one();
         Ok(Sending::Sent { settlement, frames })
     }
 
@@ -385,19 +322,19 @@ impl<T: LinkTarget> SenderLink<T> {
         ensures { IsSendable result (payload_tests self.now
             (delivery_of message_format settled state batchable) payload.now) }
     {
-        let Some(handle) = self.output_handle else {
+        let Some(handle) = self.inner.output_handle else {
             drop(state);
             return Err(LinkStateError::IllegalState);
         };
-        if self.input_handle.is_none() {
+        if self.inner.input_handle.is_none() {
             drop(state);
             return Err(LinkStateError::IllegalState);
         }
-        if self.flow_state.link_credit() == 0 {
+        if self.inner.flow_state.link_credit() == 0 {
             drop(state);
             return Ok(false);
         }
-        let count = self.flow_state.delivery_count().to_be_bytes();
+        let count = self.inner.flow_state.delivery_count().to_be_bytes();
         let mut next = self.untagged_transfer(handle, message_format, settled, state, batchable);
         let limit = self.limit_of_next(&mut next, &count, payload);
         drop(next);
@@ -425,7 +362,7 @@ impl<T: LinkTarget> SenderLink<T> {
             (record transfer { delivery_tag = Some (next_tag self.old) }) (next_tag self.old) payload.now) }
         ensures left { OnErr result (self.new ≡ self.old) }
     {
-        let count = self.flow_state.delivery_count().to_be_bytes();
+        let count = self.inner.flow_state.delivery_count().to_be_bytes();
         let limit = match self.limit_of_next(&mut transfer, &count, payload) {
             Ok(limit) => limit,
             Err(refused) => {
@@ -462,7 +399,7 @@ impl<T: LinkTarget> SenderLink<T> {
         if !self.is_settled_on_send(transfer) && self.unsettled.contains_bytes(tag) {
             return Err(LinkStateError::TagPending);
         }
-        payload_limit_with_tag(transfer, tag, self.max_frame_size, payload).ok_or(
+        payload_limit_with_tag(transfer, tag, self.inner.max_frame_size, payload).ok_or(
             LinkStateError::NoRoom,
         )
     }
@@ -575,7 +512,7 @@ impl<T: LinkTarget> SenderLink<T> {
             (tagged_transfer_tests self.now transfer.old payload.now) }
         ensures same { transfer.new ≡ transfer.old }
     {
-        let limit = payload_limit(transfer, self.max_frame_size, payload);
+        let limit = payload_limit(transfer, self.inner.max_frame_size, payload);
         let _ = self.admitted(transfer, limit)?;
         Ok(())
     }
@@ -596,7 +533,7 @@ impl<T: LinkTarget> SenderLink<T> {
             (tagged_transfer_tests self.now transfer.old payload.now) }
         ensures same { transfer.new ≡ transfer.old }
     {
-        let limit = payload_limit(transfer, self.max_frame_size, payload);
+        let limit = payload_limit(transfer, self.inner.max_frame_size, payload);
         let (input_handle, tag, limit) = self.admitted(transfer, limit)?;
         Ok((input_handle, tag.clone()?, limit))
     }
@@ -615,7 +552,7 @@ impl<T: LinkTarget> SenderLink<T> {
         let Some(tag) = &transfer.delivery_tag else {
             return Err(LinkStateError::IllegalState);
         };
-        let Some(input_handle) = self.input_handle else {
+        let Some(input_handle) = self.inner.input_handle else {
             return Err(LinkStateError::IllegalState);
         };
         if !self.is_settled_on_send(transfer) && self.unsettled.contains(tag) {
@@ -645,11 +582,11 @@ impl<T: LinkTarget> SenderLink<T> {
             (transfer_tests self.now transfer payload.now) }
     {
         let is_settled = self.is_settled_on_send(&transfer);
-        let Some(input_handle) = self.input_handle else {
+        let Some(input_handle) = self.inner.input_handle else {
             drop(transfer);
             return Err(LinkStateError::IllegalState);
         };
-        let Some(limit) = payload_limit(&mut transfer, self.max_frame_size, payload) else {
+        let Some(limit) = payload_limit(&mut transfer, self.inner.max_frame_size, payload) else {
             drop(transfer);
             return Err(LinkStateError::NoRoom);
         };

@@ -4,7 +4,7 @@ use crate::calls::{pending_in, withdraw};
 use crate::led::{attach_goes, detach_for_reattach, put};
 use crate::samples::{coming, count_in, link_of, parts, text};
 use crate::sending::{link, send_one};
-use amqp_link_core::endpoint::LinkExt;
+use amqp_link_endpoint::endpoint::LinkExt;
 use amqp_link_sender::SenderLink;
 use amqp_link_state::state::LinkState;
 use amqp_link_tests_support::calls::{local_state, send_attach, take_attach};

@@ -1,7 +1,7 @@
 //! Calls of a sender as functions without a contract, for tests that make several; those of either endpoint stand in
 //! `amqp_link_tests_support`.
 use crate::samples::{count_in, tag_of};
-use amqp_link_core::endpoint::LinkExt;
+use amqp_link_endpoint::endpoint::LinkExt;
 use amqp_link_sender::SenderLink;
 use amqp_link_types::delivery::UnsettledMessage;
 use amqp_link_types::types::{OutputHandle, Target};

@@ -1,5 +1,6 @@
 //! Samples for tests: a test that is out of memory stops.
-use amqp_link_core::link_parts::LinkParts;
+use amqp_link_endpoint::endpoint::LinkExt;
+use amqp_link_endpoint::link_parts::LinkParts;
 use amqp_link_sender::SenderLink;
 use amqp_link_tests_support::{links, table};
 use amqp_link_types::delivery::UnsettledMessage;

@@ -1,6 +1,6 @@
 //! Calls of either link endpoint as functions without a contract, for tests that make several: each call in a test
 //! is proved with all that the contracts of the calls before it say.
-use amqp_link_core::endpoint::{LinkAttach, LinkDetach, LinkExt};
+use amqp_link_endpoint::endpoint::{LinkAttach, LinkDetach, LinkExt};
 use amqp_link_state::state::LinkState;
 use amqp_link_types::delivery::Outcomes;
 use amqp_link_types::frame::LinkFrame;

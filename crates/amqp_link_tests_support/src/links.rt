@@ -1,5 +1,5 @@
 //! Parts of links for tests.
-use amqp_link_core::link_parts::LinkParts;
+use amqp_link_endpoint::link_parts::LinkParts;
 use amqp_link_types::types::{
     Attach, DeliveryTag, Fields, Handle, LinkFlow, LinkRelayError, ReceiverSettleMode, Role,
     SenderSettleMode, Source, Symbol, Target, TargetArchetype, Text, Value,

@@ -1,5 +1,5 @@
 //! The kinds of an attach's errors and of what follows them, which tests compare in place of the values.
-use amqp_link_core::endpoint::failing::Action;
+use amqp_link_endpoint::endpoint::failing::Action;
 use amqp_link_types::frame::LinkFrame;
 use amqp_link_types::types::{Detach, Error, ReceiverAttachError, SenderAttachError};
 

@@ -1,7 +1,7 @@
 //! The table of link states of the standard (2.6.3 to 2.6.6), for tests: the state after each call, by the
 //! state before it. All other pairs of a call and a state have no transition.
 use crate::links::{attach_of, went};
-use amqp_link_core::endpoint::LinkExt;
+use amqp_link_endpoint::endpoint::LinkExt;
 use amqp_link_state::state::LinkState;
 use amqp_link_types::types::{Attach, Detach, DetachError, Handle, Role, SenderSettleMode};
 use std::alloc::{AllocError, Global};

@@ -29,7 +29,8 @@ use amqp_link::errors::{ReceiverAttachError, ReceiverTransferError};
 use amqp_link::receiver_link::ReceiverAttachExchange;
 use amqp_link::types::{Attach, Target, Transfer};
 use amqp_link::{
-    Delivery, DeliveryTag, IncompleteTransfer, LinkAttach, LinkFrame, Payload, ReceiverLink, Whole,
+    Delivery, DeliveryTag, IncompleteTransfer, LinkAttach, LinkExt, LinkFrame, Payload,
+    ReceiverLink, Whole,
 };
 pub use forwarding::{Forwarded, send_on, settle_with};
 use std::alloc::{AllocError, Global};

@@ -25,8 +25,8 @@ use amqp_link::errors::{LinkRelayError, LinkStateError, SenderAttachError};
 use amqp_link::sender_link::DispositionAnswer;
 use amqp_link::types::{Attach, LinkFlow, OutputHandle, SenderSettleMode, Target};
 use amqp_link::{
-    DeliveryState, DeliveryTag, LinkAttach, LinkFrame, LinkParts, Payload, SenderLink, Sending,
-    Waiting,
+    DeliveryState, DeliveryTag, LinkAttach, LinkExt, LinkFrame, LinkParts, Payload, SenderLink,
+    Sending, Waiting,
 };
 use std::alloc::Global;
 

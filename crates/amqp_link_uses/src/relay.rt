@@ -30,7 +30,7 @@ use amqp_link::errors::{LinkStateError, SenderAttachError};
 use amqp_link::resumption::ResumingDelivery;
 use amqp_link::sender_link::SenderAttachExchange;
 use amqp_link::types::{Attach, Target};
-use amqp_link::{DeliveryTag, LinkAttach, LinkFrame, OutcomeLedger, Payload};
+use amqp_link::{DeliveryTag, LinkAttach, LinkExt, LinkFrame, OutcomeLedger, Payload};
 use std::alloc::{AllocError, Global};
 
 /// What follows once a relay's link is attached again.

@@ -2,7 +2,7 @@
 use crate::assertions::assert_equal;
 use crate::samples::{attach_of, parts};
 use amqp_link::types::{LinkFlow, OutputHandle, Role, SenderSettleMode};
-use amqp_link::{ReceiverLink, SenderLink};
+use amqp_link::{LinkExt, ReceiverLink, SenderLink};
 use amqp_link_tests_support::table::detach;
 use amqp_link_uses::peer::{Frame, first_refused};
 use std::process::Abort;

@@ -1,7 +1,7 @@
 //! Links, and what they are made with: each call with a contract stands in a function of its own, since what follows
 //! a call is proved with all that its contract says.
 use amqp_link::types::{Attach, LinkFlow, OutputHandle, Role, SenderSettleMode, Target};
-use amqp_link::{DeliveryTag, LinkParts, Payload, ReceiverLink, SenderLink};
+use amqp_link::{DeliveryTag, LinkExt, LinkParts, Payload, ReceiverLink, SenderLink};
 use amqp_link_tests_support::calls::{send_attach, take_attach};
 use amqp_link_tests_support::links;
 use std::process::Abort;

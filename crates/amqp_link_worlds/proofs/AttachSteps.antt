@@ -15,9 +15,9 @@ use Rattle.amqp_link_types.specs.declared.types.terminus.TargetArchetype.TheVari
 use Rattle.amqp_link_types.proofs.MapLemmas.{false_is_not_true}
 use Rattle.amqp_link_state.specs.declared.state.LinkState.{LinkState}
 use Rattle.amqp_link_state.specs.declared.state.LinkState.TheVariants as state
-use Rattle.amqp_link_core.specs.Attaching.{FitsFrame, States, with_entries}
-use Rattle.amqp_link_core.specs.LinkStates.{Call, next_state}
-use Rattle.amqp_link_core.specs.Shown.{attach_stated, counted_attach}
+use Rattle.amqp_link_endpoint.specs.Attaching.{FitsFrame, States, with_entries}
+use Rattle.amqp_link_endpoint.specs.LinkStates.{Call, next_state}
+use Rattle.amqp_link_endpoint.specs.Shown.{attach_stated, counted_attach}
 use Rattle.amqp_link_exchange.specs.Exchanges.{deliveries_to_resume}
 use Rattle.amqp_link_sender.specs.SenderAttaches.{sender_shown, sent_count, exchange_in}
 use Rattle.amqp_link_sender.specs.declared.sender_link.incoming.SenderAttachExchange.TheVariants as exchange

@@ -6,7 +6,7 @@ use Rattle.amqp_link_types.specs.Entries.{Tag, Entries, entry_at}
 use Rattle.amqp_link_types.specs.Refusals.{refusal}
 use Rattle.amqp_link_core.specs.Held.{Held, held_bytes}
 use Rattle.amqp_link_core.specs.Merging.{Came, Merged, opening, first, present, settled_by, state_by}
-use Rattle.amqp_link_core.specs.LinkStates.{state_without_session}
+use Rattle.amqp_link_endpoint.specs.LinkStates.{state_without_session}
 use Rattle.amqp_link_payloads.specs.Position.{position}
 use Rattle.amqp_link_receiver.specs.Receivers.{Receiver}
 use Rattle.amqp_link_receiver.specs.Completing.{may_receive, transfer_refusal, entered, spent, reported, unsettled_tag, is_illegal_mode}

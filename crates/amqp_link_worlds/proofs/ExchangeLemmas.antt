@@ -4,7 +4,7 @@ use Rattle.std.proofs.lemmas.List.{append-nil}
 use Rattle.std.specs.Prelude.{option_map, is_none, is_some, unwrap_or}
 use Rattle.std.specs.List.{AllByRecursion, filter_map, cons_option}
 use Rattle.amqp_link_types.specs.Entries.{Tag, Entries, entry_at, IsMap}
-use Rattle.amqp_link_core.specs.Attaching.{States}
+use Rattle.amqp_link_endpoint.specs.Attaching.{States}
 use Rattle.amqp_link_core.specs.Held.{Held, held_bytes}
 use Rattle.amqp_link_core.specs.Resuming.{resolution, row, sender_report, receiver_report, nothing, rest_from}
 use Rattle.amqp_link_payloads.specs.Position.{position, place}

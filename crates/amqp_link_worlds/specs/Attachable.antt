@@ -9,11 +9,11 @@ use Rattle.amqp_link_types.specs.declared.types.terminus.Target.{Target}
 use Rattle.amqp_link_types.specs.declared.types.terminus.TargetArchetype.TheVariants as archetype
 use Rattle.amqp_link_state.specs.declared.state.LinkState.{LinkState}
 use Rattle.amqp_link_state.specs.declared.state.LinkState.TheVariants.{AttachSent, Attached}
-use Rattle.amqp_link_core.specs.AttachFields.{remote_entries}
-use Rattle.amqp_link_core.specs.Attaching.{FitsFrame, with_entries}
-use Rattle.amqp_link_core.specs.LinkStates.{Call, next_state}
-use Rattle.amqp_link_core.specs.Shown.{Shown, attach_stated, counted_attach}
-use Rattle.amqp_link_core.specs.Targets.{plain_target}
+use Rattle.amqp_link_endpoint.specs.AttachFields.{remote_entries}
+use Rattle.amqp_link_endpoint.specs.Attaching.{FitsFrame, with_entries}
+use Rattle.amqp_link_endpoint.specs.LinkStates.{Call, next_state}
+use Rattle.amqp_link_endpoint.specs.Shown.{Shown, attach_stated, counted_attach}
+use Rattle.amqp_link_endpoint.specs.Targets.{plain_target}
 use Rattle.amqp_link_core.specs.declared.resumption.ResumingDelivery.{ResumingDelivery}
 use Rattle.amqp_link_exchange.specs.Exchanges.{deliveries_to_resume}
 use Rattle.amqp_link_verification.specs.Termini.{sender_refuses_target, receiver_refuses_target}

@@ -8,7 +8,7 @@ use Rattle.amqp_link_types.specs.declared.types.definitions.SenderSettleMode.The
 use Rattle.amqp_link_types.specs.declared.types.terminus.Target.{Target}
 use Rattle.amqp_link_core.specs.Held.{Held, held_bytes}
 use Rattle.amqp_link_core.specs.declared.resumption.ResumingDelivery.{ResumingDelivery}
-use Rattle.amqp_link_core.specs.LinkStates.{state_without_session}
+use Rattle.amqp_link_endpoint.specs.LinkStates.{state_without_session}
 use Rattle.amqp_link_state.specs.declared.state.LinkState.TheVariants.{Detached}
 use Rattle.amqp_link_receiver.specs.Receivers.{Receiver}
 use Rattle.amqp_link_sender.specs.Senders.{Sender, next_tag, unsettled_transfer_tests}

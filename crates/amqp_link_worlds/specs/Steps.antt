@@ -27,9 +27,10 @@ use Rattle.amqp_link_types.specs.declared.types.transfer.Transfer.{Transfer}
 use Rattle.amqp_link_state.specs.Counts.{granted, after_consuming}
 use Rattle.amqp_link_state.specs.declared.state.LinkFlowStateInner.{LinkFlowStateInner}
 use Rattle.amqp_link_state.specs.declared.state.LinkState.TheVariants.{Unattached, AttachSent, AttachReceived, Attached, Detached}
-use Rattle.amqp_link_core.specs.Attaching.{with_entries}
+use Rattle.amqp_link_endpoint.specs.Links.{Endpoint}
+use Rattle.amqp_link_endpoint.specs.Attaching.{with_entries}
 use Rattle.amqp_link_core.specs.Held.{Held, held_bytes}
-use Rattle.amqp_link_core.specs.Shown.{counted_attach}
+use Rattle.amqp_link_endpoint.specs.Shown.{counted_attach}
 use Rattle.amqp_link_core.specs.declared.resumption.ResumingDelivery.{ResumingDelivery}
 use Rattle.amqp_link_exchange.specs.Exchanges.{deliveries_to_resume, outcomes_returned}
 use Rattle.amqp_link_split.specs.Room.{payload_limit}
@@ -127,9 +128,9 @@ new_flow count = record {
   properties = None;
 }
 
--- the sender of a new pair: the link "l" at handle 0, with this delivery-count, not attached
-abbrev pub new_sender : ℕ → Sender Target
-new_sender count = record {
+-- an endpoint of a new pair: the link "l" at handle 0, with this delivery-count, not attached
+abbrev pub new_endpoint : {D M : Type 0} → ℕ → D → M → Endpoint Target D M
+new_endpoint count unsettled more = record {
   local_state = Unattached;
   name = codes "l";
   snd_settle_mode = Mixed;
@@ -145,30 +146,15 @@ new_sender count = record {
   max_frame_size = 0;
   verify_incoming_source = false;
   verify_incoming_target = false;
-  unsettled = [];
+  unsettled = unsettled;
+  more = more;
 }
 
--- the receiver of a new pair
+abbrev pub new_sender : ℕ → Sender Target
+new_sender count = new_endpoint count [] tt
+
 abbrev pub new_receiver : ℕ → Receiver Target
-new_receiver count = record {
-  local_state = Unattached;
-  name = codes "l";
-  snd_settle_mode = Mixed;
-  rcv_settle_mode = First;
-  source = Some default_source;
-  target = Some default_target;
-  max_message_size = 0;
-  offered_capabilities = None;
-  desired_capabilities = None;
-  output_handle = Some (record { 0 = 0 });
-  input_handle = None;
-  flow_state = new_flow count;
-  max_frame_size = 0;
-  verify_incoming_source = false;
-  verify_incoming_target = false;
-  unsettled = [];
-  more = false;
-}
+new_receiver count = new_endpoint count [] false
 
 -- a new pair: not attached, and nothing is sent, held or under way
 abbrev pub new_world : ℕ → World

@@ -7,7 +7,7 @@ ghost use Rattle.amqp_link_credit.specs.CreditCalls.{reply_frames};
 ghost use Rattle.amqp_link_credit.specs.Endpoints.{IsFlowWithoutEcho, after_flow};
 
 use crate::queue::Queue;
-use amqp_link_core::endpoint::LinkExt;
+use amqp_link_endpoint::endpoint::LinkExt;
 use amqp_link_receiver::receiver_link::ReceiverLink;
 use amqp_link_sender::sender_link::SenderLink;
 use amqp_link_types::frame::LinkFrame;

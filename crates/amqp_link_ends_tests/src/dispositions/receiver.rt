@@ -2,7 +2,7 @@
 use super::{DispositionFields, Shown, all_fields, error, fields, shown_by_state};
 use crate::assertions::{assert_equal, assert_equal_at};
 use crate::samples::{count_tag, parts};
-use amqp_link_core::endpoint::LinkExt;
+use amqp_link_endpoint::endpoint::LinkExt;
 use amqp_link_receiver::receiver_link::ReceiverLink;
 use amqp_link_types::delivery::DeliveryInfo;
 use amqp_link_types::frame::LinkFrame;

@@ -4,7 +4,7 @@
 use super::receiver::{self, SECOND};
 use super::{DispositionFields, Shown, sender};
 use crate::assertions::assert_equal;
-use amqp_link_core::endpoint::LinkExt;
+use amqp_link_endpoint::endpoint::LinkExt;
 use amqp_link_receiver::receiver_link::ReceiverLink;
 use amqp_link_sender::sender_link::SenderLink;
 use amqp_link_types::delivery::DeliveryInfo;

@@ -2,7 +2,7 @@
 use super::{DispositionFields, Shown, all_fields, error, shown_by, shown_by_state};
 use crate::assertions::{assert_equal, assert_equal_at};
 use crate::samples::{attach_of, count_tag, parts};
-use amqp_link_core::endpoint::{LinkAttach, LinkExt};
+use amqp_link_endpoint::endpoint::{LinkAttach, LinkExt};
 use amqp_link_sender::sender_link::{DispositionAnswer, SenderLink, Waiting};
 use amqp_link_types::delivery::Outcomes;
 use amqp_link_types::frame::LinkFrame;

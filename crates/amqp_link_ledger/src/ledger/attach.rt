@@ -4,15 +4,15 @@
 //! is resolved.
 ghost use Rattle.std.specs.Prelude.{◌≡◌, ◌≢◌, [], IfOk, OnOk, OnErr};
 ghost use Rattle.amqp_link_types.specs.declared.types.attach.Attach.{Attach as TheAttach};
-ghost use Rattle.amqp_link_core.specs.AttachFields.{remote_entries};
+ghost use Rattle.amqp_link_endpoint.specs.AttachFields.{remote_entries};
 ghost use Rattle.amqp_link_exchange.specs.Exchanges.{outcomes_returned};
 ghost use Rattle.amqp_link_sender.specs.SenderAttaches.{exchange_in, IsAttachPlan};
 ghost use Rattle.amqp_link_ledger.specs.Exchanging.{deliveries_in, ledger_taken};
 
 use crate::ledger::OutcomeLedger;
-use amqp_link_core::endpoint::target::LinkTarget;
-use amqp_link_core::endpoint::{LinkAttach, LinkExt};
 use amqp_link_core::resumption::ResumingDelivery;
+use amqp_link_endpoint::endpoint::target::LinkTarget;
+use amqp_link_endpoint::endpoint::{LinkAttach, LinkExt};
 use amqp_link_sender::sender_link::SenderAttachExchange;
 use amqp_link_sender::sender_link::incoming::{
     AttachPlan, commit_incoming_attach, plan_incoming_attach,
@@ -69,7 +69,6 @@ impl<T: LinkTarget> OutcomeLedger<T> {
 
 impl<T: LinkTarget> LinkAttach for OutcomeLedger<T> {
     ghost use Rattle.std.specs.Prelude.{◌≡◌, false, [], refl};
-    ghost use Rattle.amqp_link_types.specs.declared.types.errors.SenderAttachError.TheVariants.{IllegalState, AttachTooLarge, OutOfMemory};
     ghost use Rattle.amqp_link_exchange.specs.Exchanges.{outcomes_returned};
     ghost use Rattle.amqp_link_sender.specs.SenderAttaches.{sender_attached, sender_refusal, sender_left, sender_taking_allocates, exchange_in};
     ghost use Rattle.amqp_link_sender.specs.SenderAttaches.{sender_target_taken, sender_shown_after_refusal};
@@ -84,14 +83,6 @@ impl<T: LinkTarget> LinkAttach for OutcomeLedger<T> {
     ghost emptied = { given_up };
 
     ghost nothing_unsettled = { [] };
-
-    ghost copies = { (t c : T) → T.is_clone t c → c ≡ t };
-
-    ghost illegal_attach = { IllegalState };
-
-    ghost too_large = { AttachTooLarge };
-
-    ghost out_of_memory = { OutOfMemory };
 
     ghost refusal_of = { λ ledger. sender_refusal T.admitted T.refused_by_sender ledger.link };
 
@@ -108,8 +99,6 @@ impl<T: LinkTarget> LinkAttach for OutcomeLedger<T> {
 
     ghost left = { λ error ledger attach.
         record ledger { link = sender_left T.admitted T.refused_by_sender error ledger.link attach } };
-
-    ghost errors_differ = { ((λ h. Prim.cc), (λ h. Prim.cc), (λ h. Prim.cc)) };
 
     ghost shown_after_attach = { λ ledger s. refl };
 

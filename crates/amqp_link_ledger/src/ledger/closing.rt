@@ -5,8 +5,8 @@ ghost use Rattle.amqp_link_dispositions.specs.Ending.{closed_for, all_closed, de
 ghost use Rattle.amqp_link_ledger.specs.Fates.{Change, after};
 
 use crate::ledger::OutcomeLedger;
-use amqp_link_core::endpoint::LinkExt;
-use amqp_link_core::endpoint::target::LinkTarget;
+use amqp_link_endpoint::endpoint::LinkExt;
+use amqp_link_endpoint::endpoint::target::LinkTarget;
 use amqp_link_types::delivery::{DeliveryOutcome, Outcomes, UnsettledMessage};
 use amqp_link_types::types::{DeliveryTag, Detach, Error, LinkRelayError, LinkStateError};
 use indexmap::map::Slice;

@@ -6,7 +6,7 @@ ghost use Rattle.amqp_link_sender.specs.Senders.{IsSent, is_pending, unsettled_t
 ghost use Rattle.amqp_link_ledger.specs.Fates.{Change, after};
 
 use crate::ledger::OutcomeLedger;
-use amqp_link_core::endpoint::target::LinkTarget;
+use amqp_link_endpoint::endpoint::target::LinkTarget;
 use amqp_link_types::delivery::UnsettledMessage;
 use amqp_link_types::frame::LinkFrame;
 use amqp_link_types::types::{DeliveryTag, LinkStateError, Payload, Transfer};

@@ -9,7 +9,7 @@ ghost use Rattle.amqp_link_ledger.specs.Fates.{Change, after};
 
 use crate::ledger::OutcomeLedger;
 use crate::registrations::Registrations;
-use amqp_link_core::endpoint::target::LinkTarget;
+use amqp_link_endpoint::endpoint::target::LinkTarget;
 use amqp_link_sender::sender_link::DispositionAnswer;
 use amqp_link_types::delivery::DeliveryOutcome;
 use amqp_link_types::frame::LinkFrame;

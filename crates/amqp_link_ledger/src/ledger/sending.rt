@@ -1,5 +1,5 @@
 //! Payloads that a ledger sends as new deliveries (2.7.5). An unsettled one makes a registration.
-ghost use Rattle.std.specs.Prelude.{◌≡◌, Ok, Err, Some, IfOk, IfSome, IsSome, IsSomeAnd, IsTrue, OnOk, OnErr, MatchOption};
+ghost use Rattle.std.specs.Prelude.{◌≡◌, Ok, Err, Some, IfOk, IsSome, IsSomeAnd, IsTrue, OnErr, MatchOption};
 ghost use Rattle.amqp_link_split.specs.Fitting.{IsFitting};
 ghost use Rattle.amqp_link_sender.specs.Senders.{SendsOrLacksCredit, SendsTransfer, SendsFitting, SendAnswersThenOutOfMemory, delivery_of, payload_tests, tagged_transfer_tests};
 ghost use Rattle.amqp_link_sender.specs.Waits.{waiting_error, after_waiting};
@@ -9,8 +9,8 @@ ghost use Rattle.amqp_link_sender.specs.declared.sender_link.Sending.TheVariants
 
 use crate::ledger::OutcomeLedger;
 use crate::registrations::{Registrations, Reserved};
-use amqp_link_core::endpoint::LinkExt;
-use amqp_link_core::endpoint::target::LinkTarget;
+use amqp_link_endpoint::endpoint::LinkExt;
+use amqp_link_endpoint::endpoint::target::LinkTarget;
 use amqp_link_sender::sender_link::{SenderLink, Sending, Waiting};
 use amqp_link_types::delivery::Settlement;
 use amqp_link_types::frame::LinkFrame;

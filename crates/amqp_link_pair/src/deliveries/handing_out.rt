@@ -8,8 +8,8 @@ ghost use Rattle.amqp_link_worlds.specs.Callable.{CanComplete};
 ghost use Rattle.amqp_link_pair.specs.HandingOut.{refusal_by, held_in, handing_out_tests, credit_tests, IsGiven, IsGivenAt, IsNotGiven, LeftByKept, LeftByDeliveries};
 
 use crate::deliveries::{Deliveries, Kept};
-use amqp_link_core::endpoint::LinkExt;
 use amqp_link_core::incomplete_transfer::IncompleteTransfer;
+use amqp_link_endpoint::endpoint::LinkExt;
 use amqp_link_receiver::receiver_link::ReceiverLink;
 use amqp_link_types::delivery::Delivery;
 use amqp_link_types::types::{DeliveryTag, FromBody, ReceiverTransferError, Target};

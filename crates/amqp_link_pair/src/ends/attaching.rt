@@ -6,10 +6,10 @@
 ghost use Rattle.std.specs.Prelude.{◌≡◌, ℕ, false, None, Some, IfOk, OnOk, OnErr};
 ghost use Rattle.amqp_link_types.specs.declared.types.definitions.OutputHandle.{OutputHandle as TheHandle};
 ghost use Rattle.amqp_link_state.specs.declared.state.LinkState.{LinkState as TheState};
-ghost use Rattle.amqp_link_core.specs.AttachFields.{remote_entries};
-ghost use Rattle.amqp_link_core.specs.Attaching.{with_entries};
-ghost use Rattle.amqp_link_core.specs.LinkStates.{Call, next_state};
-ghost use Rattle.amqp_link_core.specs.Shown.{attach_stated};
+ghost use Rattle.amqp_link_endpoint.specs.AttachFields.{remote_entries};
+ghost use Rattle.amqp_link_endpoint.specs.Attaching.{with_entries};
+ghost use Rattle.amqp_link_endpoint.specs.LinkStates.{Call, next_state};
+ghost use Rattle.amqp_link_endpoint.specs.Shown.{attach_stated};
 ghost use Rattle.amqp_link_worlds.specs.Attachable.{CanAttach, CanAsk, attach_asked};
 ghost use Rattle.amqp_link_worlds.specs.Steps.{receiver_at_limit, sender_asking};
 ghost use Rattle.amqp_link_worlds.specs.Worlds.{World};
@@ -17,7 +17,7 @@ ghost use Rattle.amqp_link_pair.specs.Endpoints.{IsAttached, HasStopped, MayAtta
 
 use crate::ends::{Ends, Stage};
 use crate::resuming::Resuming;
-use amqp_link_core::endpoint::{LinkAttach, LinkExt};
+use amqp_link_endpoint::endpoint::{LinkAttach, LinkExt};
 use amqp_link_ledger::ledger::OutcomeLedger;
 use amqp_link_receiver::receiver_link::ReceiverLink;
 use amqp_link_types::frame::LinkFrame;
@@ -27,7 +27,7 @@ use std::mem;
 
 // The error of an endpoint that refuses its step only if it is out of memory.
 fn out_of_memory<L: LinkAttach>(error: L::AttachError) -> AllocError
-    requires { error ≡ L.out_of_memory }
+    requires { error ≡ L.AttachError.out_of_memory }
 {
     drop(error);
     AllocError

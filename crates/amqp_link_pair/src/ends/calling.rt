@@ -10,7 +10,7 @@ ghost use Rattle.amqp_link_worlds.specs.Steps.{with_credit};
 ghost use Rattle.amqp_link_pair.specs.Endpoints.{IsFlow, without_session, ledger_without_session};
 
 use crate::ends::{Ends, Stage};
-use amqp_link_core::endpoint::{LinkDetach, LinkExt};
+use amqp_link_endpoint::endpoint::{LinkDetach, LinkExt};
 use amqp_link_receiver::receiver_link::ReceiverLink;
 use amqp_link_types::delivery::DeliveryInfo;
 use amqp_link_types::frame::LinkFrame;

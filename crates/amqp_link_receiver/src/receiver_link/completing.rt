@@ -10,7 +10,7 @@ ghost use Rattle.amqp_link_receiver.specs.Completing.{entered, spent, reported};
 
 use crate::receiver_link::ReceiverLink;
 use crate::receiver_link::deliveries::is_settled;
-use amqp_link_core::endpoint::target::LinkTarget;
+use amqp_link_endpoint::endpoint::target::LinkTarget;
 use amqp_link_state::state::LinkState;
 use amqp_link_types::delivery::{Delivery, DeliveryInfo};
 use amqp_link_types::types::{
@@ -62,10 +62,10 @@ impl<T: LinkTarget> ReceiverLink<T> {
             → (self.new ≡ self.old) × (link_refusal self.old ≡ None)
             × (transfer_refusal self.old transfer.now ≡ None) }
     {
-        if !may_receive(self.local_state) {
+        if !may_receive(self.inner.local_state) {
             return Err(ReceiverTransferError::IllegalState);
         }
-        if self.flow_state.link_credit() == 0 {
+        if self.inner.flow_state.link_credit() == 0 {
             return Err(ReceiverTransferError::TransferLimitExceeded);
         }
         let Ok(completion) = self.complete(transfer, pieces) else {
@@ -100,7 +100,7 @@ impl<T: LinkTarget> ReceiverLink<T> {
             };
             self.keep(tag, state)?;
         }
-        self.flow_state.spend_one();
+        self.inner.flow_state.spend_one();
         Ok(())
     }
 
@@ -162,7 +162,7 @@ impl<T: LinkTarget> ReceiverLink<T> {
                 return Ok(Err(ReceiverTransferError::MessageDecode(refused)));
             }
         };
-        let Some(handle) = self.output_handle else {
+        let Some(handle) = self.inner.output_handle else {
             drop(message);
             drop(info);
             return Ok(Err(ReceiverTransferError::IllegalState));
@@ -190,7 +190,7 @@ impl<T: LinkTarget> ReceiverLink<T> {
             return Err(ReceiverTransferError::DeliveryTagIsNone);
         };
         if !is_settled(transfer)
-            && self.rcv_settle_mode == ReceiverSettleMode::First
+            && self.inner.rcv_settle_mode == ReceiverSettleMode::First
             && transfer.rcv_settle_mode == Some(ReceiverSettleMode::Second)
         {
             return Err(ReceiverTransferError::IllegalRcvSettleModeInTransfer);

@@ -7,7 +7,7 @@ ghost use Rattle.amqp_link_receiver.specs.ReceiverDeliveries.{with_kept_state, a
 ghost use Rattle.amqp_link_receiver.specs.ReceiverDeliveries;
 
 use crate::receiver_link::ReceiverLink;
-use amqp_link_core::endpoint::target::LinkTarget;
+use amqp_link_endpoint::endpoint::target::LinkTarget;
 use amqp_link_types::frame::{LinkFrame, LinkTransfer};
 use amqp_link_types::types::{
     DeliveryNumber, DeliveryState, DeliveryTag, InputHandle, LinkRelayError, Payload,
@@ -62,7 +62,10 @@ impl<T: LinkTarget> ReceiverLink<T> {
         ensures record { IfOk result (λ copied. copied ≡ session_record self.now transfer.now) }
         ensures memory { OnErr result (IsSome (session_record self.now transfer.now)) }
     {
-        if is_settled(transfer) || self.more || self.rcv_settle_mode == ReceiverSettleMode::First {
+        if is_settled(transfer)
+            || self.more
+            || self.inner.rcv_settle_mode == ReceiverSettleMode::First
+        {
             return Ok(None);
         }
         name_of(transfer)

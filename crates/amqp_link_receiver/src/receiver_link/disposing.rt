@@ -11,10 +11,10 @@ ghost use Rattle.amqp_link_dispositions.specs.Listed.{kept_in_order};
 ghost use Rattle.amqp_link_dispositions.specs.DispositionFrames.{CoverGroups};
 
 use crate::receiver_link::ReceiverLink;
-use amqp_link_core::endpoint::target::LinkTarget;
 use amqp_link_dispositions::closing::reply_to;
 use amqp_link_dispositions::receiver;
 use amqp_link_dispositions::receiver::Settling;
+use amqp_link_endpoint::endpoint::target::LinkTarget;
 use amqp_link_types::delivery::DeliveryInfo;
 use amqp_link_types::frame::LinkFrame;
 use amqp_link_types::types::{
@@ -52,7 +52,7 @@ impl<T: LinkTarget> ReceiverLink<T> {
     {
         let how = Settling {
             given: settled,
-            own: self.rcv_settle_mode,
+            own: self.inner.rcv_settle_mode,
             batchable,
         };
         Ok(receiver::dispose(&mut self.unsettled, delivery_info, how, state)?)
@@ -83,7 +83,7 @@ impl<T: LinkTarget> ReceiverLink<T> {
     {
         let how = Settling {
             given: settled,
-            own: self.rcv_settle_mode,
+            own: self.inner.rcv_settle_mode,
             batchable,
         };
         let unsettled = &mut self.unsettled;
@@ -135,7 +135,7 @@ impl<T: LinkTarget> ReceiverLink<T> {
         if !remote_initiated {
             return Ok(None);
         }
-        let Some(handle) = self.output_handle else {
+        let Some(handle) = self.inner.output_handle else {
             return Err(LinkRelayError::UnattachedHandle);
         };
         Ok(Some(reply_to(detach, handle)?))

@@ -5,7 +5,7 @@ ghost use Rattle.amqp_link_state.specs.Counts.{receiver_after, receiver_reply};
 ghost use Rattle.amqp_link_state.specs.Counts.{with_stated, stated_flow};
 
 use crate::receiver_link::ReceiverLink;
-use amqp_link_core::endpoint::target::LinkTarget;
+use amqp_link_endpoint::endpoint::target::LinkTarget;
 use amqp_link_types::frame::LinkFrame;
 use amqp_link_types::types::{FlowError, LinkFlow, LinkRelayError};
 
@@ -32,10 +32,10 @@ impl<T: LinkTarget> ReceiverLink<T> {
             → (include_properties ≡ true) × (is_some self.old.flow_state.properties ≡ true) }
         ensures left { OnErr result (self.new ≡ self.old) }
     {
-        let Some(handle) = self.output_handle else {
+        let Some(handle) = self.inner.output_handle else {
             return Err(FlowError::IllegalState);
         };
-        let state = &mut self.flow_state;
+        let state = &mut self.inner.flow_state;
         let flow = state.state_flow(credit, drain, handle, echo, include_properties)?;
         Ok(LinkFrame::Flow(flow))
     }
@@ -55,11 +55,11 @@ impl<T: LinkTarget> ReceiverLink<T> {
             ≡ record self.old { flow_state = receiver_after flow self.old.flow_state }) }
         ensures left { OnErr result (self.new ≡ self.old) }
     {
-        let Some(handle) = self.output_handle else {
+        let Some(handle) = self.inner.output_handle else {
             drop(flow);
             return Err(LinkRelayError::UnattachedHandle);
         };
-        let reply = self.flow_state.on_incoming_flow(&flow, handle);
+        let reply = self.inner.flow_state.on_incoming_flow(&flow, handle);
         drop(flow);
         Ok(reply)
     }

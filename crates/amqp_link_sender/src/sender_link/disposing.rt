@@ -10,9 +10,9 @@ ghost use Rattle.amqp_link_sender.specs.Senders.{settles};
 ghost use Rattle.amqp_link_sender.specs.SenderDisposes.{Dispositions, ended_at, after_disposing, is_echoed};
 
 use crate::sender_link::{DispositionAnswer, SenderLink};
-use amqp_link_core::endpoint::target::LinkTarget;
 use amqp_link_dispositions::closing::{all_closed, reply_to};
 use amqp_link_dispositions::sender;
+use amqp_link_endpoint::endpoint::target::LinkTarget;
 use amqp_link_types::delivery::Outcomes;
 use amqp_link_types::frame::LinkFrame;
 use amqp_link_types::types::{
@@ -110,7 +110,7 @@ impl<T: LinkTarget> SenderLink<T> {
         ensures frames { IfSome result (λ answer. answer.0.items ≡ []) }
         ensures outcomes { IfSome result (λ answer. answer.1.items ≡ []) }
     {
-        match self.snd_settle_mode {
+        match self.inner.snd_settle_mode {
             SenderSettleMode::Settled => Some((Vec::new(self.alloc), Vec::new(self.alloc))),
             _ => None,
         }
@@ -135,7 +135,7 @@ impl<T: LinkTarget> SenderLink<T> {
           unsettled = map_after_receiver_disposition settled state delivery_tag.now self.old.unsettled;
         } }
     {
-        let is_second = matches!(self.rcv_settle_mode, ReceiverSettleMode::Second);
+        let is_second = matches!(self.inner.rcv_settle_mode, ReceiverSettleMode::Second);
         let unsettled = &mut self.unsettled;
         let outcome = sender::on_incoming_disposition(unsettled, settled, state, delivery_tag);
         DispositionAnswer {
@@ -196,7 +196,7 @@ impl<T: LinkTarget> SenderLink<T> {
         if !remote_initiated {
             return Ok((None, Vec::new(self.alloc)));
         }
-        let Some(handle) = self.output_handle else {
+        let Some(handle) = self.inner.output_handle else {
             return Err(LinkRelayError::UnattachedHandle);
         };
         let reply = reply_to(detach, handle)?;

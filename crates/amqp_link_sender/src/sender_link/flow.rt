@@ -3,7 +3,7 @@ ghost use Rattle.std.specs.Prelude.{◌≡◌, ◌+◌, ◌%◌, ◌^◌, Ok, Er
 ghost use Rattle.amqp_link_state.specs.Counts.{count_limit, credit_after, sender_after, sender_reply};
 
 use crate::sender_link::SenderLink;
-use amqp_link_core::endpoint::target::LinkTarget;
+use amqp_link_endpoint::endpoint::target::LinkTarget;
 use amqp_link_types::frame::LinkFrame;
 use amqp_link_types::types::{
     DeliveryNumber, DeliveryTag, LinkFlow, LinkRelayError, Payload, Transfer,
@@ -32,11 +32,11 @@ impl<T: LinkTarget> SenderLink<T> {
             (self.old.flow_state.delivery_count + credit_after flow self.old.flow_state) % 2 ^ 32) }
         ensures left { OnErr result (self.new ≡ self.old) }
     {
-        let Some(handle) = self.output_handle else {
+        let Some(handle) = self.inner.output_handle else {
             drop(flow);
             return Err(LinkRelayError::UnattachedHandle);
         };
-        let answer = self.flow_state.on_incoming_flow(&flow, handle);
+        let answer = self.inner.flow_state.on_incoming_flow(&flow, handle);
         drop(flow);
         Ok(answer)
     }

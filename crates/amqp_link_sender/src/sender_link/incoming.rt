@@ -5,27 +5,28 @@
 ghost use Rattle.std.specs.Prelude.{◌≡◌, ◌⊎◌, ◌||◌, not, true, None, Some, Ok, Err, IfOk, IfErr, OnOk, OnErr, IsErrOf, IsErrAnd, IfNone, MatchOption, MatchResult, [], unwrap_or, if◌then◌else◌};
 ghost use Rattle.std.specs.Option.{option_or};
 ghost use Rattle.amqp_link_types.specs.declared.types.attach.Attach.{Attach as TheAttach};
-ghost use Rattle.amqp_link_core.specs.AttachFields.{remote_entries, merged_properties, merging_allocates, next_of};
+ghost use Rattle.amqp_link_endpoint.specs.AttachFields.{remote_entries, merged_properties, merging_allocates, next_of};
 ghost use Rattle.amqp_link_exchange.specs.Exchanges.{outcomes_returned};
 ghost use Rattle.amqp_link_exchange.specs.Plans.{IsPlanOf};
 ghost use Rattle.amqp_link_sender.specs.SenderAttaches.{is_nothing, resumption_in, exchange_in};
 ghost use Rattle.amqp_link_sender.specs.SenderAttaches;
-ghost use Rattle.amqp_link_core.specs.AttachTests.{verified};
-ghost use Rattle.amqp_link_core.specs.Targets.{target_of};
+ghost use Rattle.amqp_link_endpoint.specs.AttachTests.{verified};
+ghost use Rattle.amqp_link_endpoint.specs.Targets.{target_of};
 ghost use Rattle.amqp_link_verification.specs.Termini.{verdict};
 ghost use Rattle.amqp_link_sender.specs.SenderAttaches.{sender_source_verdict, sender_termini_refusal, sender_refusal, sender_taken, sender_left, sender_taking_allocates, IsAttachPlan};
 
 use crate::sender_link::SenderLink;
-use amqp_link_core::endpoint::attached::{get_max_message_size, merged_with};
-use amqp_link_core::endpoint::table::after_incoming_attach;
-use amqp_link_core::endpoint::target::LinkTarget;
+use amqp_link_endpoint::endpoint::attached::{get_max_message_size, merged_with};
+use amqp_link_endpoint::endpoint::incoming::read;
+use amqp_link_endpoint::endpoint::table::after_incoming_attach;
+use amqp_link_endpoint::endpoint::target::LinkTarget;
 use amqp_link_exchange::{ExchangePlan, ResumingDeliveries, exchange, plan_exchange};
 use amqp_link_state::state::LinkState;
 use amqp_link_types::delivery::{Outcomes, UnsettledMessage};
 use amqp_link_types::types::unsettled_map::UnsettledMap;
 use amqp_link_types::types::{
-    Attach, DeliveryState, Fields, Handle, InputHandle, ReceiverSettleMode, SenderAttachError,
-    SenderSettleMode, Source, TargetArchetype,
+    Attach, DeliveryState, Fields, Handle, ReceiverSettleMode, SenderAttachError, SenderSettleMode,
+    Source, TargetArchetype,
 };
 use amqp_link_verification::VerifySource;
 use std::alloc::{AllocError, Global};
@@ -118,62 +119,6 @@ pub fn commit_incoming_attach<T: LinkTarget>(
     link.take_remote_attach(plan)
 }
 
-// What a sender reads of an attach that arrives.
-#[derive(Drop)]
-struct Incoming {
-    handle: Handle,
-    snd_settle_mode: SenderSettleMode,
-    rcv_settle_mode: ReceiverSettleMode,
-    source: Option<Source>,
-    target: Option<TargetArchetype>,
-    incomplete: bool,
-    unsettled: Option<UnsettledMap<Option<DeliveryState>>>,
-    max_message_size: Option<u64>,
-    properties: Option<Fields>,
-}
-
-fn read(attach: Attach) -> Incoming
-    ensures { result ≡ record {
-      handle = attach.handle;
-      snd_settle_mode = attach.snd_settle_mode;
-      rcv_settle_mode = attach.rcv_settle_mode;
-      source = attach.source;
-      target = attach.target;
-      incomplete = attach.incomplete_unsettled;
-      unsettled = attach.unsettled;
-      max_message_size = attach.max_message_size;
-      properties = attach.properties;
-    } }
-{
-    let Attach {
-        name,
-        handle,
-        snd_settle_mode,
-        rcv_settle_mode,
-        source,
-        target,
-        unsettled,
-        incomplete_unsettled,
-        max_message_size,
-        offered_capabilities,
-        desired_capabilities,
-        properties,
-        ..
-    } = attach;
-    drop((name, offered_capabilities, desired_capabilities));
-    Incoming {
-        handle,
-        snd_settle_mode,
-        rcv_settle_mode,
-        source,
-        target,
-        incomplete: incomplete_unsettled,
-        unsettled,
-        max_message_size,
-        properties,
-    }
-}
-
 // Whether one endpoint settles what the other leaves unsettled.
 fn disagree(own: SenderSettleMode, theirs: SenderSettleMode) -> bool
     ensures { result ≡ SenderAttaches.disagree own theirs }
@@ -186,32 +131,11 @@ fn disagree(own: SenderSettleMode, theirs: SenderSettleMode) -> bool
 }
 
 impl<T: LinkTarget> SenderLink<T> {
-    // Records that an attach has moved the link, and the peer's handle.
-    fn record_remote_attach(&mut self, handle: Handle, next: LinkState)
-        ensures { self.new ≡ record self.old { local_state = next; input_handle = Some (record { 0 = handle.0 }) } }
-    {
-        self.local_state = next;
-        self.input_handle = Some(InputHandle(handle.0));
-    }
-
     fn take_target(&mut self, target: T, mode: ReceiverSettleMode)
         ensures { self.new ≡ record self.old { target = Some target; rcv_settle_mode = mode } }
     {
-        self.target = Some(target);
-        self.rcv_settle_mode = mode;
-    }
-
-    // Replaces the link's properties, if there are new ones.
-    fn take_properties(&mut self, properties: Option<Fields>)
-        ensures { self.new ≡ record self.old {
-          flow_state = record self.old.flow_state {
-            properties = option_or properties self.old.flow_state.properties;
-          };
-        } }
-    {
-        if let Some(properties) = properties {
-            drop(self.flow_state.properties_mut().replace(properties));
-        }
+        self.inner.target = Some(target);
+        self.inner.rcv_settle_mode = mode;
     }
 
     // Verifies the peer's source beside the link's own, if the link verifies sources.
@@ -220,10 +144,10 @@ impl<T: LinkTarget> SenderLink<T> {
             (λ _. sender_source_verdict self.now source.now ≡ None)
             (λ error. sender_source_verdict self.now source.now ≡ Some error) }
     {
-        if !self.verify_incoming_source {
+        if !self.inner.verify_incoming_source {
             return Ok(());
         }
-        match (&self.source, source) {
+        match (&self.inner.source, source) {
             (Some(own), Some(theirs)) => own.verify_as_sender(theirs),
             _ => Ok(()),
         }
@@ -235,10 +159,10 @@ impl<T: LinkTarget> SenderLink<T> {
             T.refused_by_sender self.now.target (Some theirs.now)) }
         ensures memory { IsErrOf result SenderAttachError.OutOfMemory → ⊥ }
     {
-        if !self.verify_incoming_target {
+        if !self.inner.verify_incoming_target {
             return Ok(());
         }
-        match &self.target {
+        match &self.inner.target {
             Some(own) => own.verify_as_sender(theirs),
             None => Ok(()),
         }
@@ -293,46 +217,39 @@ impl<T: LinkTarget> SenderLink<T> {
             ⊎ (self.new.local_state ≡ next))) }
         ensures same { IfNone (next_of self.old.local_state attach) (self.new ≡ self.old) }
     {
-        let Incoming {
-            handle,
-            snd_settle_mode,
-            rcv_settle_mode,
-            source,
-            target,
-            incomplete,
-            unsettled,
-            max_message_size,
-            properties,
-        } = read(attach);
-        let Some(next) = after_incoming_attach(self.local_state, incomplete) else {
-            drop((source, target, unsettled, properties));
+        let came = read(attach);
+        let Some(next) = after_incoming_attach(self.inner.local_state, came.incomplete_unsettled)
+        else {
+            drop(came);
             return Err(SenderAttachError::IllegalState);
         };
-        let target = match self.target_to_take(source, target) {
+        let target = match self.target_to_take(came.source, came.target) {
             Ok(target) => target,
             Err(refused) => {
-                self.record_remote_attach(handle, next);
-                drop((unsettled, properties));
+                self.inner.record_remote_attach(came.handle, next);
+                drop((came.unsettled, came.properties));
                 return Err(refused);
             }
         };
-        if disagree(self.snd_settle_mode, snd_settle_mode) {
-            self.record_remote_attach(handle, next);
-            self.take_target(target, rcv_settle_mode);
-            drop((unsettled, properties));
+        if disagree(self.inner.snd_settle_mode, came.snd_settle_mode) {
+            self.inner.record_remote_attach(came.handle, next);
+            self.take_target(target, came.rcv_settle_mode);
+            drop((came.unsettled, came.properties));
             let refused = SenderAttachError::SndSettleModeNotSupported;
             return Err(refused);
         }
-        let Ok((is_nothing, exchange, properties)) = self.plan_rest(unsettled, properties) else {
+        let rest = self.plan_rest(came.unsettled, came.properties);
+        let Ok((is_nothing, exchange, properties)) = rest else {
             drop(target);
             return Err(SenderAttachError::OutOfMemory);
         };
+        let limit = get_max_message_size(self.inner.max_message_size, came.max_message_size);
         Ok(AttachPlan {
             next,
-            handle,
+            handle: came.handle,
             target,
-            rcv_settle_mode,
-            max_message_size: get_max_message_size(self.max_message_size, max_message_size),
+            rcv_settle_mode: came.rcv_settle_mode,
+            max_message_size: limit,
             properties,
             is_nothing,
             exchange,
@@ -355,7 +272,7 @@ impl<T: LinkTarget> SenderLink<T> {
     {
         let remote = entries_of(self.alloc, unsettled);
         let is_nothing = are_empty(&self.unsettled, &remote);
-        let properties = match merged_with(self.flow_state.properties(), properties) {
+        let properties = match merged_with(self.inner.flow_state.properties(), properties) {
             Ok(properties) => properties,
             Err(refused) => {
                 drop(remote);
@@ -394,10 +311,10 @@ impl<T: LinkTarget> SenderLink<T> {
             is_nothing,
             exchange: planned,
         } = plan;
-        self.record_remote_attach(handle, next);
+        self.inner.record_remote_attach(handle, next);
         self.take_target(target, rcv_settle_mode);
-        self.take_properties(properties);
-        self.max_message_size = max_message_size;
+        self.inner.take_properties(properties);
+        self.inner.max_message_size = max_message_size;
         let (list, outcomes) = exchange(self.unsettled.take_all(), planned);
         (exchange_of(next, is_nothing, list), outcomes)
     }

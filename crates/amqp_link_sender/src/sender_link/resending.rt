@@ -8,7 +8,7 @@ ghost use Rattle.amqp_link_sender.specs.Senders.{delivery_of, resuming_transfer,
 ghost use Rattle.amqp_link_sender.specs.Senders.{is_pending, unsettled_transfer_tests, HandsBackThenOutOfMemory};
 
 use crate::sender_link::SenderLink;
-use amqp_link_core::endpoint::target::LinkTarget;
+use amqp_link_endpoint::endpoint::target::LinkTarget;
 use amqp_link_split::room::payload_limit;
 use amqp_link_split::split::frames;
 use amqp_link_types::delivery::UnsettledMessage;
@@ -33,7 +33,7 @@ impl<T: LinkTarget> SenderLink<T> {
             (λ handle. result ≡ Ok (resuming_transfer self.now handle delivery_tag
             (delivery_of message_format None state batchable))) }
     {
-        let Some(handle) = self.output_handle else {
+        let Some(handle) = self.inner.output_handle else {
             drop((delivery_tag, state));
             return Err(LinkStateError::IllegalState);
         };
@@ -165,13 +165,13 @@ impl<T: LinkTarget> SenderLink<T> {
             (unsettled_transfer_tests self.now transfer.old tag.now rest.now) }
         ensures same { transfer.new ≡ transfer.old }
     {
-        let Some(input_handle) = self.input_handle else {
+        let Some(input_handle) = self.inner.input_handle else {
             return Err(LinkStateError::IllegalState);
         };
         if self.unsettled.contains(tag) {
             return Err(LinkStateError::TagPending);
         }
-        match payload_limit(transfer, self.max_frame_size, rest) {
+        match payload_limit(transfer, self.inner.max_frame_size, rest) {
             Some(limit) => Ok((input_handle, limit)),
             None => Err(LinkStateError::NoRoom),
         }

@@ -4,8 +4,8 @@ ghost use Rattle.amqp_link_sender.specs.Waits.{waiting_error, after_waiting, fra
 ghost use Rattle.amqp_link_sender.specs.Waits.{detach_error, after_detach, recorded_error};
 
 use crate::sender_link::{SenderLink, Waiting};
-use amqp_link_core::endpoint::LinkDetach;
-use amqp_link_core::endpoint::target::LinkTarget;
+use amqp_link_endpoint::endpoint::LinkDetach;
+use amqp_link_endpoint::endpoint::target::LinkTarget;
 use amqp_link_types::frame::LinkFrame;
 use amqp_link_types::types::{ApplyRemoteDetachError, Detach, LinkStateError, SessionStopReason};
 

@@ -1,4 +1,4 @@
-use Rattle.amqp_link_core.specs.AttachFields.{next_of}
+use Rattle.amqp_link_endpoint.specs.AttachFields.{next_of}
 use Rattle.amqp_link_ends_tests.proofs.GenericLemmas.{stays_or_moves}
 use Rattle.amqp_link_ends_tests.proofs.generic.take.Goals as goal
 
@@ -6,7 +6,7 @@ pub returns-in-Err-clause-refused : goal.returns-in-Err-clause-refused
 returns-in-Err-clause-refused g c =
     let old = c.args.link.now in
     let now = c.on_incoming_attach.new.self in
-    stays_or_moves g.L.LinkAttach.illegal_attach g.L.LinkAttach.out_of_memory c.in-Err.refused old now
+    stays_or_moves g.L.AttachError.AttachFailure.illegal_state g.L.AttachError.AttachFailure.out_of_memory c.in-Err.refused old now
     (λ error. g.L.LinkAttach.left error old c.args.attach)
     (g.L.LinkDetach.shown now).local_state
     (next_of (g.L.LinkDetach.shown old).local_state c.args.attach)

@@ -1,6 +1,6 @@
 use Rattle.std.proofs.Common.{◌≡◌, ◌∙◌, [], None, sym, subst, arith}
 use Rattle.std.proofs.lemmas.Grind.{common_steps}
-use Rattle.amqp_link_core.specs.Attaching.{States}
+use Rattle.amqp_link_endpoint.specs.Attaching.{States}
 use Rattle.amqp_link_exchange.specs.Plans.{IsStepFor, IsProgress}
 use Rattle.amqp_link_exchange.proofs.PlanLemmas.{Pairwise-length, progress-begin, progress-end}
 use Rattle.amqp_link_exchange.proofs.planning.plan_each.Goals as goal

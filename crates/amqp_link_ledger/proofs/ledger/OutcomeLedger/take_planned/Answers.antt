@@ -1,5 +1,5 @@
 use Rattle.std.proofs.Common.{◌∙◌, ap, sym, subst}
-use Rattle.amqp_link_core.specs.AttachFields.{remote_entries}
+use Rattle.amqp_link_endpoint.specs.AttachFields.{remote_entries}
 use Rattle.amqp_link_exchange.specs.Exchanges.{deliveries_to_resume}
 use Rattle.amqp_link_sender.specs.SenderAttaches.{IsAttachPlan}
 use Rattle.amqp_link_ledger.specs.Exchanging.{deliveries_in}

@@ -1,5 +1,5 @@
 use Rattle.std.proofs.Common.{rules, ◌≡◌, ap, Some, Err}
-use Rattle.amqp_link_core.specs.AttachFields.{next_of}
+use Rattle.amqp_link_endpoint.specs.AttachFields.{next_of}
 use Rattle.amqp_link_types.specs.declared.types.errors.ReceiverAttachError.TheVariants.{OutOfMemory}
 use Rattle.amqp_link_receiver.proofs.AttachLemmas.{refused_by_list}
 use Rattle.amqp_link_receiver.proofs.receiver_link.attach.ReceiverLinkLinkAttach.on_incoming_attach.Goals as goal

@@ -1,0 +1,10 @@
+pub mod AttachFields
+pub mod AttachSent
+pub mod AttachTests
+pub mod Attaching
+pub mod Detaching
+pub mod Failing
+pub mod LinkStates
+pub mod Links
+pub mod Shown
+pub mod Targets
