@@ -71,9 +71,9 @@ decided_by_receiver role.Receiver own theirs = own
 
 -- what an exchange leaves of the unsettled deliveries: nothing at a sender, whose deliveries it resolves; a
 -- receiver's stay
-abbrev pub after_exchange : {A : Type 0} → Role → A → A → A
-after_exchange role.Sender own nothing = nothing
-after_exchange role.Receiver own nothing = own
+abbrev pub after_exchange : {A : Type 0} → Role → List A → List A
+after_exchange role.Sender own = []
+after_exchange role.Receiver own = own
 
 -- the outcomes of a sender's deliveries if the link is reattached
 abbrev pub all_illegal : Entries UnsettledMessage → List Ended
@@ -147,11 +147,24 @@ module _ {D : Type 0} where
     flow_state = record s.flow_state { initial_delivery_count = count_stated s };
   }
 
+  -- the first record with the state, the input handle, the settle modes and the termini of the second: what a
+  -- refused attach may change
+  abbrev pub with_terms_of : Shown D → Shown D → Shown D
+  with_terms_of s t = record s {
+    local_state = t.local_state;
+    input_handle = t.input_handle;
+    snd_settle_mode = t.snd_settle_mode;
+    rcv_settle_mode = t.rcv_settle_mode;
+    source = t.source;
+    target = t.target;
+  }
+
+module _ {V : Type 0} where
   -- The endpoint after it has taken an attach, with this target: the sender decides its settle mode, the
   -- source and the delivery-counts, the receiver its settle mode and the target. The exchange resolves a
-  -- sender's deliveries; the first parameter is what an endpoint keeps that has none.
-  abbrev pub shown_taken : D → Shown D → Option TargetArchetype → Attach → Shown D
-  shown_taken nothing s target attach = record s {
+  -- sender's deliveries.
+  abbrev pub shown_taken : Shown (Entries V) → Option TargetArchetype → Attach → Shown (Entries V)
+  shown_taken s target attach = record s {
     local_state = unwrap_or (next_of s.local_state attach) s.local_state;
     input_handle = if is_some (next_of s.local_state attach) then Some (record { 0 = attach.handle.0 }) else s.input_handle;
     snd_settle_mode = decided_by_sender s.role s.snd_settle_mode attach.snd_settle_mode;
@@ -164,19 +177,7 @@ module _ {D : Type 0} where
       delivery_count = decided_by_sender s.role s.flow_state.delivery_count (unwrap_or attach.initial_delivery_count 0);
       properties = merged_properties s.flow_state.properties attach.properties;
     };
-    unsettled = after_exchange s.role s.unsettled nothing;
-    entries = after_exchange s.role s.entries [];
-    ended = after_exchange s.role s.ended [];
-  }
-
-  -- the first record with the state, the input handle, the settle modes and the termini of the second: what a
-  -- refused attach may change
-  abbrev pub with_terms_of : Shown D → Shown D → Shown D
-  with_terms_of s t = record s {
-    local_state = t.local_state;
-    input_handle = t.input_handle;
-    snd_settle_mode = t.snd_settle_mode;
-    rcv_settle_mode = t.rcv_settle_mode;
-    source = t.source;
-    target = t.target;
+    unsettled = after_exchange s.role s.unsettled;
+    entries = after_exchange s.role s.entries;
+    ended = after_exchange s.role s.ended;
   }

@@ -31,7 +31,6 @@ pub mod dividing;
 pub mod either;
 pub mod failing;
 pub mod incoming;
-pub mod steps;
 pub mod table;
 pub mod target;
 
@@ -159,10 +158,8 @@ pub trait LinkAttach: LinkDetach {
     // The endpoint after it has sent its attach: in this state, and at the delivery-count that it has stated.
     ghost attached: { Self → TheState → Self };
 
-    // The endpoint without its unsettled deliveries, and what it keeps if there are none.
+    // The endpoint without its unsettled deliveries.
     ghost emptied: { Self → Self };
-
-    ghost nothing_unsettled: { Entries Self.Entry };
 
     /// The attach to send, with all unsettled deliveries, or with the first half of them, the first quarter,
     /// and so on, until it fits a frame; it is marked incomplete if it does not have all. An endpoint that is
@@ -263,11 +260,10 @@ pub trait LinkAttach: LinkDetach {
         → Self.shown (attached l s) ≡ shown_attached (Self.shown l) s };
 
     ghost shown_emptied: { (l : Self) → Self.shown (emptied l)
-        ≡ record (Self.shown l) { unsettled = nothing_unsettled; entries = []; ended = [] } };
+        ≡ record (Self.shown l) { unsettled = []; entries = []; ended = [] } };
 
     ghost shown_after_taking: { (l : Self) (a : TheAttach)
-        → Self.shown (taken l a)
-        ≡ shown_taken nothing_unsettled (Self.shown l) (target_taken l a) a };
+        → Self.shown (taken l a) ≡ shown_taken (Self.shown l) (target_taken l a) a };
 
     ghost shown_after_refusal: { (e : Self.AttachError) (l : Self) (a : TheAttach)
         → Self.shown (left e l a) ≡ with_terms_of (Self.shown l) (Self.shown (left e l a)) };
@@ -275,11 +271,8 @@ pub trait LinkAttach: LinkDetach {
     ghost left_by_memory: { (l : Self) (a : TheAttach) → left Self.AttachError.out_of_memory l a ≡ l };
 }
 
-/// A link endpoint that can be attached and detached.
-pub trait Link: LinkAttach + LinkDetach {}
-
 /// What a link endpoint shows. Nothing here allocates, but the text of an error that is sent.
-pub trait LinkExt: Link {
+pub trait LinkExt: LinkDetach {
     /// The role of the endpoint, by which its flow state is marked.
     type Marker;
 
@@ -372,7 +365,7 @@ pub trait LinkExt: Link {
             (unwrap_or (Self.shown self.now).output_handle (record { 0 = 0 })))
             (Self.shown self.now).entries 0) max_frame_size) };
 
-    /// What to do after the attach of this link has failed with `error`: a refusal by one of the link's own
+    /// What to do after an attach of this link has failed with `error`: a refusal by one of the link's own
     /// calls, or the session's name for what arrived in place of the peer's attach. Returns the error with an
     /// action: the caller sends the detach, or ends the session with that error.
     ///
@@ -390,17 +383,14 @@ pub trait LinkExt: Link {
     /// `IllegalState` and the action is `Nothing`; so a second call closes nothing.
     ///
     /// Allocates only the text of an error that is sent. If it is out of memory, nothing has changed.
-    fn handle_attach_error(
-        &mut self,
-        error: Self::AttachError,
-    ) -> Result<(Self::AttachError, Action), AllocError>
-        ensures answer { IfOk result (λ given. given ≡ handled error Self.AttachError.illegal_state
-            (Self.AttachError.remedy error) (Self.shown self.old).local_state (Self.shown self.old).output_handle) }
-        ensures after { OnOk result (MatchOption (state_after (Self.AttachError.remedy error) (Self.shown self.old).local_state)
+    fn handle_attach_error<E: AttachFailure>(&mut self, error: E) -> Result<(E, Action), AllocError>
+        ensures answer { IfOk result (λ given. given ≡ handled error E.illegal_state
+            (E.remedy error) (Self.shown self.old).local_state (Self.shown self.old).output_handle) }
+        ensures after { OnOk result (MatchOption (state_after (E.remedy error) (Self.shown self.old).local_state)
             (self.new ≡ self.old)
             (λ next. self.new ≡ Self.moved self.old next None)) }
         ensures left { OnErr result (self.new ≡ self.old) }
-        ensures memory { OnErr result (is_some (error_sent (Self.AttachError.remedy error)
+        ensures memory { OnErr result (is_some (error_sent (E.remedy error)
             (Self.shown self.old).local_state (Self.shown self.old).output_handle) ≡ true) };
 
     // Other properties replace those of the flow state.
@@ -413,3 +403,8 @@ pub trait LinkExt: Link {
     ghost shown_with_frame_limit: { (l : Self) (n : ℕ)
         → Self.shown (with_frame_limit l n) ≡ record (Self.shown l) { max_frame_size = n } };
 }
+
+/// A link endpoint with all calls that both roles have.
+pub trait Link: LinkAttach + LinkExt {}
+
+impl<L: LinkAttach + LinkExt> Link for L {}

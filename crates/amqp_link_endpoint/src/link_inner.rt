@@ -11,7 +11,6 @@ ghost use Rattle.amqp_link_state.specs.declared.state.LinkState.{LinkState as Th
 use crate::endpoint::attached::{name_and_properties_of, sent_limit, termini_of};
 use crate::endpoint::dividing::{attach_frame, divided, fits_whole};
 use crate::endpoint::failing::AttachFailure;
-use crate::endpoint::steps::{handle_or_zero, step_of};
 use crate::endpoint::table::{after_lost_session, after_sent_attach};
 use crate::endpoint::target::LinkTarget;
 use crate::link_parts::LinkParts;
@@ -68,6 +67,22 @@ pub struct LinkInner<R, T: Drop> {
 struct AttachStep {
     handle: OutputHandle,
     states: (LinkState, LinkState),
+}
+
+// The output handle, or 0 if there is none (2.6.2).
+fn handle_or_zero(handle: Option<OutputHandle>) -> OutputHandle
+    ensures { result ≡ unwrap_or handle (record { 0 = 0 }) }
+{
+    handle.unwrap_or(OutputHandle(0))
+}
+
+// The state after an attach that is sent, of those after a complete one and after an incomplete one (2.7.3).
+fn step_of(incomplete: bool, steps: (LinkState, LinkState)) -> LinkState
+    ensures { (state : TheState) → next_state Call.SendAttach false state ≡ Some steps.0
+        → next_state Call.SendAttach true state ≡ Some steps.1
+        → next_state Call.SendAttach incomplete state ≡ Some result }
+{
+    if incomplete { steps.1 } else { steps.0 }
 }
 
 // The unsettled deliveries that an attach states: none if the link is reattached.

@@ -33,20 +33,19 @@ pub record Keeps {D : Type 0} (old new : Shown D) : Type 0 where
   pub unsettled : new.unsettled ≡ old.unsettled
   pub entries : new.entries ≡ old.entries
 
--- the endpoint keeps its name, its role and its frame limit, and none of its deliveries: it shows what an
--- endpoint without any does
-pub record GivesUp {D : Type 0} (nothing : D) (old new : Shown D) : Type 0 where
+-- the endpoint keeps its name, its role and its frame limit, and none of its deliveries
+pub record GivesUp {V : Type 0} (old new : Shown (Entries V)) : Type 0 where
   pub name : new.name ≡ old.name
   pub role : new.role ≡ old.role
   pub frame_limit : new.max_frame_size ≡ old.max_frame_size
-  pub unsettled : new.unsettled ≡ nothing
+  pub unsettled : new.unsettled ≡ []
   pub entries : new.entries ≡ []
 
 -- the endpoint has taken an attach: it keeps its name, its role and its frame limit; a sender's deliveries
 -- are resolved, a receiver's stay
-pub record Takes {D : Type 0} (nothing : D) (old new : Shown D) : Type 0 where
+pub record Takes {V : Type 0} (old new : Shown (Entries V)) : Type 0 where
   pub name : new.name ≡ old.name
   pub role : new.role ≡ old.role
   pub frame_limit : new.max_frame_size ≡ old.max_frame_size
-  pub unsettled : new.unsettled ≡ after_exchange old.role old.unsettled nothing
-  pub entries : new.entries ≡ after_exchange old.role old.entries []
+  pub unsettled : new.unsettled ≡ after_exchange old.role old.unsettled
+  pub entries : new.entries ≡ after_exchange old.role old.entries

@@ -9,7 +9,7 @@ ghost use Rattle.amqp_link_ends_tests.specs.Stated.{IsStatedBy, Keeps, GivesUp, 
 
 use crate::assertions::assert_equal;
 use crate::samples::{coming, parts};
-use amqp_link_endpoint::endpoint::{LinkAttach, LinkDetach, LinkExt};
+use amqp_link_endpoint::endpoint::{Link, LinkAttach, LinkDetach, LinkExt};
 use amqp_link_receiver::receiver_link::ReceiverLink;
 use amqp_link_sender::sender_link::SenderLink;
 use amqp_link_state::state::LinkState;
@@ -50,7 +50,7 @@ fn send_anew<L: LinkAttach>(link: &mut L) -> Result<(LinkFrame, Outcomes), L::At
         ≡ Some (L.shown link.new).local_state)) }
     ensures ended { IfOk result (λ sent. sent.1.items ≡ (L.shown link.old).ended) }
     ensures handle { OnOk result ((L.shown link.new).output_handle ≡ (L.shown link.old).output_handle) }
-    ensures given_up { OnOk result (GivesUp L.nothing_unsettled (L.shown link.old) (L.shown link.new)) }
+    ensures given_up { OnOk result (GivesUp (L.shown link.old) (L.shown link.new)) }
     ensures left { OnErr result (link.new ≡ link.old) }
 {
     link.send_attach(true)
@@ -67,7 +67,7 @@ fn take<L: LinkAttach>(link: &mut L, attach: Attach) -> Result<L::AttachExchange
     ensures exchanged { IfOk result (L.exchanged (L.shown link.old).unsettled (remote_entries attach)
         (L.shown link.new).local_state) }
     ensures handle { (L.shown link.new).output_handle ≡ (L.shown link.old).output_handle }
-    ensures taken { OnOk result (Takes L.nothing_unsettled (L.shown link.old) (L.shown link.new)) }
+    ensures taken { OnOk result (Takes (L.shown link.old) (L.shown link.new)) }
     ensures kept { OnErr result (Keeps (L.shown link.old) (L.shown link.new)) }
 {
     match link.on_incoming_attach(attach) {
@@ -130,7 +130,7 @@ fn set_properties<L: LinkExt>(link: &mut L, properties: Option<Fields>)
 }
 
 // Attaches a link to an endpoint of this role, and cuts it; returns the link's state.
-fn attached_and_cut<L: LinkExt>(
+fn attached_and_cut<L: Link>(
     rt: &(impl Abort + AllocGlobal),
     link: &mut L,
     role: Role,
@@ -145,7 +145,7 @@ fn attached_and_cut<L: LinkExt>(
 }
 
 // The same, then reattaches the link, and loses its session; returns the link's states after the three.
-fn attached_anew<L: LinkExt>(
+fn attached_anew<L: Link>(
     rt: &(impl Abort + AllocGlobal),
     link: &mut L,
     role: Role,

@@ -14,7 +14,6 @@ ghost use Rattle.amqp_link_ledger.specs.Fates.{IsRecorded};
 mod attach;
 mod closing;
 mod disposing;
-mod either;
 mod entering;
 mod incoming;
 mod sending;

@@ -5,7 +5,6 @@ mod attach;
 mod completing;
 mod deliveries;
 mod disposing;
-mod either;
 mod flow;
 
 pub use amqp_link_endpoint::endpoint::attached::get_max_message_size;
@@ -78,10 +77,6 @@ impl<T: LinkTarget> ReceiverLink<T> {
     ghost use Rattle.amqp_link_receiver.specs.Receivers.{receiver_of_parts};
 
     /// A link that is not attached, without handles and unsettled deliveries. Does not allocate.
-    ///
-    /// The frame limit counts the frame's header of four bytes and its body, and not the four bytes of the
-    /// frame's size in front of them. If the peer's limit counts those as well, the caller passes that limit
-    /// less 4.
     pub fn new(alloc: Global, parts: LinkParts<T>) -> ReceiverLink<T>
         ensures { result ≡ receiver_of_parts parts }
     {

@@ -9,7 +9,6 @@ ghost use Rattle.amqp_link_split.specs.Fitting.{IsFitting};
 
 mod attach;
 mod disposing;
-mod either;
 mod flow;
 pub mod incoming;
 mod resending;
@@ -132,10 +131,6 @@ impl<T: LinkTarget> SenderLink<T> {
     ghost use Rattle.amqp_link_sender.specs.Senders.{IsSendable, transfer_tests, tagged_tests, tagged_transfer_tests, delivery_tests, payload_tests, untagged};
 
     /// A link that is not attached, without handles and unsettled deliveries. Does not allocate.
-    ///
-    /// The frame limit counts the frame's header of four bytes and its body, and not the four bytes of the
-    /// frame's size in front of them. If the peer's limit counts those as well, the caller passes that limit
-    /// less 4.
     pub fn new(alloc: Global, parts: LinkParts<T>) -> SenderLink<T>
         ensures { result ≡ sender_of_parts parts }
     {

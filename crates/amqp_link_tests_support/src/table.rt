@@ -1,7 +1,7 @@
 //! The table of link states of the standard (2.6.3 to 2.6.6), for tests: the state after each call, by the
 //! state before it. All other pairs of a call and a state have no transition.
 use crate::links::{attach_of, went};
-use amqp_link_endpoint::endpoint::LinkExt;
+use amqp_link_endpoint::endpoint::{Link, LinkExt};
 use amqp_link_state::state::LinkState;
 use amqp_link_types::types::{Attach, Detach, DetachError, Handle, Role, SenderSettleMode};
 use std::alloc::{AllocError, Global};
@@ -96,14 +96,14 @@ pub fn detach(closed: bool) -> Detach {
 
 /// Whether a link sends an attach, and its state afterwards; the functions below do the same for the other calls.
 /// The link is dropped.
-pub fn attached<L: LinkExt + Drop>(mut link: L) -> (bool, LinkState)
+pub fn attached<L: Link + Drop>(mut link: L) -> (bool, LinkState)
     requires { L.copies }
 {
     let goes = went(link.send_attach(false));
     ended(link, goes)
 }
 
-pub fn taken<L: LinkExt + Drop>(mut link: L, attach: Attach) -> (bool, LinkState) {
+pub fn taken<L: Link + Drop>(mut link: L, attach: Attach) -> (bool, LinkState) {
     let goes = went(link.on_incoming_attach(attach));
     ended(link, goes)
 }

@@ -4,6 +4,7 @@ use Rattle.std.proofs.lemmas.List.{append-nil, length_push}
 use Rattle.std.specs.Prelude.{Result, Ok, Err, MatchOption, MatchResult, IfNone, IfOk, IfErr, OnErr, IsErrAnd}
 use Rattle.amqp_link.specs.AttachSent.{SendsAttach}
 use Rattle.amqp_link.specs.declared.state.LinkState.{LinkState}
+use Rattle.amqp_link.specs.Entries.{Entries}
 use Rattle.amqp_link.specs.Shown.{Shown, shown_attached, shown_taken, with_terms_of}
 use Rattle.amqp_link.specs.declared.LinkFrame.{LinkFrame}
 use Rattle.amqp_link.specs.declared.types.Attach.{Attach as TheAttach}
@@ -86,7 +87,7 @@ stands_at state handle = record { state = state; has_handle = is_some handle }
 both_same : {s t : LinkState} {h k : Option OutputHandle} → s ≡ t → h ≡ k → stands_at s h ≡ stands_at t k
 both_same {s} {k} states handles = ap (λ h. stands_at s h) handles ∙ ap (λ s. stands_at s k) states
 
-module _ {L D : Type 0} (shown : L → Shown D) (old now : L) where
+module _ {L V : Type 0} (shown : L → Shown (Entries V)) (old now : L) where
   -- an attach that is sent moves the state by the table, or leaves it if the call is refused
   pub sent_or_stays : {E F : Type 0} (attached : L → LinkState → L) (r : Result (LinkFrame × F) E)
       → ((l : L) (s : LinkState) → shown (attached l s) ≡ shown_attached (shown l) s)
@@ -98,15 +99,15 @@ module _ {L D : Type 0} (shown : L → Shown D) (old now : L) where
   sent_or_stays attached (Err error) shows sent left = inl (ap (λ l. state_and_handle (shown l)) left)
 
   -- an attach that arrives keeps the output handle, taken or refused
-  pub keeps_handle : {A E : Type 0} (X : A → Type 0) (left : E → L) (taken : L) (nothing : D) (target : Option TargetArchetype)
+  pub keeps_handle : {A E : Type 0} (X : A → Type 0) (left : E → L) (taken : L) (target : Option TargetArchetype)
       (attach : TheAttach) (r : Result A E)
       → IfOk r (λ exchange. (now ≡ taken) × X exchange) → IfErr r (λ error. now ≡ left error)
-      → shown taken ≡ shown_taken nothing (shown old) target attach
+      → shown taken ≡ shown_taken (shown old) target attach
       → ((e : E) → shown (left e) ≡ with_terms_of (shown old) (shown (left e)))
       → (shown now).output_handle ≡ (shown old).output_handle
-  keeps_handle X left taken nothing target attach (Ok exchange) takes at shows refuses =
+  keeps_handle X left taken target attach (Ok exchange) takes at shows refuses =
       ap (λ l. (shown l).output_handle) takes.0 ∙ ap (λ x. x.output_handle) shows
-  keeps_handle X left taken nothing target attach (Err error) takes at shows refuses =
+  keeps_handle X left taken target attach (Err error) takes at shows refuses =
       ap (λ l. (shown l).output_handle) at ∙ ap (λ x. x.output_handle) (refuses error)
 
   -- it moves the state by the table, or leaves it; a refusal can move the state too

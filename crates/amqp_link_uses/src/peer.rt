@@ -12,10 +12,10 @@ use amqp_link::state::{
     after_sent_detach,
 };
 use amqp_link::types::{Attach, Detach, LinkFlow};
-use amqp_link::{LinkAttach, LinkDetach, LinkExt, ReceiverLink, SenderLink};
+use amqp_link::{Link, LinkAttach, LinkDetach, LinkExt, ReceiverLink, SenderLink};
 
 /// An endpoint that takes its peer's flows.
-pub trait TakeFlow: LinkExt {
+pub trait TakeFlow: Link {
     /// Takes a flow of the peer's, and returns the flow to reply with, if there is one. Refused, with nothing
     /// changed, exactly without output handle.
     fn take_flow(&mut self, flow: LinkFlow) -> Result<Option<LinkFlow>, LinkRelayError>

@@ -6,16 +6,16 @@ ghost use Rattle.amqp_link_types.specs.declared.types.definitions.OutputHandle.{
 ghost use Rattle.amqp_link_types.specs.Entries.{Entries};
 ghost use Rattle.amqp_link_endpoint.specs.declared.link_inner.LinkInner.{LinkInner as Inner};
 ghost use Rattle.amqp_link_endpoint.specs.contracts.link_inner.LinkInner.{the_row as inner_row};
-ghost use Rattle.std.proofs.Common.{◌∙◌, ap, sym};
+ghost use Rattle.std.proofs.Common.{◌∙◌};
 ghost use Rattle.amqp_link_endpoint.specs.Links.{with_properties as put_properties, without_session};
-ghost use Rattle.amqp_link_endpoint.specs.Shown.{Shown, shown_from, shown_of};
+ghost use Rattle.amqp_link_endpoint.specs.Shown.{shown_from, shown_of};
 
 use crate::endpoint::attached::sent_limit;
 use crate::endpoint::detached::{detach_frame, result_of_remote_detach, result_of_reply};
 use crate::endpoint::failing::{Action, AttachFailure, carry_out, error_to_send};
 use crate::endpoint::table::{after_detach_reply, after_remote_detach, after_sent_detach};
 use crate::endpoint::target::LinkTarget;
-use crate::endpoint::{Link, LinkAttach, LinkDetach, LinkExt};
+use crate::endpoint::{LinkDetach, LinkExt};
 use crate::link_inner::LinkInner;
 use crate::link_role::LinkRole;
 use amqp_link_state::state::{LinkFlowState, LinkState};
@@ -25,7 +25,7 @@ use amqp_link_types::types::{
     self, ApplyRemoteDetachError, DeliveryTag, Detach, DetachError, Error, Fields,
 };
 use indexmap::IndexMap;
-use std::alloc::{AllocError, Global};
+use std::alloc::AllocError;
 
 /// Lets the calls of this crate alone reach what an endpoint holds: no other code can make one.
 #[derive(Clone, Copy)]
@@ -64,9 +64,6 @@ pub trait EitherEnd {
     fn kept(&self, access: Access) -> &UnsettledMap<<Self::Marker as LinkRole>::Entry>
         ensures { result.now ≡ kept self.now };
 
-    /// Its allocator.
-    fn allocator(&self, access: Access) -> Global;
-
     /// Forgets what is under way of a delivery.
     fn rest(&mut self, access: Access)
         ensures { self.new ≡ at_rest self.old };
@@ -75,23 +72,6 @@ pub trait EitherEnd {
     ghost apart: { (l : Self) (i : Inner Self.Marker Self.Target)
         → (inner (with_inner l i) ≡ i) × (kept (with_inner l i) ≡ kept l)
         × (inner (at_rest l) ≡ inner l) × (kept (at_rest l) ≡ kept l) };
-}
-
-/// An endpoint of either role that can be attached: what the attach and the detach show of it is what it holds.
-pub trait EitherLink: EitherEnd
-    + LinkAttach
-    + LinkDetach<
-        DetachError = DetachError,
-        Unsettled = IndexMap<DeliveryTag, <<Self as EitherEnd>::Marker as LinkRole>::Entry>,
-        Entry = <<Self as EitherEnd>::Marker as LinkRole>::Entry,
-    > {
-    ghost shown_is: { (l : Self) → Self.shown l ≡ shown_of Self.Marker.role Self.Target.sent_as (Self.inner l) (Self.kept l)
-        (Self.Marker.stated (Self.kept l)) (Self.Marker.ended (Self.kept l)) };
-
-    ghost moved_is: { (l : Self) (s : TheState) (h : Option TheHandle)
-        → Self.moved l s h ≡ Self.with_inner l (record (Self.inner l) { local_state = s; output_handle = h }) };
-
-    ghost copies_is: { Self.copies → (t c : Self.Target) → Self.Target.is_clone t c → c ≡ t };
 }
 
 impl<L: EitherEnd> LinkDetach for L {
@@ -176,9 +156,7 @@ impl<L: EitherEnd> LinkDetach for L {
     }
 }
 
-impl<L: EitherLink> Link for L {}
-
-impl<L: EitherLink> LinkExt for L {
+impl<L: EitherEnd> LinkExt for L {
     type Marker = L::Marker;
 
     ghost with_properties = { λ l properties. L.with_inner l (put_properties properties (L.inner l)) };
@@ -187,15 +165,11 @@ impl<L: EitherLink> LinkExt for L {
 
     ghost shown_with_properties = { λ l properties.
         let p = L.apart l (put_properties properties (L.inner l)) in
-        L.shown_is (L.with_inner l (put_properties properties (L.inner l)))
-        ∙ shown_from L.Marker.role L.Target.sent_as L.Marker.stated L.Marker.ended p.0 p.1
-        ∙ ap {A = Shown (Entries L.Marker.Entry)} (λ s. record s { flow_state = record s.flow_state { properties = properties } }) (sym (L.shown_is l)) };
+        shown_from L.Marker.role L.Target.sent_as L.Marker.stated L.Marker.ended p.0 p.1 };
 
     ghost shown_with_frame_limit = { λ l limit.
         let p = L.apart l (record (L.inner l) { max_frame_size = limit }) in
-        L.shown_is (L.with_inner l (record (L.inner l) { max_frame_size = limit }))
-        ∙ shown_from L.Marker.role L.Target.sent_as L.Marker.stated L.Marker.ended p.0 p.1
-        ∙ ap {A = Shown (Entries L.Marker.Entry)} (λ s. record s { max_frame_size = limit }) (sym (L.shown_is l)) };
+        shown_from L.Marker.role L.Target.sent_as L.Marker.stated L.Marker.ended p.0 p.1 };
 
     fn with_output_handle(mut self, handle: types::OutputHandle) -> L {
         self.inner_mut(Access(())).output_handle = Some(handle);
@@ -268,14 +242,15 @@ impl<L: EitherLink> LinkExt for L {
         inner.complete_attach_fits(self.kept(Access(())), max_frame_size, count)
     }
 
-    fn handle_attach_error(
+    fn handle_attach_error<E: AttachFailure>(
         &mut self,
-        error: L::AttachError,
-    ) -> Result<(L::AttachError, Action), AllocError> {
+        error: E,
+    ) -> Result<(E, Action), AllocError> {
         let remedy = error.remedy();
         let inner = self.inner(Access(()));
         let (state, handle) = (inner.local_state, inner.output_handle);
-        let Ok(sent) = error_to_send(self.allocator(Access(())), remedy, state, handle) else {
+        let alloc = *self.kept(Access(())).as_map().allocator();
+        let Ok(sent) = error_to_send(alloc, remedy, state, handle) else {
             drop(error);
             return Err(AllocError);
         };

@@ -1,4 +1,6 @@
-//! How a ledger is attached (2.6.3, 2.6.4), and how its unsettled deliveries are exchanged (2.6.13).
+//! How a ledger is attached (2.6.3, 2.6.4), how its unsettled deliveries are exchanged (2.6.13), and what it holds, for
+//! the calls that both roles share: what its endpoint holds. None of those changes the unsettled deliveries, so the
+//! registrations stay.
 //!
 //! A registration whose delivery the exchange returns to the user is handed out; one whose delivery has ended
 //! is resolved.
@@ -11,14 +13,18 @@ ghost use Rattle.amqp_link_ledger.specs.Exchanging.{deliveries_in, ledger_taken}
 
 use crate::ledger::OutcomeLedger;
 use amqp_link_core::resumption::ResumingDelivery;
+use amqp_link_endpoint::endpoint::either::{Access, EitherEnd};
 use amqp_link_endpoint::endpoint::target::LinkTarget;
 use amqp_link_endpoint::endpoint::{LinkAttach, LinkExt};
+use amqp_link_endpoint::link_inner::LinkInner;
 use amqp_link_sender::sender_link::SenderAttachExchange;
 use amqp_link_sender::sender_link::incoming::{
     AttachPlan, commit_incoming_attach, plan_incoming_attach,
 };
-use amqp_link_types::delivery::Outcomes;
+use amqp_link_state::role::SenderMarker;
+use amqp_link_types::delivery::{Outcomes, UnsettledMessage};
 use amqp_link_types::frame::LinkFrame;
+use amqp_link_types::types::unsettled_map::UnsettledMap;
 use amqp_link_types::types::{Attach, DeliveryTag, SenderAttachError};
 use std::alloc::AllocError;
 
@@ -67,6 +73,39 @@ impl<T: LinkTarget> OutcomeLedger<T> {
     }
 }
 
+impl<T: LinkTarget> EitherEnd for OutcomeLedger<T> {
+    ghost use Rattle.std.specs.Prelude.{refl};
+    ghost use Rattle.amqp_link_endpoint.specs.Links.{inner_of, with_inner};
+
+    type Marker = SenderMarker;
+
+    type Target = T;
+
+    ghost inner = { λ ledger. inner_of ledger.link };
+
+    ghost with_inner = { λ ledger i. record ledger { link = with_inner ledger.link i } };
+
+    ghost kept = { λ ledger. ledger.link.unsettled };
+
+    ghost at_rest = { λ ledger. ledger };
+
+    ghost apart = { λ ledger i. (refl, refl, refl, refl) };
+
+    fn inner(&self, access: Access) -> &LinkInner<SenderMarker, T> {
+        self.link.inner(access)
+    }
+
+    fn inner_mut(&mut self, access: Access) -> &mut LinkInner<SenderMarker, T> {
+        self.link.inner_mut(access)
+    }
+
+    fn kept(&self, access: Access) -> &UnsettledMap<UnsettledMessage> {
+        self.link.kept(access)
+    }
+
+    fn rest(&mut self, _: Access) {}
+}
+
 impl<T: LinkTarget> LinkAttach for OutcomeLedger<T> {
     ghost use Rattle.std.specs.Prelude.{◌≡◌, false, [], refl};
     ghost use Rattle.amqp_link_exchange.specs.Exchanges.{outcomes_returned};
@@ -81,8 +120,6 @@ impl<T: LinkTarget> LinkAttach for OutcomeLedger<T> {
     ghost attached = { λ ledger s. record ledger { link = sender_attached ledger.link s } };
 
     ghost emptied = { given_up };
-
-    ghost nothing_unsettled = { [] };
 
     ghost refusal_of = { λ ledger. sender_refusal T.admitted T.refused_by_sender ledger.link };
 

@@ -1,10 +1,47 @@
-//! How a sender's link endpoint is attached (2.6.3, 2.6.4).
+//! How a sender's link endpoint is attached (2.6.3, 2.6.4), and what it holds, for the calls that both roles share.
 use crate::sender_link::{SenderAttachExchange, SenderLink};
 use amqp_link_endpoint::endpoint::LinkAttach;
+use amqp_link_endpoint::endpoint::either::{Access, EitherEnd};
 use amqp_link_endpoint::endpoint::target::LinkTarget;
-use amqp_link_types::delivery::Outcomes;
+use amqp_link_endpoint::link_inner::LinkInner;
+use amqp_link_state::role::SenderMarker;
+use amqp_link_types::delivery::{Outcomes, UnsettledMessage};
 use amqp_link_types::frame::LinkFrame;
+use amqp_link_types::types::unsettled_map::UnsettledMap;
 use amqp_link_types::types::{Attach, SenderAttachError};
+
+impl<T: LinkTarget> EitherEnd for SenderLink<T> {
+    ghost use Rattle.std.specs.Prelude.{refl};
+    ghost use Rattle.amqp_link_endpoint.specs.Links.{inner_of, with_inner};
+
+    type Marker = SenderMarker;
+
+    type Target = T;
+
+    ghost inner = { inner_of };
+
+    ghost with_inner = { with_inner };
+
+    ghost kept = { λ link. link.unsettled };
+
+    ghost at_rest = { λ link. link };
+
+    ghost apart = { λ link i. (refl, refl, refl, refl) };
+
+    fn inner(&self, _: Access) -> &LinkInner<SenderMarker, T> {
+        &self.inner
+    }
+
+    fn inner_mut(&mut self, _: Access) -> &mut LinkInner<SenderMarker, T> {
+        &mut self.inner
+    }
+
+    fn kept(&self, _: Access) -> &UnsettledMap<UnsettledMessage> {
+        &self.unsettled
+    }
+
+    fn rest(&mut self, _: Access) {}
+}
 
 impl<T: LinkTarget> LinkAttach for SenderLink<T> {
     ghost use Rattle.std.specs.Prelude.{◌≡◌, false, [], refl};
@@ -19,8 +56,6 @@ impl<T: LinkTarget> LinkAttach for SenderLink<T> {
     ghost attached = { sender_attached };
 
     ghost emptied = { λ link. record link { unsettled = [] } };
-
-    ghost nothing_unsettled = { [] };
 
     ghost refusal_of = { sender_refusal T.admitted T.refused_by_sender };
 

@@ -13,7 +13,7 @@ returns-in-Attach-clause-leads g c =
     let old = c.args.link.now in
     let attach = c.in-Attach.attach in
     let call = c.on_incoming_attach in
-    let handle = keeps_handle g.L.LinkDetach.shown old call.new.self _ (λ error. g.L.LinkAttach.left error old attach) (g.L.LinkAttach.taken old attach) g.L.LinkAttach.nothing_unsettled
+    let handle = keeps_handle g.L.LinkDetach.shown old call.new.self _ (λ error. g.L.LinkAttach.left error old attach) (g.L.LinkAttach.taken old attach)
     (g.L.LinkAttach.target_taken old attach) attach call.result call.ensures.taken call.ensures.left
     (g.met.L.LinkAttach.shown_after_taking old attach) (λ error. g.met.L.LinkAttach.shown_after_refusal error old attach) in
     rw c.in-Attach.is (λ _. stays_or_moves g.L.LinkDetach.shown old call.new.self g.L.AttachError.AttachFailure.illegal_state g.L.AttachError.AttachFailure.out_of_memory
