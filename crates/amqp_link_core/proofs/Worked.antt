@@ -107,6 +107,18 @@ all_where_there_is_no_place : rest_from eight 2 0 ≡ eight
 unfolding starts header_len
 all_where_there_is_no_place = refl
 
+-- two sections, the second with its code in eight bytes
+abbrev fifteen : List ℕ
+fifteen = 0x00 ∷ 0x53 ∷ 0x70 ∷ 0x45 ∷ 0x00 ∷ 0x80 ∷ 0 ∷ 0 ∷ 0 ∷ 0 ∷ 0 ∷ 0 ∷ 0 ∷ 0x77 ∷ 0x41 ∷ []
+
+rest_within_a_long_header : rest_from fifteen 0 13 ≡ 0x77 ∷ 0x41 ∷ []
+unfolding starts header_len
+rest_within_a_long_header = refl
+
+all_past_a_long_header : rest_from fifteen 0 14 ≡ fifteen
+unfolding starts header_len
+all_past_a_long_header = refl
+
 a_later_section_is_beyond : is_beyond 1 0 0 6 ≡ true
 a_later_section_is_beyond = refl
 

@@ -365,10 +365,15 @@ fn ended_deliveries_of_format_0_are_aborted(rt: HostRuntime) {
     assert_rows(&rt, EIGHT, 0, OF_FORMAT_0);
 }
 
-// Whether these bytes are sent of the eight, which have arrived up to this position.
-fn is_rest(rt: &(impl Abort + AllocGlobal), at: (u32, u64), want: &[u8]) -> bool {
+// Whether these bytes are sent of a payload, which has arrived up to this position.
+fn is_rest(
+    rt: &(impl Abort + AllocGlobal),
+    payload: &'static [u8],
+    at: (u32, u64),
+    want: &[u8],
+) -> bool {
     let remote = Shown::Front(at.0, at.1);
-    let resolution = resolution_of(rt, EIGHT, 5, Shown::Null, remote);
+    let resolution = resolution_of(rt, payload, 5, Shown::Null, remote);
     let is_rest = match &resolution {
         Resolution::Resuming(ResumingDelivery::Resume { rest, .. }) => rest.as_slice() == want,
         _ => false,
@@ -387,10 +392,24 @@ const RESTS: &[((u32, u64), &[u8])] = &[
     ((2, 0), EIGHT),
 ];
 
+// Two sections, the second with its code in eight bytes.
+const FIFTEEN: &'static [u8] = b"\x00\x53\x70\x45\x00\x80\x00\x00\x00\x00\x00\x00\x00\x77\x41";
+
+const LONG_RESTS: &[((u32, u64), &[u8])] = &[
+    ((0, 13), b"\x77\x41"),
+    ((1, 0), b"\x00\x80\x00\x00\x00\x00\x00\x00\x00\x77\x41"),
+    ((1, 11), b""),
+    // No place: past the second section's header.
+    ((0, 14), FIFTEEN),
+];
+
 #[test]
 fn rest_has_the_bytes_from_there(rt: HostRuntime) {
     for (at, want) in RESTS {
-        assert_holds_at(&rt, is_rest(&rt, *at, want), at);
+        assert_holds_at(&rt, is_rest(&rt, EIGHT, *at, want), at);
+    }
+    for (at, want) in LONG_RESTS {
+        assert_holds_at(&rt, is_rest(&rt, FIFTEEN, *at, want), at);
     }
     // A delivery without bytes has an empty rest.
     assert_rows(&rt, b"", 0, &[(FRONT, FRONT, Answer::Resumed(FRONT, 0, 0))]);

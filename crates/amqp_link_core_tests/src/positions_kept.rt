@@ -66,9 +66,13 @@ fn each_byte_moves_the_position(rt: HostRuntime) {
 }
 
 // 200 bytes of text, with a header from this place on.
-fn text_with_header(rt: &(impl Abort + AllocGlobal), place: usize) -> Vec<u8> {
+fn text_with_header(
+    rt: &(impl Abort + AllocGlobal),
+    header: &'static [u8],
+    place: usize,
+) -> Vec<u8> {
     let mut bytes = vec![in rt.alloc(); 0x41; 200].expect(rt, "memory");
-    for (index, byte) in [0x00, 0x53, 0x75].iter().enumerate() {
+    for (index, byte) in header.iter().enumerate() {
         if let Some(at) = bytes.get_mut(place.wrapping_add(index)) {
             *at = *byte;
         }
@@ -86,11 +90,15 @@ fn pushed_in_two(rt: &(impl Abort + AllocGlobal), bytes: &[u8], cut: usize) -> (
 }
 
 // The first place of a cut, if there is any, after which a header from this place on is not found.
-fn first_missed(rt: &(impl Abort + AllocGlobal), place: usize) -> Option<usize> {
-    let bytes = text_with_header(rt, place);
+fn first_missed(
+    rt: &(impl Abort + AllocGlobal),
+    header: &'static [u8],
+    place: usize,
+) -> Option<usize> {
+    let bytes = text_with_header(rt, header, place);
     let offset = 200u64.saturating_sub(place as u64);
     let mut missed = None;
-    for cut in 60..74 {
+    for cut in 0..100 {
         if pushed_in_two(rt, bytes.as_slice(), cut) != ((1, offset), 200) {
             missed = missed.or(Some(cut));
         }
@@ -99,11 +107,15 @@ fn first_missed(rt: &(impl Abort + AllocGlobal), place: usize) -> Option<usize> 
     missed
 }
 
-// Blocks of 66 bytes are tested at once: a header at each place near their borders is found, wherever the
-// payload is cut near it.
+const HEADERS: [&'static [u8]; 2] = [b"\x00\x53\x75", b"\x00\x80\x00\x00\x00\x00\x00\x00\x00\x75"];
+
+// The first bytes of a piece are read behind those before it, and then blocks at once: a header of either form is found
+// at each place near the borders of these, wherever the payload is cut.
 #[test]
 fn headers_at_the_borders_of_blocks_are_found(rt: HostRuntime) {
-    for place in 62..70usize {
-        assert_equal_at(&rt, &first_missed(&rt, place), &None, &place);
+    for header in HEADERS {
+        for place in 1..80usize {
+            assert_equal_at(&rt, &first_missed(&rt, header, place), &None, &place);
+        }
     }
 }

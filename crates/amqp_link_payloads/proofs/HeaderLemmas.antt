@@ -1,7 +1,7 @@
 -- What the rest of the proofs use of headers. Only this file reads the forms.
-use Rattle.std.proofs.Common.{◌≡◌, ℕ, zero, suc, ◌+◌, ◌<◌, ◌≤◌, ◌⊎◌, Bool, true, false, List, [], ◌∷◌, ◌++◌, length, get_or, drop, refl, sym, ap, ◌∙◌, inl, inr, arith, get_or-drop, ◌&&◌, leb}
-use Rattle.std.proofs.lemmas.Bool.{and_parts, leb-true, cases_lt, and_from, le-leb, both_ways}
-use Rattle.amqp_link_payloads.specs.Header.{begins_with, small_form, large_form, header_len}
+use Rattle.std.proofs.Common.{◌≡◌, ℕ, zero, suc, ◌+◌, ◌<◌, ◌≤◌, ◌⊎◌, Bool, true, false, List, [], ◌∷◌, ◌++◌, length, get_or, drop, refl, sym, ap, ◌∙◌, inl, inr, arith, get_or-drop, ◌&&◌, ◌==◌, leb}
+use Rattle.std.proofs.lemmas.Bool.{and_parts, leb-true, cases_lt, cases_eq, eq-eqb, ne_eqb, and_from, le-leb, both_ways}
+use Rattle.amqp_link_payloads.specs.Header.{begins_with, small_form, large_form, header_len, may_end, ending}
 
 begins_with_long : (f : List (ℕ × ℕ)) (xs : List ℕ) → begins_with f xs ≡ true → length f ≤ length xs
 begins_with_long [] xs h = omega arith
@@ -118,13 +118,21 @@ headers_apart xs k above lt = elim (cases_lt 0 (header_len (drop k xs))) [
         small (suc zero) a l z = omega (arith, begins_with_at small_form xs 1 h (omega arith))
         small (suc (suc zero)) a l z = omega (arith, begins_with_at small_form xs 2 h (omega arith))
         small (suc (suc (suc n))) a l z = omega arith
-    clash b (is_large n h e) = large k above (omega arith) (rw get_or-drop at b.0)
+    clash b (is_large n h e) = large k above (omega arith) (rw get_or-drop at b.0) (rw get_or-drop at b.1)
       where
-        large : (k : ℕ) → 0 < k → k < 3 → get_or xs (k + 0) 0 ≡ 0 → ⊥
-        large zero a l z = omega arith
-        large (suc zero) a l z = omega (arith, begins_with_at large_form xs 1 h (omega arith))
-        large (suc (suc zero)) a l z = omega (arith, begins_with_at large_form xs 2 h (omega arith))
-        large (suc (suc (suc n))) a l z = omega arith
+        large : (k : ℕ) → 0 < k → k < 10 → get_or xs (k + 0) 0 ≡ 0
+            → (get_or xs (k + 1) 0 ≡ 0x53) ⊎ (get_or xs (k + 1) 0 ≡ 0x80) → ⊥
+        large zero a l z y = omega arith
+        large (suc zero) a l z y = omega (arith, begins_with_at large_form xs 1 h (omega arith))
+        large (suc (suc zero)) a l z y = omega (arith, begins_with_at large_form xs 2 h (omega arith), begins_with_at large_form xs 3 h (omega arith))
+        large (suc (suc (suc zero))) a l z y = omega (arith, begins_with_at large_form xs 3 h (omega arith), begins_with_at large_form xs 4 h (omega arith))
+        large (suc (suc (suc (suc zero)))) a l z y = omega (arith, begins_with_at large_form xs 4 h (omega arith), begins_with_at large_form xs 5 h (omega arith))
+        large (suc (suc (suc (suc (suc zero))))) a l z y = omega (arith, begins_with_at large_form xs 5 h (omega arith), begins_with_at large_form xs 6 h (omega arith))
+        large (suc (suc (suc (suc (suc (suc zero)))))) a l z y = omega (arith, begins_with_at large_form xs 6 h (omega arith), begins_with_at large_form xs 7 h (omega arith))
+        large (suc (suc (suc (suc (suc (suc (suc zero))))))) a l z y = omega (arith, begins_with_at large_form xs 7 h (omega arith), begins_with_at large_form xs 8 h (omega arith))
+        large (suc (suc (suc (suc (suc (suc (suc (suc zero)))))))) a l z y = omega (arith, begins_with_at large_form xs 8 h (omega arith), begins_with_at large_form xs 9 h (omega arith))
+        large (suc (suc (suc (suc (suc (suc (suc (suc (suc zero))))))))) a l z y = omega (arith, begins_with_at large_form xs 9 h (omega arith))
+        large (suc (suc (suc (suc (suc (suc (suc (suc (suc (suc n)))))))))) a l z y = omega arith
     clash b (is_none _ _ e) = omega arith
 
 -- what the code's pattern tests: a header's bytes, one by one
@@ -138,44 +146,136 @@ begins_with_from (r ∷ f) (x ∷ xs) long at =
     (and_from (leb r.0 x) (leb x r.1) (le-leb r.0 x (at 0 (omega arith)).0) (le-leb x r.1 (at 0 (omega arith)).1))
     (begins_with_from f xs (omega arith) (λ i lt. at (suc i) (omega arith)))
 
-pub header_tests : (xs : List ℕ) → ((header_len xs ≡ 0) × ((3 ≤ length xs) → (get_or xs 0 0 ≡ 0) → ((get_or xs 1 0 ≡ 0x53) ⊎ (get_or xs 1 0 ≡ 0x80)) → 0x70 ≤ get_or xs 2 0 → get_or xs 2 0 ≤ 0x78 → ⊥))
-    ⊎ ((header_len xs ≡ 3) × (3 ≤ length xs) × (get_or xs 0 0 ≡ 0) × ((get_or xs 1 0 ≡ 0x53) ⊎ (get_or xs 1 0 ≡ 0x80)) × (0x70 ≤ get_or xs 2 0) × (get_or xs 2 0 ≤ 0x78))
+-- the lengths that a header has
+pub header_lengths : (xs : List ℕ) → (header_len xs ≡ 0) ⊎ ((header_len xs ≡ 3) ⊎ (header_len xs ≡ 10))
+header_lengths xs = elim (header_case xs) [
+  | is_small h e ↦ inr (inl e)
+  | is_large n h e ↦ inr (inr e)
+  | is_none _ _ e ↦ inl e
+]
+
+pub header_first : (xs : List ℕ) → 0 < header_len xs → get_or xs 0 0 ≡ 0
+header_first xs lt = (header_bytes xs lt).0
+
+-- the bytes that the code's pattern names
+abbrev pub SmallBytes : List ℕ → Type 0
+SmallBytes xs = (3 ≤ length xs) × (get_or xs 0 0 ≡ 0) × (get_or xs 1 0 ≡ 0x53) × (0x70 ≤ get_or xs 2 0) × (get_or xs 2 0 ≤ 0x78)
+
+abbrev pub LargeBytes : List ℕ → Type 0
+LargeBytes xs = (10 ≤ length xs) × (get_or xs 0 0 ≡ 0) × (get_or xs 1 0 ≡ 0x80) × (get_or xs 2 0 ≡ 0) × (get_or xs 3 0 ≡ 0) × (get_or xs 4 0 ≡ 0) × (get_or xs 5 0 ≡ 0) × (get_or xs 6 0 ≡ 0) × (get_or xs 7 0 ≡ 0) × (get_or xs 8 0 ≡ 0) × (0x70 ≤ get_or xs 9 0) × (get_or xs 9 0 ≤ 0x78)
+
+pub header_tests : (xs : List ℕ) → ((header_len xs ≡ 0) × (SmallBytes xs → ⊥) × (LargeBytes xs → ⊥))
+    ⊎ (((header_len xs ≡ 3) × SmallBytes xs) ⊎ ((header_len xs ≡ 10) × LargeBytes xs))
 header_tests xs = elim (header_case xs) [
-  | is_small h e ↦ inr (
+  | is_small h e ↦ inr (inl (
     e,
-    begins_with_long small_form xs h,
-    omega (arith, begins_with_at small_form xs 0 h (omega arith)),
-    inl (omega (arith, begins_with_at small_form xs 1 h (omega arith))),
-    (begins_with_at small_form xs 2 h (omega arith)).0,
-    (begins_with_at small_form xs 2 h (omega arith)).1,
-  )
-  | is_large n h e ↦ inr (
+    (
+      begins_with_long small_form xs h,
+      omega (arith, begins_with_at small_form xs 0 h (omega arith)),
+      omega (arith, begins_with_at small_form xs 1 h (omega arith)),
+      (begins_with_at small_form xs 2 h (omega arith)).0,
+      (begins_with_at small_form xs 2 h (omega arith)).1,
+    ),
+  ))
+  | is_large n h e ↦ inr (inr (
     e,
-    begins_with_long large_form xs h,
-    omega (arith, begins_with_at large_form xs 0 h (omega arith)),
-    inr (omega (arith, begins_with_at large_form xs 1 h (omega arith))),
-    (begins_with_at large_form xs 2 h (omega arith)).0,
-    (begins_with_at large_form xs 2 h (omega arith)).1,
-  )
+    (
+      begins_with_long large_form xs h,
+      omega (arith, begins_with_at large_form xs 0 h (omega arith)),
+      omega (arith, begins_with_at large_form xs 1 h (omega arith)),
+      omega (arith, begins_with_at large_form xs 2 h (omega arith)),
+      omega (arith, begins_with_at large_form xs 3 h (omega arith)),
+      omega (arith, begins_with_at large_form xs 4 h (omega arith)),
+      omega (arith, begins_with_at large_form xs 5 h (omega arith)),
+      omega (arith, begins_with_at large_form xs 6 h (omega arith)),
+      omega (arith, begins_with_at large_form xs 7 h (omega arith)),
+      omega (arith, begins_with_at large_form xs 8 h (omega arith)),
+      (begins_with_at large_form xs 9 h (omega arith)).0,
+      (begins_with_at large_form xs 9 h (omega arith)).1,
+    ),
+  ))
   | is_none n m e ↦ inl (
     e,
-    λ long first second low high. elim second [
-      | inl s ↦ both_ways (begins_with small_form xs) n (begins_with_from small_form xs long (small first s low high))
-      | inr s ↦ both_ways (begins_with large_form xs) m (begins_with_from large_form xs long (large first s low high))
-    ],
+    (λ b. both_ways (begins_with small_form xs) n (begins_with_from small_form xs b.0 (small b))),
+    (λ b. both_ways (begins_with large_form xs) m (begins_with_from large_form xs b.0 (large b))),
   )
 ]
   where
-    small : get_or xs 0 0 ≡ 0 → get_or xs 1 0 ≡ 0x53 → 0x70 ≤ get_or xs 2 0 → get_or xs 2 0 ≤ 0x78 → (i : ℕ) → i < 3
+    small : SmallBytes xs → (i : ℕ) → i < 3
         → ((get_or small_form i (0, 0)).0 ≤ get_or xs i 0) × (get_or xs i 0 ≤ (get_or small_form i (0, 0)).1)
-    small a b l h zero lt = (omega arith, omega arith)
-    small a b l h (suc zero) lt = (omega arith, omega arith)
-    small a b l h (suc (suc zero)) lt = (l, h)
-    small a b l h (suc (suc (suc i))) lt = absurd (omega arith)
+    small b zero lt = (omega arith, omega arith)
+    small b (suc zero) lt = (omega arith, omega arith)
+    small b (suc (suc zero)) lt = (omega arith, omega arith)
+    small b (suc (suc (suc n))) lt = absurd (omega arith)
 
-    large : get_or xs 0 0 ≡ 0 → get_or xs 1 0 ≡ 0x80 → 0x70 ≤ get_or xs 2 0 → get_or xs 2 0 ≤ 0x78 → (i : ℕ) → i < 3
+    large : LargeBytes xs → (i : ℕ) → i < 10
         → ((get_or large_form i (0, 0)).0 ≤ get_or xs i 0) × (get_or xs i 0 ≤ (get_or large_form i (0, 0)).1)
-    large a b l h zero lt = (omega arith, omega arith)
-    large a b l h (suc zero) lt = (omega arith, omega arith)
-    large a b l h (suc (suc zero)) lt = (l, h)
-    large a b l h (suc (suc (suc i))) lt = absurd (omega arith)
+    large b zero lt = (omega arith, omega arith)
+    large b (suc zero) lt = (omega arith, omega arith)
+    large b (suc (suc zero)) lt = (omega arith, omega arith)
+    large b (suc (suc (suc zero))) lt = (omega arith, omega arith)
+    large b (suc (suc (suc (suc zero)))) lt = (omega arith, omega arith)
+    large b (suc (suc (suc (suc (suc zero))))) lt = (omega arith, omega arith)
+    large b (suc (suc (suc (suc (suc (suc zero)))))) lt = (omega arith, omega arith)
+    large b (suc (suc (suc (suc (suc (suc (suc zero))))))) lt = (omega arith, omega arith)
+    large b (suc (suc (suc (suc (suc (suc (suc (suc zero)))))))) lt = (omega arith, omega arith)
+    large b (suc (suc (suc (suc (suc (suc (suc (suc (suc zero))))))))) lt = (omega arith, omega arith)
+    large b (suc (suc (suc (suc (suc (suc (suc (suc (suc (suc n)))))))))) lt = absurd (omega arith)
+
+-- ---- ten bytes that end in a header
+
+may_end_from : (first last : ℕ) → first ≡ 0 → 0x70 ≤ last → last ≤ 0x78 → may_end first last ≡ true
+may_end_from first last z lo hi =
+    and_from (first == 0 && leb 0x70 last) (leb last 0x78)
+    (and_from (first == 0) (leb 0x70 last) (eq-eqb first 0 z) (le-leb 0x70 last lo)) (le-leb last 0x78 hi)
+
+small_may_end : (w : List ℕ) → header_len (drop 7 w) ≡ 3 → may_end (get_or w 7 0) (get_or w 9 0) ≡ true
+small_may_end w e = elim (header_tests (drop 7 w)) [
+  | inl none ↦ absurd (omega (arith, none.0))
+  | inr some ↦ elim some [
+    | inl small ↦
+        let first : get_or (drop 7 w) 0 0 ≡ get_or w 7 0 = get_or-drop 7 w 0 0 in
+        let last : get_or (drop 7 w) 2 0 ≡ get_or w 9 0 = get_or-drop 7 w 2 0 in
+        may_end_from (get_or w 7 0) (get_or w 9 0) (omega (arith, small.1, first)) (omega (arith, small.1, last)) (omega (arith, small.1, last))
+    | inr large ↦ absurd (omega (arith, large.0))
+  ]
+]
+
+large_may_end : (w : List ℕ) → header_len w ≡ 10 → may_end (get_or w 7 0) (get_or w 9 0) ≡ true
+large_may_end w e = elim (header_tests w) [
+  | inl none ↦ absurd (omega (arith, none.0))
+  | inr some ↦ elim some [
+    | inl small ↦ absurd (omega (arith, small.0))
+    | inr large ↦ may_end_from (get_or w 7 0) (get_or w 9 0) (omega (arith, large.1)) (omega (arith, large.1)) (omega (arith, large.1))
+  ]
+]
+
+-- by which of the two forms
+pub data Ending (w : List ℕ) : Type 0 where
+  ends_small : header_len (drop 7 w) ≡ 3 → ending w ≡ 3 → Ending w
+  ends_large : (header_len (drop 7 w) ≡ 3 → ⊥) → header_len w ≡ 10 → ending w ≡ 10 → Ending w
+  ends_none : (header_len (drop 7 w) ≡ 3 → ⊥) → (header_len w ≡ 10 → ⊥) → ending w ≡ 0 → Ending w
+
+pub ending_small : (w : List ℕ) → header_len (drop 7 w) ≡ 3 → ending w ≡ 3
+ending_small w e = rw (eq-eqb (header_len (drop 7 w)) 3 e)
+
+pub ending_large : (w : List ℕ) → (header_len (drop 7 w) ≡ 3 → ⊥) → header_len w ≡ 10 → ending w ≡ 10
+ending_large w ne e = rw (ne_eqb (header_len (drop 7 w)) 3 ne, eq-eqb (header_len w) 10 e)
+
+pub ending_none : (w : List ℕ) → (header_len (drop 7 w) ≡ 3 → ⊥) → (header_len w ≡ 10 → ⊥) → ending w ≡ 0
+ending_none w ne ne' = rw (ne_eqb (header_len (drop 7 w)) 3 ne, ne_eqb (header_len w) 10 ne')
+
+pub ending_case : (w : List ℕ) → Ending w
+ending_case w = elim (cases_eq (header_len (drop 7 w)) 3) [
+  | inl e ↦ ends_small e (ending_small w e)
+  | inr ne ↦ elim (cases_eq (header_len w) 10) [
+    | inl e ↦ ends_large ne e (ending_large w ne e)
+    | inr ne' ↦ ends_none ne ne' (ending_none w ne ne')
+  ]
+]
+
+-- where the quick test fails they end in none
+pub ending_never : (w : List ℕ) → may_end (get_or w 7 0) (get_or w 9 0) ≡ false → ending w ≡ 0
+ending_never w never =
+    ending_none w (λ e. both_ways (may_end (get_or w 7 0) (get_or w 9 0)) never (small_may_end w e))
+    (λ e. both_ways (may_end (get_or w 7 0) (get_or w 9 0)) never (large_may_end w e))

@@ -1,7 +1,9 @@
-pub mod BlockLemmas
+pub mod BlankLemmas
 pub mod CarryLemmas
+pub mod CountLemmas
 pub mod FrontLemmas
 pub mod HeaderLemmas
+pub mod JointLemmas
 pub mod PieceLemmas
 pub mod PositionLemmas
 pub mod ScanLemmas

@@ -1,64 +1,52 @@
--- What a scan keeps, as one more byte comes.
-use Rattle.std.proofs.Common.{◌≡◌, ℕ, ◌+◌, ◌-◌, ◌<◌, ◌≤◌, ◌^◌, List, [], ◌∷◌, ◌++◌, length, sym, ap, ◌∙◌, subst, inl, inr, arith, Some, None, cond, true, unwrap_or}
-use Rattle.std.proofs.lemmas.Bool.{cases_lt, lt-ltb, le-ltb}
-use Rattle.amqp_link_payloads.specs.declared.position.Scan.{Scan}
-use Rattle.amqp_link_payloads.specs.Position.{starts, position}
-use Rattle.amqp_link_payloads.specs.Tail.{EndsIn, IsTailOf, NoneEnds}
-use Rattle.amqp_link_payloads.specs.Scan.{HasSeen, number_below}
-use Rattle.amqp_link_payloads.proofs.PositionLemmas.{position_new, position_old, position_passed}
+-- What a scan keeps, as bytes follow.
+use Rattle.std.proofs.Common.{◌≡◌, ℕ, ◌+◌, ◌-◌, ◌<◌, ◌≤◌, List, [], ◌∷◌, ◌++◌, length, get_or, take, drop, sym, ap, ◌∙◌, subst, arith, append_assoc}
+use Rattle.std.proofs.lemmas.List.{append-nil, length-append, length-take-le, length-drop}
+use Rattle.amqp_link_payloads.specs.Header.{ending}
+use Rattle.amqp_link_payloads.specs.Position.{starts}
+use Rattle.amqp_link_payloads.specs.Scan.{Keeps, IsNext}
+use Rattle.amqp_link_payloads.specs.Tail.{EndsAt}
+use Rattle.amqp_link_payloads.proofs.StartsLemmas.{starts_old}
+use Rattle.amqp_link_payloads.proofs.TailLemmas.{before, before_next, before_more, none_read, starts_kept, window, window_read, window_ends, past_first}
 
-pub nothing_seen : (s : Scan) → s.number ≡ Some 0 → s.distance ≡ Some 0 → IsTailOf s.tail [] → HasSeen s []
-unfolding starts
-nothing_seen s n d t = record { number_is = n; distance_is = d; tail_is = t }
+module _ {S : Type 0} (has : S → List ℕ → ℕ → Type 0) (s : S) where
+  pub kept_at_once : (F : List ℕ) (n : ℕ) → Keeps has s F n → has s F n
+  kept_at_once F n keeps =
+      subst (λ k. has s F k) (let none : n + 0 ≡ n = omega arith in none)
+      (subst (λ G. has s G (n + 0)) (append-nil F) (keeps [] (ap starts (append-nil F))))
 
-within_distance : (d h : ℕ) → h < 2 ^ 64 → h ≤ unwrap_or (number_below (2 ^ 64) d) (2 ^ 64 - 1) → h ≤ d
-within_distance d h fits le = elim (cases_lt d (2 ^ 64)) [
-  | inl lt ↦ let at : h ≤ unwrap_or (cond true (Some d) None) (2 ^ 64 - 1) = rw (lt-ltb d (2 ^ 64) lt) at le in at
-  | inr past ↦ omega arith
-]
+  pub kept_more : (F xs : List ℕ) (n : ℕ) → Keeps has s F n → starts (F ++ xs) ≡ starts F → Keeps has s (F ++ xs) (n + length xs)
+  kept_more F xs n keeps same = λ ys more.
+      let whole : F ++ (xs ++ ys) ≡ (F ++ xs) ++ ys = sym (append_assoc F xs ys) in
+      subst (λ k. has s ((F ++ xs) ++ ys) k) (let sum : n + length (xs ++ ys) ≡ n + length xs + length ys = omega (arith, length-append xs ys) in sum)
+      (subst (λ G. has s G (n + length (xs ++ ys))) whole (keeps (xs ++ ys) (ap starts whole ∙ more ∙ same)))
 
-beyond_distance : (d h : ℕ) → h ≤ d → h < 2 ^ 64 → h ≤ unwrap_or (number_below (2 ^ 64) d) (2 ^ 64 - 1)
-beyond_distance d h le fits = elim (cases_lt d (2 ^ 64)) [
-  | inl lt ↦ rw (lt-ltb d (2 ^ 64) lt) le
-  | inr past ↦ rw (le-ltb d (2 ^ 64) past) (omega arith)
-]
+  pub kept_as : (F G : List ℕ) (n m : ℕ) → F ≡ G → n ≡ m → Keeps has s F n → Keeps has s G m
+  kept_as F G n m e f keeps = subst (λ k. Keeps has s G k) f (subst (λ H. Keeps has s H n) e keeps)
 
--- what the code tests: a header ends in the new byte, and is no longer than the distance from the last start
-pub seen_new : (s t : Scan) (F : List ℕ) (b h : ℕ) → HasSeen s F → EndsIn (F ++ b ∷ []) h → IsTailOf t.tail (F ++ b ∷ [])
-    → 0 < h → h ≤ unwrap_or s.distance (2 ^ 64 - 1) → h < 2 ^ 64
-    → t.number ≡ number_below (2 ^ 32) ((position F).0 + 1) → t.distance ≡ Some h → HasSeen t (F ++ b ∷ [])
-seen_new s t F b h has ends tail some far fits number distance =
-    let found = ends.some some in
-    let past : h ≤ (position F).1 = within_distance (position F).1 h fits
-    (subst (λ o. h ≤ unwrap_or o (2 ^ 64 - 1)) has.distance_is far) in
-    let moved : position (F ++ b ∷ []) ≡ ((position F).0 + 1, h)
-    = position_new F b found.0 h found.1 (ends.same found.0 found.1) past in
-    record {
-      number_is = number ∙ ap (λ p. number_below (2 ^ 32) p.0) (sym moved);
-      distance_is = distance ∙ sym (rw (lt-ltb h (2 ^ 64) fits)) ∙ ap (λ p. number_below (2 ^ 64) p.1) (sym moved);
-      tail_is = tail;
-    }
+  -- a byte in which no header ends
+  pub kept_byte : (F bytes : List ℕ) (i n m : ℕ) → IsNext F bytes → 9 ≤ i → i < length bytes → n + 1 ≡ m
+      → ending (take 10 (drop (i - 9) bytes)) ≡ 0 → Keeps has s (before F bytes i) n → Keeps has s (before F bytes (i + 1)) m
+  kept_byte F bytes i n m next nine lt sum none keeps =
+      kept_as (before F bytes i ++ get_or bytes i 0 ∷ []) (before F bytes (i + 1)) (n + 1) m (before_next F bytes i nine lt) sum
+      (kept_more (before F bytes i) (get_or bytes i 0 ∷ []) n keeps
+      (starts_old (before F bytes i) (get_or bytes i 0) (λ k pos at. none_read F bytes i next nine lt none k at)))
 
-pub seen_old : (s t : Scan) (F : List ℕ) (b h : ℕ) → HasSeen s F → EndsIn (F ++ b ∷ []) h → IsTailOf t.tail (F ++ b ∷ [])
-    → h < 2 ^ 64 → (0 < h → h ≤ unwrap_or s.distance (2 ^ 64 - 1) → ⊥)
-    → t.number ≡ s.number → t.distance ≡ number_below (2 ^ 64) ((position F).1 + 1) → HasSeen t (F ++ b ∷ [])
-seen_old s t F b h has ends tail fits none number distance =
-    let grown : position (F ++ b ∷ []) ≡ ((position F).0, (position F).1 + 1)
-    = position_old F b h ends (λ some past. none some
-    (subst (λ o. h ≤ unwrap_or o (2 ^ 64 - 1)) (sym has.distance_is)
-    (beyond_distance (position F).1 h past fits))) in
-    record {
-      number_is = number ∙ has.number_is ∙ ap (λ p. number_below (2 ^ 32) p.0) (sym grown);
-      distance_is = distance ∙ ap (λ p. number_below (2 ^ 64) p.1) (sym grown);
-      tail_is = tail;
-    }
+  -- a block in which none does
+  pub kept_block : (F bytes : List ℕ) (i m n k : ℕ) → IsNext F bytes → 9 ≤ i → i + m ≤ length bytes → n + m ≡ k
+      → ((j : ℕ) → i ≤ j → j < i + m → ending (take 10 (drop (j - 9) bytes)) ≡ 0)
+      → Keeps has s (before F bytes i) n → Keeps has s (before F bytes (i + m)) k
+  kept_block F bytes i m n k next nine le sum none keeps =
+      let xs : List ℕ = take m (drop (i - 9) (drop 9 bytes)) in
+      let size : length xs ≡ m = length-take-le m (drop (i - 9) (drop 9 bytes))
+      (omega (arith, length-drop (i - 9) (drop 9 bytes), length-drop 9 bytes)) in
+      let whole : before F bytes i ++ xs ≡ before F bytes (i + m) = before_more F bytes i m nine in
+      kept_as (before F bytes i ++ xs) (before F bytes (i + m)) (n + length xs) k whole (omega (arith, size))
+      (kept_more (before F bytes i) xs n keeps (ap starts whole ∙ starts_kept F bytes i m next nine le none))
 
-pub seen_block : (s t : Scan) (F xs : List ℕ) → HasSeen s F → NoneEnds F xs → IsTailOf t.tail (F ++ xs)
-    → t.number ≡ s.number → t.distance ≡ number_below (2 ^ 64) ((position F).1 + length xs) → HasSeen t (F ++ xs)
-seen_block s t F xs has none tail number distance =
-    let grown : position (F ++ xs) ≡ ((position F).0, (position F).1 + length xs) = position_passed F xs none in
-    record {
-      number_is = number ∙ has.number_is ∙ ap (λ p. number_below (2 ^ 32) p.0) (sym grown);
-      distance_is = distance ∙ ap (λ p. number_below (2 ^ 64) p.1) (sym grown);
-      tail_is = tail;
-    }
+-- a byte in which a header ends
+pub found_at : (F bytes : List ℕ) (i h : ℕ) → IsNext F bytes → 9 ≤ i → i < length bytes → h ≡ ending (take 10 (drop (i - 9) bytes)) → 0 < h
+    → (n : ℕ) × (1 ≤ n) × EndsAt (before F bytes i ++ get_or bytes i 0 ∷ []) n × (n + h ≡ length (before F bytes i) + 1)
+found_at F bytes i h next nine lt is some =
+    let same : h ≡ ending (window 9 (before F bytes i) (get_or bytes i 0)) = is ∙ ap ending (window_read F bytes i next nine lt) in
+    let found = window_ends (before F bytes i) (get_or bytes i 0) (omega arith) in
+    (found.0, past_first F bytes i found.0 next nine lt found.1, found.1, omega (arith, found.2))

@@ -1,17 +1,19 @@
 -- What a search for a place keeps, as one more byte comes.
-use Rattle.std.proofs.Common.{◌≡◌, ℕ, zero, suc, ◌+◌, ◌-◌, ◌<◌, ◌≤◌, Bool, true, false, cond, List, [], ◌∷◌, ◌++◌, length, get_or, drop, refl, sym, ap, ◌∙◌, subst, inl, inr, arith, Some, None, slice_get, nat_eq, ltb, ◌&&◌, add-one}
+use Rattle.std.proofs.Common.{◌≡◌, ℕ, zero, suc, ◌+◌, ◌-◌, ◌<◌, ◌≤◌, ◌^◌, Bool, true, false, cond, List, [], ◌∷◌, ◌++◌, length, get_or, drop, refl, sym, ap, ◌∙◌, subst, inl, inr, arith, Some, None, slice_get, nat_eq, add-one}
 use Rattle.std.specs.Prelude.{Option, option_map}
-use Rattle.std.proofs.lemmas.Bool.{cases_eq, eq-eqb, ne_eqb, ltb-true, ltb-false, and_parts, and_cases}
+use Rattle.std.proofs.lemmas.Bool.{cases_eq, eq-eqb, ne_eqb}
 use Rattle.std.proofs.lemmas.List.{length_push, length-append}
 use Rattle.std.proofs.lemmas.Option.{slice_get_within, get_or_from_slice_get}
 use Rattle.amqp_link_payloads.specs.Header.{header_len}
 use Rattle.amqp_link_payloads.specs.Places.{header_end}
-use Rattle.amqp_link_payloads.specs.Position.{starts}
-use Rattle.amqp_link_payloads.specs.Seek.{HasSought}
-use Rattle.amqp_link_payloads.specs.Tail.{EndsAt, EndsIn, IsTailOf, NoneEnds}
+use Rattle.amqp_link_payloads.specs.Position.{starts, place}
+use Rattle.amqp_link_payloads.specs.Scan.{Keeps}
+use Rattle.amqp_link_payloads.specs.Seek.{HasSought, Seeks}
+use Rattle.amqp_link_payloads.specs.Tail.{EndsAt, blanked}
 use Rattle.amqp_link_payloads.specs.declared.position.places.Seek.{Seek}
-use Rattle.amqp_link_payloads.proofs.StartsLemmas.{starts_new, starts_old, start_header, start_within, kept_at}
-use Rattle.amqp_link_payloads.proofs.PositionLemmas.{starts_passed}
+use Rattle.amqp_link_payloads.proofs.StartsLemmas.{starts_new, start_header, start_within, kept_at, blanked_length}
+use Rattle.amqp_link_payloads.proofs.BlankLemmas.{place_blanked}
+use Rattle.amqp_link_payloads.proofs.ScanLemmas.{kept_at_once}
 
 -- ---- a list that grew by one
 
@@ -67,102 +69,80 @@ end_appended F b n k grown at =
 -- ---- more bytes
 
 -- bytes that bring no start
-sought_same : (s t : Seek) (F G : List ℕ) → HasSought s F → starts (F ++ G) ≡ starts F → IsTailOf t.tail (F ++ G)
-    → t.number ≡ s.number → t.length ≡ s.length + length G → t.seen ≡ s.seen → t.start ≡ s.start → t.end ≡ s.end
-    → HasSought t (F ++ G)
-sought_same s t F G has same tail number len seen start end = record {
-  length_is = omega (arith, has.length_is, length-append F G);
-  seen_is = ap (λ k. k + 1) seen ∙ has.seen_is ∙ ap length (sym same);
-  start_is = start ∙ has.start_is ∙ ap (λ xs. slice_get xs s.number) (sym same) ∙ ap (slice_get (starts (F ++ G))) (sym number);
-  end_is = end ∙ has.end_is ∙ ap (header_end F) (add-one s.number) ∙ sym (end_stays F G s.number same)
-      ∙ ap (header_end (F ++ G)) (sym (add-one s.number) ∙ ap (λ k. k + 1) (sym number));
-  tail_is = tail;
+pub sought_passed : (number : ℕ) (s : Seek) (F xs : List ℕ) (at : ℕ) → (length F < 2 ^ 64 → HasSought number s F at)
+    → starts (F ++ xs) ≡ starts F → length (F ++ xs) < 2 ^ 64 → HasSought number s (F ++ xs) (at + length xs)
+sought_passed number s F xs at sought same fits =
+    let has : HasSought number s F at = sought (omega (arith, fits, length-append F xs)) in
+    record {
+      number_is = has.number_is;
+      length_is = omega (arith, has.length_is, length-append F xs);
+      seen_within = omega (arith, has.seen_within, length-append F xs);
+      seen_is = has.seen_is ∙ ap length (sym same);
+      start_is = has.start_is ∙ ap (λ ys. slice_get ys number) (sym same);
+      end_is = has.end_is ∙ ap (header_end F) (add-one number) ∙ sym (end_stays F xs number same)
+          ∙ ap (header_end (F ++ xs)) (sym (add-one number));
+    }
+
+-- a byte in which a start's header ends
+pub sought_new : (number : ℕ) (s t : Seek) (F : List ℕ) (b n h at : ℕ) → HasSought number s F at → 1 ≤ n
+    → EndsAt (F ++ b ∷ []) n → n + h ≡ length F + 1 → t.number ≡ s.number → t.before ≡ s.before → t.seen ≡ s.seen + 1
+    → t.start ≡ cond (nat_eq (s.seen + 1) s.number) (Some (s.before + (at + 1) - h)) s.start
+    → t.end ≡ cond (nat_eq (s.seen + 1) (s.number + 1)) (Some (s.before + (at + 1))) s.end
+    → HasSought number t (F ++ b ∷ []) (at + 1)
+sought_new number s t F b n h at has pos ends size same len seen start end =
+    let grown : starts (F ++ b ∷ []) ≡ starts F ++ n ∷ [] = starts_new F b n pos ends in
+    let place : s.before + (at + 1) - h ≡ n = omega (arith, has.length_is, size) in
+    let past : s.before + (at + 1) ≡ length F + 1 = omega (arith, has.length_is) in
+    record {
+      number_is = same ∙ has.number_is;
+      length_is = omega (arith, has.length_is, len, length_push F b);
+      seen_within = omega (arith, has.seen_within, seen, length_push F b);
+      seen_is = omega (arith, has.seen_is, seen, ap length grown, length_push (starts F) n);
+      start_is = start ∙ ap (λ k. cond (nat_eq (s.seen + 1) k) (Some (s.before + (at + 1) - h)) s.start) has.number_is
+          ∙ ap (λ k. cond (nat_eq k number) (Some (s.before + (at + 1) - h)) s.start) has.seen_is
+          ∙ ap (λ i. cond (nat_eq (length (starts F)) number) (Some i) s.start) place
+          ∙ ap (λ o. cond (nat_eq (length (starts F)) number) (Some n) o) has.start_is
+          ∙ sym (start_appended (starts F) n number)
+          ∙ ap (λ xs. slice_get xs number) (sym grown);
+      end_is = end ∙ ap (λ k. cond (nat_eq (s.seen + 1) (k + 1)) (Some (s.before + (at + 1))) s.end) has.number_is
+          ∙ ap (λ k. cond (nat_eq k (number + 1)) (Some (s.before + (at + 1))) s.end) has.seen_is
+          ∙ ap (λ i. cond (nat_eq (length (starts F)) (number + 1)) (Some i) s.end) past
+          ∙ ap (λ o. cond (nat_eq (length (starts F)) (number + 1)) (Some (length F + 1)) o) has.end_is
+          ∙ ap (λ k. cond (nat_eq (length (starts F)) k) (Some (length F + 1)) (header_end F k)) (add-one number)
+          ∙ sym (end_appended F b n number grown ends)
+          ∙ ap (header_end (F ++ b ∷ [])) (sym (add-one number));
+    }
+
+-- the end of a piece
+pub sought_after : (number : ℕ) (s t : Seek) (F : List ℕ) (n : ℕ) → HasSought number s F n → t.number ≡ s.number
+    → t.before ≡ s.before + n → t.seen ≡ s.seen → t.start ≡ s.start → t.end ≡ s.end → HasSought number t F 0
+sought_after number s t F n has same before seen start end = record {
+  number_is = same ∙ has.number_is;
+  length_is = omega (arith, has.length_is, before);
+  seen_within = omega (arith, has.seen_within, seen);
+  seen_is = ap (λ k. k + 1) seen ∙ has.seen_is;
+  start_is = start ∙ has.start_is;
+  end_is = end ∙ has.end_is;
 }
 
--- a block in which no header ends
-pub sought_block : (s t : Seek) (F xs : List ℕ) → HasSought s F → NoneEnds F xs → IsTailOf t.tail (F ++ xs)
-    → t.number ≡ s.number → t.length ≡ s.length + length xs → t.seen ≡ s.seen → t.start ≡ s.start → t.end ≡ s.end
-    → HasSought t (F ++ xs)
-sought_block s t F xs has none tail number len seen start end =
-    sought_same s t F xs has (starts_passed F xs none) tail number len seen start end
-
--- whether the header of length h that ends in the new byte is a start
-abbrev pub is_start : ℕ → ℕ → Bool
-is_start h n = ltb 0 h && ltb h n
-
-pub sought_new : (s t : Seek) (F : List ℕ) (b h : ℕ) → HasSought s F → EndsIn (F ++ b ∷ []) h → IsTailOf t.tail (F ++ b ∷ [])
-    → is_start h (s.length + 1) ≡ true → t.number ≡ s.number → t.length ≡ s.length + 1 → t.seen ≡ s.seen + 1
-    → t.start ≡ cond (nat_eq (s.seen + 1) s.number) (Some (s.length + 1 - h)) s.start
-    → t.end ≡ cond (nat_eq (s.seen + 1) (s.number + 1)) (Some (s.length + 1)) s.end
-    → HasSought t (F ++ b ∷ [])
-sought_new s t F b h has ends tail is number len seen start end =
-    let both = and_parts (ltb 0 h) (ltb h (s.length + 1)) is in
-    let some : 0 < h = ltb-true 0 h both.0 in
-    let short : h < s.length + 1 = ltb-true h (s.length + 1) both.1 in
-    let found = ends.some some in
-    let n : ℕ = found.0 in
-    let at : EndsAt (F ++ b ∷ []) n = found.1 in
-    let size : length (F ++ b ∷ []) ≡ length F + 1 = length_push F b in
-    let head : header_len (drop n (F ++ b ∷ [])) ≡ h = ends.same n at in
-    let place : s.length + 1 - h ≡ n = omega (arith, has.length_is, at.ends) in
-    let pos : 1 ≤ n = omega (arith, has.length_is, at.ends) in
-    let grown : starts (F ++ b ∷ []) ≡ starts F ++ n ∷ [] = starts_new F b n pos at in
-    record {
-      length_is = omega (arith, has.length_is);
-      seen_is = seen_grown s t F n (starts (F ++ b ∷ [])) has.seen_is seen grown;
-      start_is = start ∙ ap (λ k. cond (nat_eq k s.number) (Some (s.length + 1 - h)) s.start) has.seen_is
-          ∙ ap (λ i. cond (nat_eq (length (starts F)) s.number) (Some i) s.start) place
-          ∙ ap (λ o. cond (nat_eq (length (starts F)) s.number) (Some n) o) has.start_is
-          ∙ sym (start_appended (starts F) n s.number)
-          ∙ ap (λ xs. slice_get xs s.number) (sym grown) ∙ ap (slice_get (starts (F ++ b ∷ []))) (sym number);
-      end_is = end ∙ ap (λ k. cond (nat_eq k (s.number + 1)) (Some (s.length + 1)) s.end) has.seen_is
-          ∙ ap (λ i. cond (nat_eq (length (starts F)) (s.number + 1)) (Some i) s.end) (ap (λ i. i + 1) has.length_is)
-          ∙ ap (λ o. cond (nat_eq (length (starts F)) (s.number + 1)) (Some (length F + 1)) o) has.end_is
-          ∙ ap (λ k. cond (nat_eq (length (starts F)) k) (Some (length F + 1)) (header_end F k)) (add-one s.number)
-          ∙ sym (end_appended F b n s.number grown at)
-          ∙ ap (header_end (F ++ b ∷ [])) (sym (add-one s.number) ∙ ap (λ k. k + 1) (sym number));
-      tail_is = tail;
-    }
-  where
-    seen_grown : (s t : Seek) (F : List ℕ) (n : ℕ) (xs : List ℕ) → s.seen + 1 ≡ length (starts F) → t.seen ≡ s.seen + 1
-        → xs ≡ starts F ++ n ∷ [] → t.seen + 1 ≡ length xs
-    seen_grown s t F n xs is seen grown = omega (arith, ap length grown, length_push (starts F) n)
-
-pub sought_old : (s t : Seek) (F : List ℕ) (b h : ℕ) → HasSought s F → EndsIn (F ++ b ∷ []) h → IsTailOf t.tail (F ++ b ∷ [])
-    → is_start h (s.length + 1) ≡ false → t.number ≡ s.number → t.length ≡ s.length + 1 → t.seen ≡ s.seen
-    → t.start ≡ s.start → t.end ≡ s.end → HasSought t (F ++ b ∷ [])
-sought_old s t F b h has ends tail is number len seen start end =
-    let size : length (F ++ b ∷ []) ≡ length F + 1 = length_push F b in
-    let same : starts (F ++ b ∷ []) ≡ starts F
-    = starts_old F b (λ n pos at. elim (and_cases (ltb 0 h) (ltb h (s.length + 1)) is) [
-      | inl none ↦ omega (arith, ltb-false 0 h none, ends.same n at, at.whole)
-      | inr long ↦ omega (arith, ltb-false h (s.length + 1) long, ends.same n at, at.ends, has.length_is)
-    ]) in
-    sought_same s t F (b ∷ []) has same tail number len seen start end
-
-pub sought_more : (s t : Seek) (F : List ℕ) (b h : ℕ) (is : Bool) → HasSought s F → EndsIn (F ++ b ∷ []) h → IsTailOf t.tail (F ++ b ∷ [])
-    → is ≡ is_start h (s.length + 1) → t.number ≡ s.number → t.length ≡ s.length + 1 → t.seen ≡ cond is (s.seen + 1) s.seen
-    → t.start ≡ cond (is && nat_eq t.seen s.number) (Some (s.length + 1 - h)) s.start
-    → t.end ≡ cond (is && nat_eq t.seen (s.number + 1)) (Some (s.length + 1)) s.end
-    → HasSought t (F ++ b ∷ [])
-sought_more s t F b h true has ends tail is number len seen start end =
-    sought_new s t F b h has ends tail (sym is) number len seen
-    (start ∙ ap (λ k. cond (nat_eq k s.number) (Some (s.length + 1 - h)) s.start) seen)
-    (end ∙ ap (λ k. cond (nat_eq k (s.number + 1)) (Some (s.length + 1)) s.end) seen)
-sought_more s t F b h false has ends tail is number len seen start end =
-    sought_old s t F b h has ends tail (sym is) number len seen start end
-
-pub nothing_sought : (s : Seek) → s.length ≡ 0 → s.seen ≡ 0 → s.start ≡ cond (nat_eq s.number 0) (Some 0) None → s.end ≡ None
-    → IsTailOf s.tail [] → HasSought s []
+pub nothing_sought : (s : Seek) → s.before ≡ 0 → s.seen ≡ 0 → s.start ≡ cond (nat_eq s.number 0) (Some 0) None → s.end ≡ None
+    → HasSought s.number s [] 0
 unfolding starts
-nothing_sought s len seen start end tail = record {
-  length_is = len;
+nothing_sought s len seen start end = record {
+  number_is = refl;
+  length_is = omega arith;
+  seen_within = omega arith;
   seen_is = omega arith;
   start_is = start ∙ first s.number;
   end_is = end ∙ ap (header_end []) (sym (add-one s.number));
-  tail_is = tail;
 }
   where
     first : (k : ℕ) → cond {A = Option ℕ} (nat_eq k 0) (Some 0) None ≡ slice_get (0 ∷ []) k
     first zero = refl
     first (suc k) = ap (λ b. cond {A = Option ℕ} b (Some 0) None) (ne_eqb (suc k) 0 (λ e. omega arith))
+
+-- the place of an offset in the joined bytes, of which the first is blank
+pub place_sought : (number o : ℕ) (s : Seek) (F : List ℕ) (found : Option ℕ) → length F < 2 ^ 64 → Keeps (Seeks number) s (blanked F) 0
+    → ((k : ℕ) (G : List ℕ) → HasSought k s G 0 → found ≡ place G k o) → found ≡ place F number o
+place_sought number o s F found fits keeps is =
+    is number (blanked F) (kept_at_once (Seeks number) s (blanked F) 0 keeps (omega (arith, fits, blanked_length F))) ∙ place_blanked F number o

@@ -6,7 +6,7 @@ use Rattle.std.proofs.lemmas.List.{drop-append-le, drop-drop, length_push}
 use Rattle.std.proofs.lemmas.List.Elements.{All-get_or, filter_passes}
 use Rattle.amqp_link_payloads.specs.Header.{header_len}
 use Rattle.amqp_link_payloads.specs.Position.{is_header_at, starts}
-use Rattle.amqp_link_payloads.specs.Tail.{EndsAt}
+use Rattle.amqp_link_payloads.specs.Tail.{EndsAt, blanked}
 use Rattle.amqp_link_payloads.proofs.HeaderLemmas.{header_whole, header_more, header_front, headers_apart}
 
 -- ---- filters of a range
@@ -173,6 +173,26 @@ starts_old F b none =
     ∙ filter_last (is_header_at (F ++ b ∷ [])) 1 (length F) (test_same _ _ last)
     ∙ filter_same (is_header_at (F ++ b ∷ [])) (is_header_at F) 1 (length F)
     (λ i lo hi. test_same _ _ (same_header F b i (omega arith) (none i lo))))
+
+-- ---- another first byte
+
+pub blanked_length : (P : List ℕ) → length (blanked P) ≡ length P
+blanked_length [] = refl
+blanked_length (x ∷ P) = refl
+
+pub drop_blanked : (P : List ℕ) (i : ℕ) → 1 ≤ i → drop i (blanked P) ≡ drop i P
+drop_blanked [] i pos = refl
+drop_blanked (x ∷ P) zero pos = absurd (omega arith)
+drop_blanked (x ∷ P) (suc i) pos = refl
+
+-- the starts do not see the first byte
+pub starts_blanked : (P : List ℕ) → starts (blanked P) ≡ starts P
+unfolding starts
+starts_blanked P =
+    ap (λ t. 0 ∷ t)
+    (ap (λ k. filter (is_header_at (blanked P)) (range_with_len 1 k)) (blanked_length P)
+    ∙ filter_same (is_header_at (blanked P)) (is_header_at P) 1 (length P)
+    (λ i lo hi. ap (λ xs. ltb 0 (header_len xs)) (drop_blanked P i lo)))
 
 -- there is a first start, and the last is 0 or a header
 pub starts_some : (P : List ℕ) → 0 < length (starts P)

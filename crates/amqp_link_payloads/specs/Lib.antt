@@ -1,9 +1,9 @@
+pub mod Counts
 pub mod Header
 pub mod Places
 pub mod Position
 pub mod Scan
 pub mod Section
-pub mod SectionCounts
 pub mod Sections
 pub mod Seek
 pub mod Tail

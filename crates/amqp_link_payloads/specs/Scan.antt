@@ -1,15 +1,14 @@
--- What a scan keeps of the bytes that it has read.
-use Rattle.std.specs.Prelude.{ℕ, List, ◌≡◌, ◌^◌, nat_lt, Option, Some, None, if◌then◌else◌}
-use Rattle.amqp_link_payloads.specs.declared.position.Scan.{Scan}
-use Rattle.amqp_link_payloads.specs.Position.{position}
-use Rattle.amqp_link_payloads.specs.Tail.{IsTailOf}
+-- What a scan keeps of the bytes that it reads.
+use Rattle.std.specs.Prelude.{ℕ, List, ◌≡◌, ◌+◌, ◌++◌, length, drop, take, get_or}
+use Rattle.amqp_link_payloads.specs.Position.{starts}
+use Rattle.amqp_link_payloads.specs.Tail.{recent}
 
--- n, if it is below the bound
-abbrev pub number_below : ℕ → ℕ → Option ℕ
-number_below bound n = if nat_lt n bound then Some n else None
+-- What s has of F, of which the last n bytes are of the piece that is read, it has while bytes follow that bring no
+-- start.
+abbrev pub Keeps : {S : Type 0} → (S → List ℕ → ℕ → Type 0) → S → List ℕ → ℕ → Type 0
+Keeps has s F n = (xs : List ℕ) → starts (F ++ xs) ≡ starts F → has s (F ++ xs) (n + length xs)
 
--- the scan has read F
-pub record HasSeen (s : Scan) (F : List ℕ) : Type 0 where
-  pub number_is : s.number ≡ number_below (2 ^ 32) (position F).0
-  pub distance_is : s.distance ≡ number_below (2 ^ 64) (position F).1
-  pub tail_is : IsTailOf s.tail F
+-- the first nine of these bytes are the last of F, and the others follow them; the first byte of all is blank
+pub record IsNext (F bytes : List ℕ) : Type 0 where
+  pub last : take 9 bytes ≡ recent 9 F
+  pub blank : get_or (F ++ drop 9 bytes) 0 0xff ≡ 0xff

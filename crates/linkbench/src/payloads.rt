@@ -12,8 +12,10 @@ pub enum Kind {
     Random,
     /// Nothing but zeros.
     Zeros,
-    /// Section headers, one after the other.
+    /// Section headers with a code of one byte, one after the other.
     Headers,
+    /// Those with a code of eight bytes.
+    LongHeaders,
 }
 
 /// A payload of this kind and length.
@@ -70,6 +72,7 @@ fn byte_of(kind: Kind, seed: u64, at: usize) -> u8 {
         Kind::Random => high,
         Kind::Zeros => 0,
         Kind::Headers => header_byte(at),
+        Kind::LongHeaders => long_header_byte(at),
     }
 }
 
@@ -79,5 +82,14 @@ fn header_byte(at: usize) -> u8 {
         0 => 0x00,
         1 => 0x53,
         _ => 0x75,
+    }
+}
+
+// The same with a code of eight bytes.
+fn long_header_byte(at: usize) -> u8 {
+    match at % 10 {
+        1 => 0x80,
+        9 => 0x75,
+        _ => 0x00,
     }
 }

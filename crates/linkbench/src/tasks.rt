@@ -66,6 +66,7 @@ impl Task {
             Task::Scan(Kind::Random) => "scan random bytes",
             Task::Scan(Kind::Zeros) => "scan zeros",
             Task::Scan(Kind::Headers) => "scan headers",
+            Task::Scan(Kind::LongHeaders) => "scan long headers",
             Task::Position => "position_of text",
             Task::Deliver => "send, receive, settle",
             Task::Resolve => "on_incoming_disposition",
@@ -152,7 +153,7 @@ impl Task {
 }
 
 /// All works, in the order in which they are printed.
-pub fn all() -> [Task; 15] {
+pub fn all() -> [Task; 16] {
     [
         Task::Split,
         Task::Merge,
@@ -161,6 +162,7 @@ pub fn all() -> [Task; 15] {
         Task::Scan(Kind::Random),
         Task::Scan(Kind::Zeros),
         Task::Scan(Kind::Headers),
+        Task::Scan(Kind::LongHeaders),
         Task::Position,
         Task::Deliver,
         Task::Resolve,

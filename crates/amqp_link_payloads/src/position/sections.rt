@@ -1,14 +1,17 @@
 //! The sections of bytes that arrive in pieces (3.4.1).
-ghost use Rattle.std.specs.Prelude.{◌≡◌, ◌^◌, ◌<◌, ◌≤◌, ◌++◌, [], ℕ, List, length, true, false, IfSome, MatchOption};
+ghost use Rattle.std.specs.Prelude.{◌≡◌, ◌<◌, ◌^◌, ◌++◌, [], ℕ, List, length, true, false, IfSome, MatchOption};
 
-use crate::position::section_counts::SectionCounts;
+use crate::position::counts::Counts;
+use crate::position::scan::Tail;
 
 /// The sections of the pieces that were read so far: a position is kept as the bytes arrive.
 #[derive(Clone, Copy, Debug)]
 pub struct Sections {
-    counts: SectionCounts,
+    number: u32,
+    offset: u64,
+    tail: Tail,
     length: u64,
-    ghost inside: { counts.offset ≤ length },
+    ghost number_fits: { number < 2 ^ 32 },
     ghost length_fits: { length < 2 ^ 64 },
 }
 
@@ -21,7 +24,9 @@ impl Sections {
         ensures { HasRead result [] }
     {
         Sections {
-            counts: SectionCounts::new(),
+            number: 0,
+            offset: 0,
+            tail: Tail::new(),
             length: 0,
         }
     }
@@ -34,13 +39,15 @@ impl Sections {
         ensures refused { (F : List ℕ) → HasRead self F
             → MatchOption result (is_too_long (F ++ piece.now) ≡ true) (λ next. is_too_long (F ++ piece.now) ≡ false) }
     {
-        let Some(length) = self.length.checked_add(piece.len() as u64) else {
-            return None;
-        };
-        let Some(counts) = self.counts.read(piece) else {
-            return None;
-        };
-        Some(Sections { counts, length })
+        let length = self.length.checked_add(piece.len() as u64)?;
+        let before = Counts::new(Some(self.number), Some(self.offset));
+        let (tail, counts) = self.tail.read(before, piece);
+        Some(Sections {
+            number: counts.number?,
+            offset: counts.offset?,
+            tail,
+            length,
+        })
     }
 
     /// The position of the end of all pieces: the section's number, counted from 0, and the bytes since its
@@ -48,7 +55,7 @@ impl Sections {
     pub fn position(self) -> (u32, u64)
         ensures { (F : List ℕ) → HasRead self F → result ≡ position F }
     {
-        (self.counts.number, self.counts.offset)
+        (self.number, self.offset)
     }
 
     /// The number of bytes in all pieces.

@@ -1,6 +1,0 @@
-use Rattle.std.proofs.Common.{refl}
-use Rattle.amqp_link_payloads.proofs.TailLemmas.{nothing_read}
-use Rattle.amqp_link_payloads.proofs.position.header.Tail.new.Goals as goal
-
-pub returns : goal.returns
-returns c = nothing_read _ refl
