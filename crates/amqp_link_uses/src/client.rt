@@ -11,7 +11,8 @@ ghost use Rattle.amqp_link.specs.Ending.{does_end};
 ghost use Rattle.amqp_link.specs.Entries.{entry_at, with_entry};
 ghost use Rattle.amqp_link.specs.Frames.{payload_of};
 ghost use Rattle.amqp_link.specs.AttachSent.{IsTooLarge, SendsAttach};
-ghost use Rattle.amqp_link.specs.SenderAttaches.{sender_attached, sender_left, sender_refusal, sender_shown, sender_taken};
+ghost use Rattle.amqp_link.specs.SenderAttaches.{sender_attached, sender_left, sender_refusal, sender_shown, sender_taken, sender_taking_allocates};
+ghost use Rattle.amqp_link.specs.SenderDisposes.{is_echoed};
 ghost use Rattle.amqp_link.specs.Senders.{delivery_of, new_entry, payload_tests};
 ghost use Rattle.amqp_link.specs.Targets.{plain_target};
 ghost use Rattle.amqp_link.specs.Termini.{sender_refuses_target};
@@ -95,6 +96,9 @@ impl Opening {
             ⊎ IsSomeAnd (sender_refusal plain_target (λ own theirs. sender_refuses_target theirs) self.link attach)
             (λ error. refused ≡ attach_failed error (sender_left plain_target
             (λ own theirs. sender_refuses_target theirs) error self.link attach))) }
+        ensures memory { IfErr result (λ refused. refused.0 ≡ SenderAttachError.OutOfMemory
+            → (sender_taking_allocates self.link attach ≡ true)
+            ⊎ IsSome (sender_refusal plain_target (λ own theirs. sender_refuses_target theirs) self.link attach)) }
     {
         match self.link.on_incoming_attach(attach) {
             Ok(exchange) => {
@@ -171,7 +175,7 @@ impl Client {
 
     /// Takes the server's disposition of a delivery. It has the outcome of the request, if the disposition gives it one:
     /// each outcome is returned once, whatever arrives later. If `echo` is set, the server waits for an answer, a
-    /// disposition that settles the delivery: `link.dispose` makes it.
+    /// disposition that settles the delivery: `link.dispose` makes it. A disposition of another delivery changes nothing.
     pub fn on_disposition(
         &mut self,
         settled: bool,
@@ -179,6 +183,10 @@ impl Client {
         tag: &DeliveryTag,
     ) -> DispositionAnswer
         ensures once { IsSome result.outcome → (self.old.request ≡ Some tag.now) × (self.new.request ≡ None) }
+        ensures other { (self.old.request ≡ Some tag.now → ⊥)
+            → (result ≡ record { echo = false; outcome = None }) × (self.new ≡ self.old) }
+        ensures echo { self.old.request ≡ Some tag.now
+            → result.echo ≡ is_echoed settled self.old.link.rcv_settle_mode }
         ensures ended { self.old.request ≡ Some tag.now → IsSome (entry_at self.old.link.unsettled tag.now)
             → does_end settled state ≡ true → result.outcome ≡ Some (tag.now, Ok state) }
     {

@@ -2,15 +2,25 @@
 //!
 //! It keeps a window open: once at most half of its credits are left, it states the whole window again. That flow and
 //! the transfers under way cross; whatever the sender has sent by then is covered by what the receiver has granted.
-ghost use Rattle.std.specs.Prelude.{◌≡◌, ◌≢◌, ◌≤◌, ◌/◌, ◌∷◌, Err, IfOk, OnOk, OnErr, MatchOption};
+ghost use Rattle.std.specs.Prelude.{◌≡◌, ◌≢◌, ◌<◌, ◌≤◌, ◌/◌, ◌∷◌, true, false, Ok, Err, IfOk, OnOk, OnErr, MatchOption};
+ghost use Rattle.amqp_link.specs.CreditCalls.{GrantsCredit, granting_tests};
 ghost use Rattle.amqp_link.specs.CreditWorlds.{IsCreditWorld, under_way};
+ghost use Rattle.amqp_link.specs.Refusals.{AnswersThenOutOfMemory};
 
 use amqp_link::{Arrival, CreditRun, CreditRunError, Delivery, LinkExt, Whole};
 
 /// States the whole window again, if at most half of its credits are left. Returns whether it did.
 ///
-/// A receiver whose credit is within the window is never refused with `LimitLowered`.
+/// Refused as `CreditRun::grant` is, with nothing changed. A receiver whose credit is within the window is never refused
+/// with `LimitLowered`.
 pub fn keep_open(run: &mut CreditRun, window: u32) -> Result<bool, CreditRunError>
+    ensures enough { window / 2 < run.old.receiver.flow_state.link_credit
+        → (result ≡ Ok false) × (run.new ≡ run.old) }
+    ensures stated { run.old.receiver.flow_state.link_credit ≤ window / 2
+        → IfOk result (λ did. (did ≡ true) × GrantsCredit run.old window false false run.new) }
+    ensures refused { run.old.receiver.flow_state.link_credit ≤ window / 2
+        → AnswersThenOutOfMemory CreditRunError.OutOfMemory result (granting_tests run.old window) }
+    ensures left { OnErr result (run.new ≡ run.old) }
     ensures open { OnOk result (window / 2 ≤ run.new.receiver.flow_state.link_credit) }
     ensures never_lowered { run.old.receiver.flow_state.link_credit ≤ window
         → result ≢ Err CreditRunError.LimitLowered }
