@@ -9,3 +9,5 @@ mod attached;
 mod incomplete_transfer;
 #[cfg(test)]
 mod positions_kept;
+#[cfg(test)]
+mod positions_searched;
