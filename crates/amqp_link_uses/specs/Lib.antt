@@ -5,3 +5,4 @@ pub mod Relays
 pub mod Sends
 pub mod Shorts
 pub mod Walks
+pub mod Windows

@@ -2,10 +2,11 @@
 //!
 //! It keeps a window open: once at most half of its credits are left, it states the whole window again. That flow and
 //! the transfers under way cross; whatever the sender has sent by then is covered by what the receiver has granted.
-ghost use Rattle.std.specs.Prelude.{◌≡◌, ◌≢◌, ◌<◌, ◌≤◌, ◌/◌, ◌∷◌, true, false, Ok, Err, IfOk, OnOk, OnErr, MatchOption};
+ghost use Rattle.std.specs.Prelude.{◌≡◌, ◌≢◌, ◌<◌, ◌≤◌, ◌/◌, ◌∷◌, true, false, None, Ok, Err, IfOk, IsErrOf, OnOk, OnErr, MatchOption};
 ghost use Rattle.amqp_link.specs.CreditCalls.{GrantsCredit, granting_tests};
 ghost use Rattle.amqp_link.specs.CreditWorlds.{IsCreditWorld, under_way};
-ghost use Rattle.amqp_link.specs.Refusals.{AnswersThenOutOfMemory};
+ghost use Rattle.amqp_link_uses.specs.Windows.{taking_tests, window_tests};
+ghost use Rattle.amqp_link.specs.Refusals.{AnswersOrOutOfMemory, AnswersThenOutOfMemory, refusal};
 
 use amqp_link::{Arrival, CreditRun, CreditRunError, Delivery, LinkExt, Whole};
 
@@ -35,7 +36,10 @@ pub fn keep_open(run: &mut CreditRun, window: u32) -> Result<bool, CreditRunErro
 }
 
 /// Keeps the window open, and takes the next frame under way. Returns the delivery that it completes, if it does: the
-/// first of those under way. If that frame is refused, the window may have been stated again.
+/// first of those under way.
+///
+/// Refused as `keep_open` is, then with `QueueEmpty` if no frame is under way; out of memory may come before that, and not
+/// before the refusals of `keep_open`. If the frame is refused, the window may have been stated again.
 pub fn take_next(
     run: &mut CreditRun,
     id: u32,
@@ -45,6 +49,8 @@ pub fn take_next(
         (under_way run.new ≡ under_way run.old)
         (λ delivery. under_way run.old
         ≡ (delivery.info.delivery_tag, delivery.message.body.0) ∷ under_way run.new)) }
+    ensures refused { AnswersOrOutOfMemory CreditRunError.OutOfMemory result (taking_tests run.old window) }
+    ensures memory { IsErrOf result CreditRunError.OutOfMemory → refusal (window_tests run.old window) ≡ None }
     ensures left { OnErr result (under_way run.new ≡ under_way run.old) }
     ensures kept { IsCreditWorld run.new }
 {
