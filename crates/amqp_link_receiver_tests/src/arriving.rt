@@ -229,6 +229,35 @@ fn state_arrives(
     is_taken
 }
 
+// An aborted transfer of this delivery arrives: whether its entry was there, and the one afterwards.
+fn abort_arrives(
+    rt: &(impl Abort + AllocGlobal),
+    link: &mut ReceiverLink<Target>,
+    byte: u8,
+) -> (bool, Kept) {
+    let tag = tag_of(rt, byte);
+    let is_known = link.on_aborted(&tag);
+    drop(tag);
+    (is_known, kept(rt, link, byte))
+}
+
+// Of two deliveries that have begun the aborted one is forgotten, once.
+#[test]
+fn aborted_delivery_is_forgotten(rt: HostRuntime) {
+    let mut link = link_of(&rt, parts(&rt));
+    let first = after_front(&rt, &mut link, (0, 5));
+    let second = front_arrives(&rt, &mut link, 2, (1, 2));
+    let aborted = [
+        abort_arrives(&rt, &mut link, 1),
+        abort_arrives(&rt, &mut link, 1),
+    ];
+    let other = kept(&rt, &link, 2);
+    drop(link);
+    assert_equal(&rt, &(first.0, second), &(true, true));
+    assert_equal(&rt, &aborted, &[(true, None), (false, None)]);
+    assert_equal(&rt, &other, &Some(Some((1, 2))));
+}
+
 // Delivery 2 is accepted, and stays so; delivery 1 is received, and then settled.
 #[test]
 fn entries_follow_what_arrives(rt: HostRuntime) {

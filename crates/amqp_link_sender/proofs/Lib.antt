@@ -1,1 +1,3 @@
+pub mod AbortLemmas
+pub mod AttachLemmas
 pub mod SendRefusals

@@ -5,6 +5,7 @@ use Rattle.std.specs.Int.{w32, to_be_bytes}
 use Rattle.std.specs.Option.{option_map_or}
 use Rattle.amqp_link_types.specs.declared.types.errors.LinkStateError.{LinkStateError}
 use Rattle.amqp_link_types.specs.declared.types.errors.LinkStateError.TheVariants as error
+use Rattle.amqp_link_types.specs.declared.types.definitions.InputHandle.{InputHandle}
 use Rattle.amqp_link_types.specs.declared.types.definitions.OutputHandle.{OutputHandle}
 use Rattle.amqp_link_types.specs.declared.types.definitions.SenderSettleMode.{SenderSettleMode}
 use Rattle.amqp_link_types.specs.declared.types.definitions.SenderSettleMode.TheVariants as mode
@@ -14,11 +15,12 @@ use Rattle.amqp_link_types.specs.declared.delivery.Settlement.{Settlement}
 use Rattle.amqp_link_types.specs.declared.delivery.Settlement.TheVariants as settlement
 use Rattle.amqp_link_types.specs.declared.delivery.UnsettledMessage.{UnsettledMessage}
 use Rattle.amqp_link_types.specs.declared.frame.LinkFrame.{LinkFrame}
+use Rattle.amqp_link_types.specs.declared.frame.LinkFrame.TheVariants.{FirstTransfer}
 use Rattle.amqp_link_sender.specs.declared.sender_link.Sending.{Sending}
 use Rattle.amqp_link_sender.specs.declared.sender_link.Sending.TheVariants as sending
 use Rattle.amqp_link_state.specs.Counts.{after_consuming}
 use Rattle.amqp_link_types.specs.Entries.{Tag, Entries, with_entry, entry_at}
-use Rattle.amqp_link_types.specs.Frames.{payload_of, AreFramesOf}
+use Rattle.amqp_link_types.specs.Frames.{payload_of, silent, AreFramesOf}
 use Rattle.amqp_link_types.specs.Refusals.{refusal}
 use Rattle.amqp_link_state.specs.declared.role.SenderMarker.{SenderMarker}
 use Rattle.amqp_link_endpoint.specs.declared.link_parts.LinkParts.{LinkParts}
@@ -192,6 +194,37 @@ unsettled_transfer_tests s t tag payload =
     (is_none s.input_handle, error.IllegalState)
     ∷ (is_pending s tag, error.TagPending)
     ∷ (not (has_room t s.max_frame_size payload), error.NoRoom)
+    ∷ []
+
+-- ---- a delivery that was withdrawn, and of which the receiver still holds a front
+
+-- the transfer that aborts it at an output handle
+abbrev pub abort_transfer : OutputHandle → Tag → ℕ → Transfer
+abort_transfer handle tag message_format = record silent {
+  handle = record { 0 = handle.0 };
+  delivery_tag = Some tag;
+  message_format = Some message_format;
+  settled = Some true;
+  resume = true;
+  aborted = true;
+}
+
+-- its frame, which has no payload
+abbrev pub abort_frame : OutputHandle → InputHandle → Tag → ℕ → LinkFrame
+abort_frame output input tag message_format = FirstTransfer (record {
+  input_handle = input;
+  performative = abort_transfer output tag message_format;
+  payload = [];
+})
+
+-- the tests of an abort: both handles, a tag that is not pending, and room in a frame
+abbrev pub abort_tests : {T : Type 0} → Sender T → Tag → ℕ → List (Bool × LinkStateError)
+abort_tests s tag message_format =
+    let t = abort_transfer (unwrap_or s.output_handle (record { 0 = 0 })) tag message_format in
+    (is_none s.output_handle, error.IllegalState)
+    ∷ (is_none s.input_handle, error.IllegalState)
+    ∷ (is_pending s tag, error.TagPending)
+    ∷ (not (has_room t s.max_frame_size []), error.NoRoom)
     ∷ []
 
 -- A call that returns the entry if it is refused, by the first test that holds; out of memory comes only if

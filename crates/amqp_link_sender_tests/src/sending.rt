@@ -357,6 +357,38 @@ fn rest_of_a_delivery_is_sent(rt: HostRuntime) {
     assert_equal(&rt, &numbers, &(1, 0, 1));
 }
 
+// What the abort of delivery 7 shows at this frame limit, or why it is refused.
+fn abort_at(
+    rt: &(impl Abort + AllocGlobal),
+    limit: u32,
+) -> Result<(Option<Shown>, bool), LinkStateError> {
+    let mut link = link(rt, 30, 0);
+    set_limit(&mut link, limit);
+    let tag = tag_of(rt, 7);
+    let aborted = link.send_abort(&tag, 0).map(|frame| {
+        let is_aborted = frame
+            .as_transfer()
+            .is_some_and(|transfer| transfer.performative.aborted);
+        let shown = shown_at(Some(&frame));
+        drop(frame);
+        (shown, is_aborted)
+    });
+    drop((tag, link));
+    aborted
+}
+
+// It has 25 bytes behind the four of the frame header, and needs no credit.
+#[test]
+fn abort_fits_29_bytes(rt: HostRuntime) {
+    let wanted = Shown {
+        resume: true,
+        settled: Some(true),
+        ..first_with(0, false)
+    };
+    assert_equal(&rt, &abort_at(&rt, 29), &Ok((Some(wanted), true)));
+    assert_equal(&rt, &abort_at(&rt, 28), &Err(LinkStateError::NoRoom));
+}
+
 // A detach that closes the link arrives while a payload is to be sent: the credit is kept.
 #[test]
 fn waiting_detach_is_recorded(rt: HostRuntime) {

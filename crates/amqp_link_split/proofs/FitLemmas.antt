@@ -65,7 +65,7 @@ further_len t more = listed _ _ (kept _ _ _ (
     left_out bool_len t.settled _ _ some_bool (
     marked more _ _ (left_out mode_len t.rcv_settle_mode _ _ some_mode (omega arith))))))))
 
-frame_fits : (handle : InputHandle) (t : Transfer) (i n : ℕ) (p : List ℕ) → transfer_len (outgoing (frame_of handle t i n p)) ≤ worst t
+pub frame_fits : (handle : InputHandle) (t : Transfer) (i n : ℕ) (p : List ℕ) → transfer_len (outgoing (frame_of handle t i n p)) ≤ worst t
 frame_fits handle t i n p =
     let more : Bool = nat_lt (i + 1) n in
     elim (i == 0) as (λ b. transfer_len (outgoing (if b then first_with handle t more p else further_with handle (cleared t) more p)) ≤ worst t) [

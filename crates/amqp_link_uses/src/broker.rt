@@ -227,10 +227,10 @@ fn forget(
     ensures begun { begun.new ≡ None }
 {
     if let Some(held) = begun.take() {
-        link.on_incoming_disposition(true, None, held.delivery_tag());
+        link.on_aborted(held.delivery_tag());
         drop(held);
     } else if let Some(tag) = tag {
-        link.on_incoming_disposition(true, None, tag);
+        link.on_aborted(tag);
     }
 }
 

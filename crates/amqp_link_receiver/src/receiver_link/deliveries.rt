@@ -1,7 +1,7 @@
 //! Transfers that arrive at a receiver, and the entries of their deliveries (2.6.12, 2.7.5).
-ghost use Rattle.std.specs.Prelude.{◌≡◌, false, not, None, Some, IfOk, IfErr, IsSome, IsSomeAnd};
+ghost use Rattle.std.specs.Prelude.{◌≡◌, false, is_some, not, None, Some, IfOk, IfErr, IsSome, IsSomeAnd};
 ghost use Rattle.std.specs.Prelude.{⊤, OnOk, OnErr, MatchOption, unwrap_or};
-ghost use Rattle.amqp_link_types.specs.Entries.{entry_at, with_entry};
+ghost use Rattle.amqp_link_types.specs.Entries.{entry_at, with_entry, without_entry};
 ghost use Rattle.amqp_link_receiver.specs.ReceiverDeliveries.{frame_come, number_and_tag, session_record};
 ghost use Rattle.amqp_link_receiver.specs.ReceiverDeliveries.{with_kept_state, after_state};
 ghost use Rattle.amqp_link_receiver.specs.ReceiverDeliveries;
@@ -128,6 +128,21 @@ impl<T: LinkTarget> ReceiverLink<T> {
             section_offset,
         };
         self.keep(delivery_tag, state)
+    }
+
+    /// Takes an aborted transfer of this delivery (2.7.5): its entry leaves the unsettled map, whose last entry moves
+    /// into the gap. Returns whether there was one. The caller drops what it holds of the delivery, and any payload of
+    /// this transfer. Spends no credit, and does not allocate.
+    pub fn on_aborted(&mut self, delivery_tag: &DeliveryTag) -> bool
+        ensures known { result ≡ is_some (entry_at self.old.unsettled delivery_tag.now) }
+        ensures after { self.new ≡ record self.old {
+          unsettled = without_entry self.old.unsettled delivery_tag.now;
+        } }
+    {
+        let entry = self.unsettled.remove(delivery_tag);
+        let is_known = entry.is_some();
+        drop(entry);
+        is_known
     }
 
     // Whether the delivery has a terminal state.

@@ -1,21 +1,42 @@
 //! Deliveries that are sent again or resumed, registered again without being sent, or withdrawn (2.6.13).
-ghost use Rattle.std.specs.Prelude.{◌≡◌, ◌<◌, ◌∷◌, [], None, Some, Ok, Err, IfOk, IfErr, OnOk, OnErr, MatchOption, length};
+ghost use Rattle.std.specs.Prelude.{◌≡◌, ◌<◌, ◌≤◌, ◌∷◌, [], None, Some, Ok, Err, IfOk, IfErr, IsErrOf, IsSomeAnd, OnOk, OnErr, MatchOption, length};
 ghost use Rattle.amqp_link_types.specs.Entries.{entry_at, with_entry, without_entry};
-ghost use Rattle.amqp_link_types.specs.Refusals.{AnswersExactly};
+ghost use Rattle.amqp_link_types.specs.Refusals.{AnswersExactly, AnswersThenOutOfMemory};
 ghost use Rattle.amqp_link_split.specs.Room;
-ghost use Rattle.amqp_link_split.specs.Fitting.{IsFitting};
+ghost use Rattle.amqp_link_split.specs.Fitting.{frame_len, IsFitting};
+ghost use Rattle.amqp_link_sender.specs.Senders.{abort_frame, abort_tests, abort_transfer};
 ghost use Rattle.amqp_link_sender.specs.Senders.{delivery_of, resuming_transfer, IsSent};
 ghost use Rattle.amqp_link_sender.specs.Senders.{is_pending, unsettled_transfer_tests, HandsBackThenOutOfMemory};
 
 use crate::sender_link::SenderLink;
 use amqp_link_endpoint::endpoint::target::LinkTarget;
-use amqp_link_split::room::payload_limit;
+use amqp_link_split::room::{payload_limit, payload_limit_with_tag};
 use amqp_link_split::split::frames;
 use amqp_link_types::delivery::UnsettledMessage;
-use amqp_link_types::frame::LinkFrame;
+use amqp_link_types::frame::{LinkFrame, LinkTransfer};
 use amqp_link_types::types::{
-    DeliveryState, DeliveryTag, InputHandle, LinkStateError, MessageFormat, Payload, Transfer,
+    DeliveryState, DeliveryTag, InputHandle, LinkStateError, MessageFormat, OutputHandle, Payload,
+    Transfer,
 };
+
+// The transfer that aborts a delivery, without its tag.
+fn abort_without_tag(handle: OutputHandle, message_format: MessageFormat) -> Transfer
+    ensures { result ≡ record (abort_transfer handle [] message_format) { delivery_tag = None } }
+{
+    Transfer {
+        handle: handle.into(),
+        delivery_id: None,
+        delivery_tag: None,
+        message_format: Some(message_format),
+        settled: Some(true),
+        more: false,
+        rcv_settle_mode: None,
+        state: None,
+        resume: true,
+        aborted: true,
+        batchable: false,
+    }
+}
 
 impl<T: LinkTarget> SenderLink<T> {
     /// The transfer that resumes a delivery (2.6.13, 2.7.5): unsettled in every mode of the link.
@@ -120,6 +141,54 @@ impl<T: LinkTarget> SenderLink<T> {
             Ok(()) => Ok(()),
             Err(entry) => Err((LinkStateError::OutOfMemory, entry)),
         }
+    }
+
+    /// The frame that aborts a delivery at the receiver (2.7.5): a transfer that resumes it and is aborted, settled and
+    /// without payload, so that the receiver forgets what it holds of it. An exchange lists such a delivery as
+    /// `ResumingDelivery::Abort`: it was withdrawn here, and the receiver still has an entry for it. Spends no credit.
+    ///
+    /// Refused in this order: `IllegalState` without output handle, then without input handle; `TagPending`;
+    /// `NoRoom`; `OutOfMemory`, only of a tag of more than 16 bytes, which is copied.
+    pub fn send_abort(
+        &self,
+        delivery_tag: &DeliveryTag,
+        message_format: MessageFormat,
+    ) -> Result<LinkFrame, LinkStateError>
+        ensures sent { IfOk result (λ frame. IsSomeAnd self.now.output_handle (λ output.
+            IsSomeAnd self.now.input_handle (λ input.
+            frame ≡ abort_frame output input delivery_tag.now message_format))) }
+        ensures fits { IfOk result (λ frame. frame_len frame ≤ self.now.max_frame_size) }
+        ensures refused { AnswersThenOutOfMemory LinkStateError.OutOfMemory result
+            (abort_tests self.now delivery_tag.now message_format) }
+        ensures memory { IsErrOf result LinkStateError.OutOfMemory → 16 < length delivery_tag.now }
+    {
+        let Some(handle) = self.inner.output_handle else {
+            return Err(LinkStateError::IllegalState);
+        };
+        let Some(input_handle) = self.inner.input_handle else {
+            return Err(LinkStateError::IllegalState);
+        };
+        if self.unsettled.contains(delivery_tag) {
+            return Err(LinkStateError::TagPending);
+        }
+        let payload = Payload::new();
+        let mut performative = abort_without_tag(handle, message_format);
+        let tag = delivery_tag.as_bytes();
+        let frame = self.inner.max_frame_size;
+        if payload_limit_with_tag(&mut performative, tag, frame, &payload).is_none() {
+            drop((performative, payload));
+            return Err(LinkStateError::NoRoom);
+        }
+        let Ok(tag) = delivery_tag.clone() else {
+            drop((performative, payload));
+            return Err(LinkStateError::OutOfMemory);
+        };
+        performative.delivery_tag = Some(tag);
+        Ok(LinkFrame::FirstTransfer(LinkTransfer {
+            input_handle,
+            performative,
+            payload,
+        }))
     }
 
     /// Takes the entry of a delivery back, if it is pending: no outcome is returned for it any more. The
