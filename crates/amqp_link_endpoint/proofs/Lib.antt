@@ -1,3 +1,4 @@
 pub mod Halving
 pub mod SentLemmas
+pub mod TestLemmas
 pub mod Worked

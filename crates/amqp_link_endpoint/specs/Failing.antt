@@ -1,6 +1,6 @@
 -- What to do after an attach has failed (OASIS AMQP 1.0 core, 2.6.3, 2.5.4, 2.8.14, 2.8.15 and
 -- 2.8.17).
-use Rattle.std.specs.Prelude.{ℕ, Bool, true, ◌&&◌, List, Option, Some, None, is_some, if◌then◌else◌, codes}
+use Rattle.std.specs.Prelude.{ℕ, Bool, true, false, ◌&&◌, List, Option, Some, None, is_some, if◌then◌else◌, codes}
 use Rattle.amqp_link_state.specs.declared.state.LinkState.{LinkState}
 use Rattle.amqp_link_types.specs.declared.types.definitions.Error.{Error}
 use Rattle.amqp_link_types.specs.declared.types.definitions.OutputHandle.{OutputHandle}
@@ -51,6 +51,11 @@ receiver_remedy receiver.SourceAddressIsNoneWhenDynamicIsTrue = remedy.Close (So
 receiver_remedy receiver.TargetAddressIsSomeWhenDynamicIsTrue = remedy.Close (Some InvalidField)
 receiver_remedy receiver.DynamicNodePropertiesIsSomeWhenDynamicIsFalse = remedy.Close (Some InvalidField)
 receiver_remedy _ = remedy.Nothing
+
+-- whether an error of a receiver's attach carries a list, for which there may be no memory
+abbrev pub is_listing : ReceiverAttachError → Bool
+is_listing (receiver.DesiredFilterNotSupported names) = true
+is_listing _ = false
 
 -- a closing detach can be sent: there is a transition and an output handle
 abbrev pub can_close : LinkState → Option OutputHandle → Bool

@@ -1,5 +1,5 @@
 -- What a link endpoint shows, and the attach that it states (OASIS AMQP 1.0 core, 2.6.3, 2.6.4 and 2.7.3).
-use Rattle.std.specs.Prelude.{◌≡◌, ℕ, false, List, [], if◌then◌else◌, is_some, map, Option, None, Some, option_map, unwrap_or, Err}
+use Rattle.std.specs.Prelude.{◌≡◌, ℕ, Bool, false, List, [], if◌then◌else◌, is_some, map, Option, None, Some, option_map, unwrap_or, Err}
 use Rattle.amqp_link_state.specs.declared.state.LinkFlowStateInner.{LinkFlowStateInner}
 use Rattle.amqp_link_state.specs.declared.state.LinkState.{LinkState}
 use Rattle.amqp_link_state.specs.declared.state.LinkState.TheVariants.{Unattached}
@@ -160,6 +160,10 @@ module _ {D : Type 0} where
   }
 
 module _ {V : Type 0} where
+  -- what it shows as its attach is sent, by whether it is reattached: without its unsettled deliveries then
+  abbrev pub shown_kept : Bool → Shown (Entries V) → Shown (Entries V)
+  shown_kept anew s = if anew then record s { unsettled = []; entries = []; ended = [] } else s
+
   -- The endpoint after it has taken an attach, with this target: the sender decides its settle mode, the
   -- source and the delivery-counts, the receiver its settle mode and the target. The exchange resolves a
   -- sender's deliveries.

@@ -16,14 +16,13 @@ ghost use Rattle.amqp_link_types.specs.Entries.{Entries};
 ghost use Rattle.amqp_link_types.specs.declared.types.definitions.OutputHandle.{OutputHandle as TheHandle};
 ghost use Rattle.amqp_link_types.specs.declared.types.definitions.Error.{Error as TheError};
 ghost use Rattle.amqp_link_types.specs.declared.types.attach.Attach.{Attach as TheAttach};
-ghost use Rattle.amqp_link_types.specs.declared.types.terminus.TargetArchetype.{TargetArchetype as Archetype};
 ghost use Rattle.amqp_link_endpoint.specs.AttachFields.{message_limit, next_of, remote_entries};
 ghost use Rattle.amqp_link_endpoint.specs.Attaching.{FitsFrame, States, with_entries};
 ghost use Rattle.amqp_link_endpoint.specs.AttachSent.{SendsAttach, IsTooLarge};
 ghost use Rattle.amqp_link_endpoint.specs.LinkStates.{Call, next_state, state_without_session};
 ghost use Rattle.amqp_link_endpoint.specs.Detaching.{detach_frame, recorded, remote_error};
 ghost use Rattle.amqp_link_endpoint.specs.Failing.{error_sent, handled, state_after};
-ghost use Rattle.amqp_link_endpoint.specs.Shown.{Shown, counted_attach, shown_attached, shown_taken, with_terms_of};
+ghost use Rattle.amqp_link_endpoint.specs.Shown.{Shown, counted_attach, shown_attached, shown_kept, shown_taken, with_terms_of};
 
 pub mod attached;
 pub mod detached;
@@ -155,11 +154,9 @@ pub trait LinkAttach: LinkDetach {
 
     // ---- the attach that is sent
 
-    // The endpoint after it has sent its attach: in this state, and at the delivery-count that it has stated.
-    ghost attached: { Self → TheState → Self };
-
-    // The endpoint without its unsettled deliveries.
-    ghost emptied: { Self → Self };
+    // The endpoint after it has sent its attach, by whether it is reattached: in this state, at the delivery-count that
+    // it has stated, and without its unsettled deliveries if it is reattached.
+    ghost attached: { Self → Bool → TheState → Self };
 
     /// The attach to send, with all unsettled deliveries, or with the first half of them, the first quarter,
     /// and so on, until it fits a frame; it is marked incomplete if it does not have all. An endpoint that is
@@ -177,10 +174,12 @@ pub trait LinkAttach: LinkDetach {
         is_reattaching: bool,
     ) -> Result<(LinkFrame, Outcomes), Self::AttachError>
         requires { Self.copies }
-        ensures sent { IfOk result (λ sent. (next : TheState)
-            × (SendsAttach (Self.shown self.old)
-            (if is_reattaching then [] else (Self.shown self.old).entries) sent.0 next)
-            × (self.new ≡ attached (if is_reattaching then emptied self.old else self.old) next)) }
+        ensures sent { IfOk result (λ sent. SendsAttach (Self.shown self.old)
+            (if is_reattaching then [] else (Self.shown self.old).entries) sent.0 (Self.shown self.new).local_state) }
+        ensures after { OnOk result
+            (self.new ≡ attached self.old is_reattaching (Self.shown self.new).local_state) }
+        ensures shown { OnOk result (Self.shown self.new
+            ≡ shown_attached (shown_kept is_reattaching (Self.shown self.old)) (Self.shown self.new).local_state) }
         ensures ended { IfOk result (λ sent. sent.1.items
             ≡ (if is_reattaching then (Self.shown self.old).ended else [])) }
         ensures refused { IfErr result (λ error. (error ≡ Self.AttachError.out_of_memory)
@@ -198,17 +197,12 @@ pub trait LinkAttach: LinkDetach {
     // The first refusal of the attach, out of memory aside.
     ghost refusal_of: { Self → TheAttach → Option Self.AttachError };
 
-    // The endpoint after it has taken the attach, and its target then, as it is sent.
+    // The endpoint after it has taken the attach.
     ghost taken: { Self → TheAttach → Self };
-
-    ghost target_taken: { Self → TheAttach → Option Archetype };
 
     // What the exchange of the endpoint's own unsettled deliveries and those that the attach states returns,
     // in the state after the attach.
     ghost exchanged: { Entries Self.Entry → States → TheState → Self.AttachExchange → Type 0 };
-
-    // The errors that carry a list: there may be no memory for it.
-    ghost is_listing: { Self.AttachError → Bool };
 
     // Whether taking the attach allocates.
     ghost allocates: { Self → TheAttach → Bool };
@@ -242,9 +236,14 @@ pub trait LinkAttach: LinkDetach {
             (λ _. refusal_of self.old attach ≡ None)
             (λ error. (error ≡ Self.AttachError.out_of_memory) ⊎ (refusal_of self.old attach ≡ Some error)) }
         ensures memory { IsErrOf result Self.AttachError.out_of_memory
-            → IfSome (refusal_of self.old attach) (λ error. is_listing error ≡ true) }
+            → IfSome (refusal_of self.old attach) (λ error. Self.AttachError.is_listing error ≡ true) }
         ensures growth { IsErrOf result Self.AttachError.out_of_memory → allocates self.old attach ≡ true }
         ensures left { IfErr result (λ error. self.new ≡ left error self.old attach) }
+        ensures unchanged { IsErrOf result Self.AttachError.out_of_memory → self.new ≡ self.old }
+        ensures shown { OnOk result (Self.shown self.new
+            ≡ shown_taken (Self.shown self.old) (Self.shown self.new).target attach) }
+        ensures terms { OnErr result (Self.shown self.new
+            ≡ with_terms_of (Self.shown self.old) (Self.shown self.new)) }
         ensures step { MatchOption (next_of (Self.shown self.old).local_state attach)
             (IsErrAnd result (λ error. error ≡ Self.AttachError.illegal_state))
             (λ next. MatchResult result
@@ -252,23 +251,6 @@ pub trait LinkAttach: LinkDetach {
             (λ error. (error ≡ Self.AttachError.out_of_memory) ⊎ ((Self.shown self.new).local_state ≡ next))) }
         ensures kept { IfNone (next_of (Self.shown self.old).local_state attach)
             (self.new ≡ self.old) };
-
-    // ---- laws
-
-    // Which fields of the record each change replaces. Out of memory leaves an endpoint as it is.
-    ghost shown_after_attach: { (l : Self) (s : TheState)
-        → Self.shown (attached l s) ≡ shown_attached (Self.shown l) s };
-
-    ghost shown_emptied: { (l : Self) → Self.shown (emptied l)
-        ≡ record (Self.shown l) { unsettled = []; entries = []; ended = [] } };
-
-    ghost shown_after_taking: { (l : Self) (a : TheAttach)
-        → Self.shown (taken l a) ≡ shown_taken (Self.shown l) (target_taken l a) a };
-
-    ghost shown_after_refusal: { (e : Self.AttachError) (l : Self) (a : TheAttach)
-        → Self.shown (left e l a) ≡ with_terms_of (Self.shown l) (Self.shown (left e l a)) };
-
-    ghost left_by_memory: { (l : Self) (a : TheAttach) → left Self.AttachError.out_of_memory l a ≡ l };
 }
 
 /// What a link endpoint shows. Nothing here allocates, but the text of an error that is sent.
@@ -405,6 +387,23 @@ pub trait LinkExt: LinkDetach {
 }
 
 /// A link endpoint with all calls that both roles have.
+///
+/// These calls by kind, in the order in which a session needs them, and what each asks its caller to do next. Those of
+/// one role stand at `SenderLink` and `ReceiverLink`.
+///
+/// - **Build**: `new` of the endpoint, then `with_output_handle` with the handle that the session gives;
+///   `set_max_frame_size` as soon as the peer's limit is known.
+/// - **Attach**: `send_attach` makes the attach to send, `on_incoming_attach` takes the peer's, in either order, and
+///   returns how to continue. If the attach is refused, `handle_attach_error` makes the detach to send.
+/// - **Detach**: `send_detach` makes the detach to send, `on_detach_reply` takes the peer's reply. A detach of the
+///   peer's goes to `on_incoming_detach` of the endpoint, which returns the detach to reply with, and then to
+///   `apply_remote_detach_outcome`, which moves the state. After an incomplete exchange `send_detach` has no
+///   transition: send the frame of `endpoint::detach_frame`, which moves no state, and give the peer's reply to
+///   `apply_remote_detach_outcome`. If the session or the connection is lost, call `on_session_lost`: nothing is sent.
+///   To attach again, set the handle that the session gives by `output_handle_mut`, and call `send_attach`.
+/// - **Look**: `local_state`, `name`, `flow_state`, `unsettled`, `unsettled_map`, `output_handle`, `input_handle`, the
+///   modes, `max_message_size`, `properties` (which `properties_mut` changes), and `complete_attach_fits`, which
+///   measures an attach.
 pub trait Link: LinkAttach + LinkExt {}
 
 impl<L: LinkAttach + LinkExt> Link for L {}

@@ -5,7 +5,7 @@ ghost use Rattle.amqp_link_endpoint.specs.AttachSent.{SendsAttach, IsTooLarge};
 ghost use Rattle.amqp_link_endpoint.specs.Attaching.{FitsFrame, with_entries};
 ghost use Rattle.amqp_link_endpoint.specs.LinkStates.{Call, next_state};
 ghost use Rattle.amqp_link_endpoint.specs.Links.{inner_of_parts, released, with_properties, without_session};
-ghost use Rattle.amqp_link_endpoint.specs.Shown.{attached_inner, counted_attach, shown_alone, stated_count};
+ghost use Rattle.amqp_link_endpoint.specs.Shown.{attached_inner, counted_attach, shown_alone, shown_attached, shown_kept, shown_of, stated_count};
 ghost use Rattle.amqp_link_state.specs.declared.state.LinkState.{LinkState as TheState};
 
 use crate::endpoint::attached::{name_and_properties_of, sent_limit, termini_of};
@@ -304,13 +304,15 @@ impl<R: LinkRole, T: LinkTarget> LinkInner<R, T> {
         unsettled: &mut UnsettledMap<R::Entry>,
     ) -> Result<(LinkFrame, Outcomes), E>
         requires { (t c : T) → T.is_clone t c → c ≡ t }
-        ensures sent { IfOk result (λ sent. (next : TheState)
-            × (SendsAttach (shown_alone R.role T.sent_as self.old)
-            (if is_reattaching then [] else R.stated unsettled.old) sent.0 next)
-            × (self.new ≡ attached_inner R.role next self.old)) }
+        ensures sent { IfOk result (λ sent. SendsAttach (shown_alone R.role T.sent_as self.old)
+            (if is_reattaching then [] else R.stated unsettled.old) sent.0 self.new.local_state) }
+        ensures after { OnOk result (self.new ≡ attached_inner R.role self.new.local_state self.old) }
         ensures ended { IfOk result (λ sent. sent.1.items
             ≡ (if is_reattaching then R.ended unsettled.old else [])) }
         ensures emptied { OnOk result (unsettled.new ≡ (if is_reattaching then [] else unsettled.old)) }
+        ensures shown { OnOk result (shown_of R.role T.sent_as self.new unsettled.new (R.stated unsettled.new) (R.ended unsettled.new)
+            ≡ shown_attached (shown_kept is_reattaching (shown_of R.role T.sent_as self.old unsettled.old
+            (R.stated unsettled.old) (R.ended unsettled.old))) self.new.local_state) }
         ensures refused { IfErr result (λ error. (error ≡ E.out_of_memory)
             ⊎ ((error ≡ E.illegal_state) × ((self.old.output_handle ≡ None)
             ⊎ (next_state Call.SendAttach false self.old.local_state ≡ None)))

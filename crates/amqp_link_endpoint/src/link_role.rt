@@ -45,10 +45,13 @@ pub trait LinkRole: IntoRole {
     fn end_all(unsettled: UnsettledMap<Self::Entry>, outcomes: Outcomes) -> Outcomes
         requires { vec_len outcomes + length (ended unsettled) ≤ vec_capacity outcomes }
         ensures { result.items ≡ outcomes.items ++ ended unsettled };
+
+    // Without deliveries an attach states none, and none ends.
+    ghost without_deliveries: { (stated [] ≡ []) × (ended [] ≡ []) };
 }
 
 impl LinkRole for SenderMarker {
-    ghost use Rattle.std.specs.Prelude.{◌+◌, ◌≤◌, ◌++◌, length, vec_len, vec_capacity};
+    ghost use Rattle.std.specs.Prelude.{◌+◌, ◌≤◌, ◌++◌, length, refl, vec_len, vec_capacity};
     ghost use Rattle.amqp_link_types.specs.Unsettled.{states_of};
     ghost use Rattle.amqp_link_endpoint.specs.Shown.{all_illegal};
 
@@ -57,6 +60,8 @@ impl LinkRole for SenderMarker {
     ghost stated = { states_of };
 
     ghost ended = { all_illegal };
+
+    ghost without_deliveries = { (refl, refl) };
 
     fn flow_state_of(inner: LinkFlowStateInner) -> LinkFlowState<SenderMarker> {
         LinkFlowState::sender(inner)
@@ -88,13 +93,15 @@ impl LinkRole for SenderMarker {
 }
 
 impl LinkRole for ReceiverMarker {
-    ghost use Rattle.std.specs.Prelude.{[]};
+    ghost use Rattle.std.specs.Prelude.{[], refl};
 
     type Entry = Option<DeliveryState>;
 
     ghost stated = { λ entries. entries };
 
     ghost ended = { λ entries. [] };
+
+    ghost without_deliveries = { (refl, refl) };
 
     fn flow_state_of(inner: LinkFlowStateInner) -> LinkFlowState<ReceiverMarker> {
         LinkFlowState::receiver(inner)

@@ -6,7 +6,8 @@ use Rattle.std.specs.List.{filter_map}
 use Rattle.std.proofs.lemmas.Bool.Decides.{nat_tests}
 use Rattle.amqp_link_types.specs.Deliveries.{Ended}
 use Rattle.amqp_link_types.specs.Entries.{Tag, Entries, entry_at}
-use Rattle.amqp_link_endpoint.specs.AttachTests.{Tests, refused_if, first_refusal, left_by_first, left_after, left_after_is, refused_leaves}
+use Rattle.amqp_link_endpoint.specs.AttachTests.{Tests, refused_if, first_refusal, left_by_first, left_after}
+use Rattle.amqp_link_endpoint.proofs.TestLemmas.{left_after_is, refused_leaves}
 use Rattle.amqp_link_types.specs.declared.delivery.UnsettledMessage.{UnsettledMessage}
 use Rattle.amqp_link_types.specs.declared.types.attach.Attach.{Attach}
 use Rattle.amqp_link_types.specs.declared.types.errors.LinkStateError.TheVariants as link_error
@@ -25,9 +26,9 @@ use Rattle.amqp_link_sender.specs.declared.sender_link.incoming.AttachPlan.{Atta
 use Rattle.amqp_link_sender.specs.declared.sender_link.incoming.SenderAttachExchange.{SenderAttachExchange}
 use Rattle.amqp_link_sender.specs.declared.sender_link.incoming.SenderAttachExchange.TheVariants as exchange
 use Rattle.amqp_link_endpoint.specs.Shown.{all_illegal}
-use Rattle.amqp_link_sender.specs.SenderAttaches.{is_nothing, resumption_in, exchange_in, disagree, sender_attached, sender_came, sender_targeted, sender_termini_refusal, sender_tests, sender_refusal, sender_left, is_sender_out_of_memory, IsAttachPlan}
+use Rattle.amqp_link_sender.specs.SenderAttaches.{is_nothing, resumption_in, exchange_in, disagree, sender_came, sender_targeted, sender_termini_refusal, sender_tests, sender_refusal, sender_left, is_sender_out_of_memory, IsAttachPlan}
 use Rattle.amqp_link_sender.specs.Senders.{Sender}
-use Rattle.amqp_link_ledger.specs.Exchanging.{deliveries_in, given_up, ledger_taken}
+use Rattle.amqp_link_ledger.specs.Exchanging.{deliveries_in, ledger_taken}
 use Rattle.amqp_link_ledger.specs.Fates.{Records, HandsOut, Resolves, after, IsRecorded}
 use Rattle.amqp_link_ledger.specs.Ledgers.{Ledger}
 use Rattle.amqp_link_ledger.proofs.ListSteps.{false_true, entry_at-map, is_some-option_map}
@@ -123,20 +124,10 @@ recorded-given_up true m records h =
     (λ tag there. ap is_some (entry_at-map _ m tag) ∙ is_some-option_map _ (entry_at m tag) ∙ there)
 recorded-given_up false m records h = rw (resolves-none records) h
 
-module _ {T : Type 0} where
-  pub unsettled-given_up : (b : Bool) (s : Sender T) (next : LinkState) → (sender_attached (if b then record s { unsettled = [] } else s) next).unsettled ≡ (if b then [] else s.unsettled)
-  unsettled-given_up true s next = refl
-  unsettled-given_up false s next = refl
-
-  pub ledger-given_up : (b : Bool) (l : Ledger T) (next : LinkState) (link : Sender T) (records : Records)
-      → link ≡ sender_attached (if b then record l.link { unsettled = [] } else l.link) next
-      → records ≡ after (Resolves (if b then all_illegal l.link.unsettled else [])) l.records
-      → let given = if b then given_up l else l in
-      let now : Ledger T = record { link = link; records = records } in
-      now ≡ record given { link = sender_attached given.link next }
-  ledger-given_up true l next link records is kept = cc
-  ledger-given_up false l next link records is kept =
-      let same : records ≡ l.records = kept ∙ resolves-none l.records in cc
+pub resolved_if : (b : Bool) (m : Entries UnsettledMessage) (records : Records)
+    → after (Resolves (if b then all_illegal m else [])) records ≡ (if b then after (Resolves (all_illegal m)) records else records)
+resolved_if true m records = refl
+resolved_if false m records = resolves-none records
 
 -- ---- an attach that is refused
 

@@ -21,9 +21,14 @@ mod sending;
 use crate::fate::Fate;
 use crate::registrations::Registrations;
 use amqp_link_endpoint::endpoint::LinkExt;
+use amqp_link_endpoint::endpoint::either::{Access, EitherEnd};
 use amqp_link_endpoint::endpoint::target::LinkTarget;
+use amqp_link_endpoint::link_inner::LinkInner;
 use amqp_link_sender::sender_link::SenderLink;
+use amqp_link_state::role::SenderMarker;
+use amqp_link_types::delivery::UnsettledMessage;
 use amqp_link_types::types::DeliveryTag;
+use amqp_link_types::types::unsettled_map::UnsettledMap;
 use indexmap::map::Slice;
 use std::alloc::{AllocError, Global};
 use std::marker::Model;
@@ -82,6 +87,41 @@ fn registrations_of<V>(
         all.register(reserved);
     }
     Ok(all)
+}
+
+// The calls that both roles share reach what the ledger's endpoint holds. None of them changes the unsettled deliveries,
+// so the registrations stay.
+impl<T: LinkTarget> EitherEnd for OutcomeLedger<T> {
+    ghost use Rattle.std.specs.Prelude.{refl};
+    ghost use Rattle.amqp_link_endpoint.specs.Links.{inner_of, with_inner};
+
+    type Marker = SenderMarker;
+
+    type Target = T;
+
+    ghost inner = { λ ledger. inner_of ledger.link };
+
+    ghost with_inner = { λ ledger i. record ledger { link = with_inner ledger.link i } };
+
+    ghost kept = { λ ledger. ledger.link.unsettled };
+
+    ghost at_rest = { λ ledger. ledger };
+
+    ghost apart = { λ ledger i. (refl, refl, refl, refl) };
+
+    fn inner(&self, access: Access) -> &LinkInner<SenderMarker, T> {
+        self.link.inner(access)
+    }
+
+    fn inner_mut(&mut self, access: Access) -> &mut LinkInner<SenderMarker, T> {
+        self.link.inner_mut(access)
+    }
+
+    fn kept(&self, access: Access) -> &UnsettledMap<UnsettledMessage> {
+        self.link.kept(access)
+    }
+
+    fn rest(&mut self, _: Access) {}
 }
 
 impl<T: LinkTarget> OutcomeLedger<T> {

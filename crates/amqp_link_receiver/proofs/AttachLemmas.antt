@@ -9,7 +9,8 @@ use Rattle.amqp_link_types.specs.declared.types.terminus.TargetArchetype.{Target
 use Rattle.amqp_link_state.specs.declared.state.LinkState.{LinkState}
 use Rattle.amqp_link_endpoint.specs.AttachFields.{next_of}
 use Rattle.amqp_link_endpoint.specs.AttachTests.{Tests, refused_if, first_of, first_refusal}
-use Rattle.amqp_link_receiver.specs.ReceiverAttaches.{receiver_came, receiver_sourced, receiver_source_refusal, receiver_target_refusal, receiver_refusal, receiver_source_verdict, is_listing}
+use Rattle.amqp_link_receiver.specs.ReceiverAttaches.{receiver_came, receiver_sourced, receiver_source_refusal, receiver_target_refusal, receiver_refusal, receiver_source_verdict}
+use Rattle.amqp_link_endpoint.specs.Failing.{is_listing}
 use Rattle.amqp_link_receiver.specs.Receivers.{Receiver}
 
 module _ {T : Type 0} (admitted : TargetArchetype → Option T) (refused : T → T → Option ReceiverAttachError) (r : Receiver T) (attach : Attach) where

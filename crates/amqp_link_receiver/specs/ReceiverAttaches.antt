@@ -1,5 +1,5 @@
 -- The attach that a receiver sends, and the one that it takes (OASIS AMQP 1.0 core, 2.6.3 and 2.7.3).
-use Rattle.std.specs.Prelude.{◌≡◌, ℕ, ◌||◌, Bool, true, false, [], ◌∷◌, Option, Some, None, is_some, is_none, unwrap_or, if◌then◌else◌, refl}
+use Rattle.std.specs.Prelude.{ℕ, ◌||◌, Bool, true, false, [], ◌∷◌, Option, Some, None, is_some, is_none, unwrap_or, if◌then◌else◌}
 use Rattle.amqp_link_state.specs.declared.state.LinkState.{LinkState}
 use Rattle.amqp_link_state.specs.declared.state.LinkState.TheVariants.{IncompleteAttachSent, IncompleteAttachReceived, IncompleteAttachExchanged}
 use Rattle.amqp_link_types.specs.declared.types.attach.Attach.{Attach}
@@ -12,11 +12,12 @@ use Rattle.amqp_link_types.specs.Entries.{Entries}
 use Rattle.amqp_link_types.specs.declared.types.terminus.Source.{Source}
 use Rattle.amqp_link_endpoint.specs.AttachFields.{smaller_limit, merged_properties, merging_allocates, is_foreign, next_of}
 use Rattle.amqp_link_endpoint.specs.Attaching.{States}
-use Rattle.amqp_link_endpoint.specs.AttachTests.{Tests, refused_if, verified, first_of, first_refusal, left_after, left_after_is}
+use Rattle.amqp_link_endpoint.specs.AttachTests.{Tests, refused_if, verified, first_of, first_refusal, left_after}
+use Rattle.amqp_link_endpoint.specs.Failing.{is_listing}
 use Rattle.amqp_link_endpoint.specs.Links.{inner_of, with_inner, without_session}
 use Rattle.amqp_link_state.specs.declared.role.ReceiverMarker.{ReceiverMarker}
 use Rattle.amqp_link_endpoint.specs.Targets.{target_of}
-use Rattle.amqp_link_endpoint.specs.Shown.{Shown, shown_of, with_terms_of}
+use Rattle.amqp_link_endpoint.specs.Shown.{Shown, shown_of}
 use Rattle.amqp_link_receiver.specs.declared.receiver_link.attach.ReceiverAttachExchange.{ReceiverAttachExchange}
 use Rattle.amqp_link_receiver.specs.declared.receiver_link.attach.ReceiverAttachExchange.TheVariants as exchange
 use Rattle.amqp_link_receiver.specs.Receivers.{Receiver}
@@ -40,11 +41,6 @@ abbrev pub is_receiver_out_of_memory : ReceiverAttachError → Bool
 is_receiver_out_of_memory error.OutOfMemory = true
 is_receiver_out_of_memory _ = false
 
--- whether an error carries a list, for which there may be no memory
-abbrev pub is_listing : ReceiverAttachError → Bool
-is_listing (error.DesiredFilterNotSupported names) = true
-is_listing _ = false
-
 abbrev pub is_refused_by_list : Option ReceiverAttachError → Bool
 is_refused_by_list None = false
 is_refused_by_list (Some error) = is_listing error
@@ -57,6 +53,10 @@ module _ {T : Type 0} where
   -- the receiver after its session is lost: without handles, and no delivery under way
   abbrev pub receiver_lost : Receiver T → Receiver T
   receiver_lost r = record (with_inner r (without_session (inner_of {R = ReceiverMarker} r))) { more = false }
+
+  -- the receiver after its attach was sent, by whether it is reattached
+  abbrev pub receiver_attached : Receiver T → Bool → LinkState → Receiver T
+  receiver_attached r anew next = record r { local_state = next; unsettled = if anew then [] else r.unsettled }
 
   -- ---- the attach that arrives
 
@@ -125,14 +125,3 @@ module _ {T : Type 0} where
   abbrev pub receiver_taking_allocates : (TargetArchetype → Option T) → (T → T → Option ReceiverAttachError) → Receiver T → Attach → Bool
   receiver_taking_allocates admitted refused r attach =
       is_refused_by_list (receiver_refusal admitted refused r attach) || merging_allocates r.flow_state.properties attach.properties
-
-  -- ---- what a receiver shows then
-
-  -- of what a receiver shows, a refusal changes only the state, the settle modes and the termini
-  abbrev pub ReceiverKeepsShown : (T → TargetArchetype) → Receiver T → Receiver T → Type 0
-  ReceiverKeepsShown sent_as r left = receiver_shown sent_as left ≡ with_terms_of (receiver_shown sent_as r) (receiver_shown sent_as left)
-
-  pub receiver_shown_after_refusal : (sent_as : T → TargetArchetype) (admitted : TargetArchetype → Option T) (refused : T → T → Option ReceiverAttachError)
-      (e : ReceiverAttachError) (r : Receiver T) (attach : Attach) → ReceiverKeepsShown sent_as r (receiver_left admitted refused e r attach)
-  receiver_shown_after_refusal sent_as admitted refused e r attach =
-      left_after_is (ReceiverKeepsShown sent_as r) (is_receiver_out_of_memory e) r (receiver_tests admitted refused r attach) refl (refl, (refl, (refl, tt)))

@@ -8,6 +8,7 @@ mod disposing;
 mod flow;
 
 pub use amqp_link_endpoint::endpoint::attached::get_max_message_size;
+use amqp_link_endpoint::endpoint::either::{Access, EitherEnd};
 use amqp_link_endpoint::endpoint::target::LinkTarget;
 use amqp_link_endpoint::link_inner::LinkInner;
 use amqp_link_endpoint::link_parts::LinkParts;
@@ -20,15 +21,13 @@ use std::marker::Model;
 
 /// The receiver of a link.
 ///
-/// Its calls by kind, in the order in which a session needs them, and what each asks its caller to do next:
+/// How a link is built, attached, detached and looked at is the same at either role: `Link` says it. The calls of a
+/// receiver by kind, and what each asks its caller to do next:
 ///
-/// - **Build**: `new`, then `with_output_handle` with the handle that the session gives; `set_max_frame_size`
-///   as soon as the peer's limit is known.
-/// - **Attach**: `send_attach` makes the attach to send, `on_incoming_attach` takes the peer's, in either order.
-///   It returns `Complete` if the sender's attach states no unsettled delivery. Otherwise it returns `Resume`:
-///   the sender resumes deliveries; or `IncompleteUnsettled`, if an attach did not state all of them: the sender
-///   resumes those that were stated, and then the link is attached anew until an exchange is complete (see
-///   **Detach**). If the attach is refused, `handle_attach_error` makes the detach to send.
+/// - **Attach**: `on_incoming_attach` returns `Complete` if the sender's attach states no unsettled delivery. Otherwise it
+///   returns `Resume`: the sender resumes deliveries; or `IncompleteUnsettled`, if an attach did not state all of them:
+///   the sender resumes those that were stated, and then the link is attached anew until an exchange is complete
+///   (`Link`, **Detach**).
 /// - **Grant credit**: `send_flow` sets the link-credit and makes the flow to send. `on_incoming_flow` takes the
 ///   sender's, and returns the flow to send back, if there is one.
 /// - **Take in**: `begins_delivery` says whether the next transfer begins a delivery in this attachment.
@@ -38,16 +37,6 @@ use std::marker::Model;
 ///   returns the delivery and spends a credit. `on_transfer_state` takes the state that a transfer carries.
 ///   `on_incoming_disposition` takes the sender's disposition, and returns nothing to send.
 /// - **Settle**: `dispose` and `dispose_all` make the dispositions to send.
-/// - **Detach**: `on_incoming_detach` returns the detach to reply with; call `apply_remote_detach_outcome`
-///   afterwards, which moves the state. `send_detach` makes a detach to send, `on_detach_reply` takes the
-///   peer's reply. After an incomplete exchange `send_detach` has no transition: send the frame of
-///   `endpoint::detach_frame`, which moves no state, and give the peer's reply to
-///   `apply_remote_detach_outcome`. If the session or the connection is lost, call `on_session_lost`: nothing
-///   is sent. To attach again, set the handle that the session gives by `output_handle_mut`, and call
-///   `send_attach`.
-/// - **Look**: `local_state`, `name`, `flow_state`, `unsettled`, `unsettled_map`, `output_handle`,
-///   `input_handle`, the modes, `max_message_size`, `properties` (which `properties_mut` changes), and
-///   `complete_attach_fits`, which measures an attach.
 ///
 /// A contract sees its state, name, modes, termini, limits, capabilities, handles, flow state, the list of
 /// its unsettled deliveries, whether it verifies the peer's termini, and whether the last transfer that has
@@ -71,6 +60,41 @@ impl<T: LinkTarget> Model for ReceiverLink<T> {
     ghost coded = { Prim.hlevel (codes, fields.the_row.coded) };
 
     ghost view = { λ link. endpoint_of link.inner link.unsettled link.more };
+}
+
+impl<T: LinkTarget> EitherEnd for ReceiverLink<T> {
+    ghost use Rattle.std.specs.Prelude.{refl, false};
+    ghost use Rattle.amqp_link_endpoint.specs.Links.{inner_of, with_inner};
+
+    type Marker = ReceiverMarker;
+
+    type Target = T;
+
+    ghost inner = { inner_of };
+
+    ghost with_inner = { with_inner };
+
+    ghost kept = { λ link. link.unsettled };
+
+    ghost at_rest = { λ link. record link { more = false } };
+
+    ghost apart = { λ link i. (refl, refl, refl, refl) };
+
+    fn inner(&self, _: Access) -> &LinkInner<ReceiverMarker, T> {
+        &self.inner
+    }
+
+    fn inner_mut(&mut self, _: Access) -> &mut LinkInner<ReceiverMarker, T> {
+        &mut self.inner
+    }
+
+    fn kept(&self, _: Access) -> &UnsettledMap<Option<DeliveryState>> {
+        &self.unsettled
+    }
+
+    fn rest(&mut self, _: Access) {
+        self.more = false;
+    }
 }
 
 impl<T: LinkTarget> ReceiverLink<T> {

@@ -1,5 +1,5 @@
 -- The attach that a sender sends, and the one that it takes (OASIS AMQP 1.0 core, 2.6.3 and 2.7.3).
-use Rattle.std.specs.Prelude.{◌≡◌, ℕ, Bool, true, false, [], ◌∷◌, ◌==◌, ◌&&◌, ◌||◌, not, length, Option, Some, is_some, is_none, option_map, unwrap_or, if◌then◌else◌, refl}
+use Rattle.std.specs.Prelude.{◌≡◌, Bool, true, false, [], ◌∷◌, ◌==◌, ◌&&◌, ◌||◌, not, length, Option, Some, is_some, is_none, unwrap_or, if◌then◌else◌}
 use Rattle.std.specs.Option.{option_or}
 use Rattle.amqp_link_types.specs.declared.delivery.UnsettledMessage.{UnsettledMessage}
 use Rattle.amqp_link_state.specs.declared.state.LinkState.{LinkState}
@@ -16,11 +16,11 @@ use Rattle.amqp_link_types.specs.declared.types.terminus.Source.{Source}
 use Rattle.amqp_link_types.specs.Unsettled.{states_of}
 use Rattle.amqp_link_endpoint.specs.AttachFields.{smaller_limit, merged_properties, merging_allocates, is_foreign, next_of, remote_entries}
 use Rattle.amqp_link_endpoint.specs.Attaching.{States}
-use Rattle.amqp_link_endpoint.specs.AttachTests.{Tests, refused_if, verified, first_of, first_refusal, left_after, left_after_is}
+use Rattle.amqp_link_endpoint.specs.AttachTests.{Tests, refused_if, verified, first_of, first_refusal, left_after}
 use Rattle.amqp_link_core.specs.declared.resumption.ResumingDelivery.{ResumingDelivery}
 use Rattle.amqp_link_exchange.specs.Exchanges.{deliveries_to_resume}
 use Rattle.amqp_link_exchange.specs.Plans.{IsPlanOf}
-use Rattle.amqp_link_endpoint.specs.Shown.{Shown, all_illegal, shown_of, stated_count, with_terms_of}
+use Rattle.amqp_link_endpoint.specs.Shown.{Shown, all_illegal, shown_of, stated_count}
 use Rattle.amqp_link_endpoint.specs.Links.{inner_of, with_inner, without_session}
 use Rattle.amqp_link_state.specs.declared.role.SenderMarker.{SenderMarker}
 use Rattle.amqp_link_endpoint.specs.Targets.{target_of}
@@ -67,17 +67,12 @@ module _ {T : Type 0} where
   abbrev pub sender_lost : Sender T → Sender T
   sender_lost s = with_inner s (without_session (inner_of {R = SenderMarker} s))
 
-  -- ---- the attach that is sent
-
-  -- the delivery-count that it states
-  abbrev pub sent_count : Sender T → ℕ
-  sent_count s = stated_count role.Sender s.local_state s.flow_state
-
-  -- it keeps the count that it has stated
-  abbrev pub sender_attached : Sender T → LinkState → Sender T
-  sender_attached s state = record s {
-    local_state = state;
-    flow_state = record s.flow_state { initial_delivery_count = sent_count s };
+  -- the sender after its attach was sent, by whether it is reattached: it keeps the count that it has stated
+  abbrev pub sender_attached : Sender T → Bool → LinkState → Sender T
+  sender_attached s anew next = record s {
+    local_state = next;
+    flow_state = record s.flow_state { initial_delivery_count = stated_count role.Sender s.local_state s.flow_state };
+    unsettled = if anew then [] else s.unsettled;
   }
 
   -- ---- the attach that arrives
@@ -149,18 +144,3 @@ module _ {T : Type 0} where
   abbrev pub sender_taking_allocates : Sender T → Attach → Bool
   sender_taking_allocates s attach =
       not (is_nothing s.unsettled (remote_entries attach)) || merging_allocates s.flow_state.properties attach.properties
-
-  -- ---- what a sender shows then
-
-  -- the target that the sender takes, as it is sent
-  abbrev pub sender_target_taken : (T → TargetArchetype) → (TargetArchetype → Option T) → Attach → Option TargetArchetype
-  sender_target_taken sent_as admitted attach = option_map sent_as (target_of admitted attach.target)
-
-  -- of what a sender shows, a refusal changes only the state, the settle modes and the termini
-  abbrev pub SenderKeepsShown : (T → TargetArchetype) → Sender T → Sender T → Type 0
-  SenderKeepsShown sent_as s left = sender_shown sent_as left ≡ with_terms_of (sender_shown sent_as s) (sender_shown sent_as left)
-
-  pub sender_shown_after_refusal : (sent_as : T → TargetArchetype) (admitted : TargetArchetype → Option T) (refused : T → T → Option SenderAttachError)
-      (e : SenderAttachError) (s : Sender T) (attach : Attach) → SenderKeepsShown sent_as s (sender_left admitted refused e s attach)
-  sender_shown_after_refusal sent_as admitted refused e s attach =
-      left_after_is (SenderKeepsShown sent_as s) (is_sender_out_of_memory e) s (sender_tests admitted refused s attach) refl (refl, (refl, (refl, tt)))

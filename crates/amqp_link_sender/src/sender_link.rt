@@ -14,6 +14,7 @@ pub mod incoming;
 mod resending;
 mod waits;
 
+use amqp_link_endpoint::endpoint::either::{Access, EitherEnd};
 use amqp_link_endpoint::endpoint::target::LinkTarget;
 use amqp_link_endpoint::link_inner::LinkInner;
 use amqp_link_endpoint::link_parts::LinkParts;
@@ -67,38 +68,28 @@ pub struct DispositionAnswer {
 
 /// The sender of a link.
 ///
-/// Its calls by kind, in the order in which a session needs them, and what each asks its caller to do next:
+/// How a link is built, attached, detached and looked at is the same at either role: `Link` says it. The calls of a
+/// sender by kind, and what each asks its caller to do next:
 ///
-/// - **Build**: `new`, then `with_output_handle` with the handle that the session gives; `set_max_frame_size`
-///   as soon as the peer's limit is known.
-/// - **Attach**: `send_attach` makes the attach to send, `on_incoming_attach` takes the peer's, in either order.
-///   `on_incoming_attach` returns how to continue with the unsettled deliveries. `Complete`: nothing to do.
+/// - **Attach**: `on_incoming_attach` returns how to continue with the unsettled deliveries. `Complete`: nothing to do.
 ///   `Resume`: for each listed delivery, in order, do what its kind asks for: `send_unsettled_transfer`
 ///   resumes it, with the transfer of `generate_resuming_transfer_performative`; `put_back` keeps it for a
 ///   later attach. `IncompleteUnsettled`: the same, and then the link is attached anew until an exchange is
-///   complete (see **Detach**). The list has every own delivery then, too; one that the receiver's incomplete
+///   complete (`Link`, **Detach**). The list has every own delivery then, too; one that the receiver's incomplete
 ///   attach does not state is listed as `Resend`, though the receiver may hold a part of it: `put_back` keeps
-///   it. If the attach is refused, `handle_attach_error` makes the detach to send.
+///   it.
 /// - **Take in**: `on_incoming_flow` takes the receiver's flow, and returns the flow to send back, if there
 ///   is one. `on_incoming_disposition` may resolve a delivery; if `echo` is set, send the disposition of
-///   `dispose`. `on_incoming_detach` returns the detach to reply with, and the outcome of each pending
-///   delivery if the link is closed; call `apply_remote_detach_outcome` afterwards, which moves the state.
+///   `dispose`. `on_incoming_detach` returns the outcome of each pending delivery too, if the link is closed.
 ///   `on_incoming_transfer` refuses every transfer.
 /// - **Send**: `send_payload` sends a new delivery for one credit. `CreditMissing`: wait for a flow, and call
 ///   again. `send_payload_with_transfer` and `send_transfer_without_modifying_unsettled_map` send with a
 ///   transfer that the caller has, as `generate_non_resuming_transfer_performative` makes it.
 ///   `can_send_payload`, `can_send_with_transfer` and `can_send_unsettled` say whether a send would be refused.
 /// - **Settle**: `dispose` and `batch_dispose` make dispositions; `withdraw` removes a delivery from the
-///   unsettled map before it has an outcome; `fail_pending_unsettled` resolves all, as a detach that closes
-///   the link does.
-/// - **Detach**: `send_detach` makes the detach to send, `on_detach_reply` takes the peer's reply. After an
-///   incomplete exchange `send_detach` has no transition: send the frame of `endpoint::detach_frame`, which
-///   moves no state, and give the peer's reply to `apply_remote_detach_outcome`. If the session or the
-///   connection is lost, call `on_session_lost`: nothing is sent. To attach again, set the handle that the
-///   session gives by `output_handle_mut`, and call `send_attach`.
-/// - **Look**: `local_state`, `name`, `flow_state`, `unsettled`, `unsettled_map`, `output_handle`,
-///   `input_handle`, the modes, `max_message_size`, `properties` (which `properties_mut` changes),
-///   `is_settled_on_send`, and `complete_attach_fits`, which measures an attach.
+///   unsettled map before it has an outcome, and `send_abort` has the receiver forget what it holds of one;
+///   `fail_pending_unsettled` resolves all, as a detach that closes the link does. `is_settled_on_send` says
+///   whether a transfer is sent settled.
 ///
 /// A contract sees its state, name, modes, termini, limits, capabilities, handles, flow state, the list of its
 /// unsettled deliveries, and whether it verifies the peer's termini.
@@ -120,6 +111,39 @@ impl<T: LinkTarget> Model for SenderLink<T> {
     ghost coded = { Prim.hlevel (codes, fields.the_row.coded) };
 
     ghost view = { λ link. endpoint_of link.inner link.unsettled tt };
+}
+
+impl<T: LinkTarget> EitherEnd for SenderLink<T> {
+    ghost use Rattle.std.specs.Prelude.{refl};
+    ghost use Rattle.amqp_link_endpoint.specs.Links.{inner_of, with_inner};
+
+    type Marker = SenderMarker;
+
+    type Target = T;
+
+    ghost inner = { inner_of };
+
+    ghost with_inner = { with_inner };
+
+    ghost kept = { λ link. link.unsettled };
+
+    ghost at_rest = { λ link. link };
+
+    ghost apart = { λ link i. (refl, refl, refl, refl) };
+
+    fn inner(&self, _: Access) -> &LinkInner<SenderMarker, T> {
+        &self.inner
+    }
+
+    fn inner_mut(&mut self, _: Access) -> &mut LinkInner<SenderMarker, T> {
+        &mut self.inner
+    }
+
+    fn kept(&self, _: Access) -> &UnsettledMap<UnsettledMessage> {
+        &self.unsettled
+    }
+
+    fn rest(&mut self, _: Access) {}
 }
 
 impl<T: LinkTarget> SenderLink<T> {

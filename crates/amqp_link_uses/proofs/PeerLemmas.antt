@@ -1,7 +1,7 @@
 -- How far a test peer has driven an endpoint, and what an attach or a detach does to where it stands.
 use Rattle.std.proofs.Common.{◌≡◌, ◌∙◌, ap, sym, refl, subst, ℕ, ◌+◌, List, [], ◌∷◌, ◌++◌, append_assoc, length, Bool, true, false, Option, Some, None, is_some, ◌⊎◌, inl, inr}
 use Rattle.std.proofs.lemmas.List.{append-nil, length_push}
-use Rattle.std.specs.Prelude.{Result, Ok, Err, MatchOption, MatchResult, IfNone, IfOk, IfErr, OnErr, IsErrAnd}
+use Rattle.std.specs.Prelude.{Result, Ok, Err, MatchOption, MatchResult, IfNone, IfOk, OnOk, OnErr, IsErrAnd}
 use Rattle.amqp_link.specs.AttachSent.{SendsAttach}
 use Rattle.amqp_link.specs.declared.state.LinkState.{LinkState}
 use Rattle.amqp_link.specs.Entries.{Entries}
@@ -89,40 +89,36 @@ both_same {s} {k} states handles = ap (λ h. stands_at s h) handles ∙ ap (λ s
 
 module _ {L V : Type 0} (shown : L → Shown (Entries V)) (old now : L) where
   -- an attach that is sent moves the state by the table, or leaves it if the call is refused
-  pub sent_or_stays : {E F : Type 0} (attached : L → LinkState → L) (r : Result (LinkFrame × F) E)
-      → ((l : L) (s : LinkState) → shown (attached l s) ≡ shown_attached (shown l) s)
-      → IfOk r (λ sent. (next : LinkState) × SendsAttach (shown old) (shown old).entries sent.0 next × (now ≡ attached old next))
+  pub sent_or_stays : {E F : Type 0} (r : Result (LinkFrame × F) E)
+      → IfOk r (λ sent. SendsAttach (shown old) (shown old).entries sent.0 (shown now).local_state)
+      → OnOk r (shown now ≡ shown_attached (shown old) (shown now).local_state)
       → OnErr r (now ≡ old)
       → DoesFrame (state_and_handle (shown old)) SendAttach (state_and_handle (shown now))
-  sent_or_stays attached (Ok sent) shows (next, sends, goes) left =
-      inr (sends.attach.incomplete_unsettled, next, sends.step, ap (λ l. state_and_handle (shown l)) goes ∙ ap (λ x. state_and_handle x) (shows old next))
-  sent_or_stays attached (Err error) shows sent left = inl (ap (λ l. state_and_handle (shown l)) left)
+  sent_or_stays (Ok sent) sends shows left =
+      inr (sends.attach.incomplete_unsettled, (shown now).local_state, sends.step, ap (λ x. state_and_handle x) shows)
+  sent_or_stays (Err error) sends shows left = inl (ap (λ l. state_and_handle (shown l)) left)
 
   -- an attach that arrives keeps the output handle, taken or refused
-  pub keeps_handle : {A E : Type 0} (X : A → Type 0) (left : E → L) (taken : L) (target : Option TargetArchetype)
-      (attach : TheAttach) (r : Result A E)
-      → IfOk r (λ exchange. (now ≡ taken) × X exchange) → IfErr r (λ error. now ≡ left error)
-      → shown taken ≡ shown_taken (shown old) target attach
-      → ((e : E) → shown (left e) ≡ with_terms_of (shown old) (shown (left e)))
+  pub keeps_handle : {A E : Type 0} (target : Option TargetArchetype) (attach : TheAttach) (r : Result A E)
+      → OnOk r (shown now ≡ shown_taken (shown old) target attach)
+      → OnErr r (shown now ≡ with_terms_of (shown old) (shown now))
       → (shown now).output_handle ≡ (shown old).output_handle
-  keeps_handle X left taken target attach (Ok exchange) takes at shows refuses =
-      ap (λ l. (shown l).output_handle) takes.0 ∙ ap (λ x. x.output_handle) shows
-  keeps_handle X left taken target attach (Err error) takes at shows refuses =
-      ap (λ l. (shown l).output_handle) at ∙ ap (λ x. x.output_handle) (refuses error)
+  keeps_handle target attach (Ok exchange) taken terms = ap (λ x. x.output_handle) taken
+  keeps_handle target attach (Err error) taken terms = ap (λ x. x.output_handle) terms
 
   -- it moves the state by the table, or leaves it; a refusal can move the state too
-  pub stays_or_moves : {A E : Type 0} (illegal out_of_memory : E) (left : E → L) (r : Result A E) (next : Option LinkState)
+  pub stays_or_moves : {A E : Type 0} (illegal out_of_memory : E) (r : Result A E) (next : Option LinkState)
       → (shown now).output_handle ≡ (shown old).output_handle
       → MatchOption next (IsErrAnd r (λ error. error ≡ illegal))
       (λ s. MatchResult r (λ _. (shown now).local_state ≡ s) (λ error. (error ≡ out_of_memory) ⊎ ((shown now).local_state ≡ s)))
-      → IfNone next (now ≡ old) → IfErr r (λ error. now ≡ left error) → left out_of_memory ≡ old
+      → IfNone next (now ≡ old) → (r ≡ Err out_of_memory → now ≡ old)
       → (state_and_handle (shown now) ≡ state_and_handle (shown old))
       ⊎ ((t : LinkState) × (next ≡ Some t) × (state_and_handle (shown now) ≡ moves_to (state_and_handle (shown old)) t))
-  stays_or_moves illegal out_of_memory left r None handle step kept at memory = inl (ap (λ l. state_and_handle (shown l)) kept)
-  stays_or_moves illegal out_of_memory left (Ok exchange) (Some s) handle step kept at memory = inr (s, refl, both_same step handle)
-  stays_or_moves illegal out_of_memory left (Err error) (Some s) handle (inl is) kept at memory =
-      inl (ap (λ l. state_and_handle (shown l)) (at ∙ ap left is ∙ memory))
-  stays_or_moves illegal out_of_memory left (Err error) (Some s) handle (inr goes) kept at memory =
+  stays_or_moves illegal out_of_memory r None handle step kept memory = inl (ap (λ l. state_and_handle (shown l)) kept)
+  stays_or_moves illegal out_of_memory (Ok exchange) (Some s) handle step kept memory = inr (s, refl, both_same step handle)
+  stays_or_moves illegal out_of_memory (Err error) (Some s) handle (inl is) kept memory =
+      inl (ap (λ l. state_and_handle (shown l)) (memory (ap Err is)))
+  stays_or_moves illegal out_of_memory (Err error) (Some s) handle (inr goes) kept memory =
       inr (s, refl, both_same goes handle)
 
   -- a detach moves the state and releases the output handle wherever there is a transition

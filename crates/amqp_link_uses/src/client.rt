@@ -62,9 +62,10 @@ impl Opening {
         ensures handle { IfOk result (λ opened. opened.0.link.output_handle ≡ Some handle) }
         ensures mode { IfOk result (λ opened.
             opened.0.link.snd_settle_mode ≡ SenderSettleMode.Unsettled) }
-        ensures sent { IfOk result (λ opened. (next : LinkState)
-            × SendsAttach (sender_shown TargetArchetype.Target (opened_with parts handle)) [] opened.1 next
-            × (opened.0.link ≡ sender_attached (opened_with parts handle) next)) }
+        ensures sent { IfOk result (λ opened. SendsAttach (sender_shown TargetArchetype.Target
+            (opened_with parts handle)) [] opened.1 opened.0.link.local_state) }
+        ensures opened { IfOk result (λ opened. opened.0.link
+            ≡ sender_attached (opened_with parts handle) false opened.0.link.local_state) }
         ensures refused { IfErr result (λ error. (error ≡ SenderAttachError.OutOfMemory)
             ⊎ ((error ≡ SenderAttachError.AttachTooLarge)
             × IsTooLarge (sender_shown TargetArchetype.Target (opened_with parts handle)) [])) }

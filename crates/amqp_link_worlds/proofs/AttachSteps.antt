@@ -17,9 +17,9 @@ use Rattle.amqp_link_state.specs.declared.state.LinkState.{LinkState}
 use Rattle.amqp_link_state.specs.declared.state.LinkState.TheVariants as state
 use Rattle.amqp_link_endpoint.specs.Attaching.{FitsFrame, States, with_entries}
 use Rattle.amqp_link_endpoint.specs.LinkStates.{Call, next_state}
-use Rattle.amqp_link_endpoint.specs.Shown.{attach_stated, counted_attach}
+use Rattle.amqp_link_endpoint.specs.Shown.{attach_stated, count_stated, counted_attach}
 use Rattle.amqp_link_exchange.specs.Exchanges.{deliveries_to_resume}
-use Rattle.amqp_link_sender.specs.SenderAttaches.{sender_shown, sent_count, exchange_in}
+use Rattle.amqp_link_sender.specs.SenderAttaches.{sender_shown, exchange_in}
 use Rattle.amqp_link_sender.specs.declared.sender_link.incoming.SenderAttachExchange.TheVariants as exchange
 use Rattle.amqp_link_sender.specs.Senders.{Sender}
 use Rattle.amqp_link_receiver.specs.ReceiverAttaches.{receiver_shown}
@@ -90,12 +90,15 @@ answered_fits limit s r zero h = record {
 
 -- ---- the sender's attach is sent
 
+abbrev count_sent : Sender Target → ℕ
+count_sent s = count_stated (sender_shown archetype.Target s)
+
 module _ (limit : ℕ) (s : Sender Target) (r : Receiver Target) (ends : AreApart s r) where
   -- it states the present count
-  count_is_present : sent_count (sender_at_limit limit s) ≡ s.flow_state.delivery_count
+  count_is_present : count_sent (sender_at_limit limit s) ≡ s.flow_state.delivery_count
   count_is_present = elim (ends.state) [
-    | inl made ↦ ap (λ st. sent_count (record (sender_at_limit limit s) { local_state = st })) made ∙ ends.counted made
-    | inr detached ↦ ap (λ st. sent_count (record (sender_at_limit limit s) { local_state = st })) detached
+    | inl made ↦ ap (λ st. count_sent (record (sender_at_limit limit s) { local_state = st })) made ∙ ends.counted made
+    | inr detached ↦ ap (λ st. count_sent (record (sender_at_limit limit s) { local_state = st })) detached
   ]
 
   asks : next_state Call.SendAttach false s.local_state ≡ Some state.AttachSent

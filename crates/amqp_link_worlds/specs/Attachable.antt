@@ -50,7 +50,7 @@ pub record CanAsk (limit : ℕ) (s : Sender Target) : Type 0 where
   pub can : CanAttach (sender_shown archetype.Target (sender_at_limit limit s))
   pub stated : with_entries (attach_stated (sender_shown archetype.Target (sender_at_limit limit s)) zero_output) (states_of s.unsettled) 0 ≡ attach_asked s
   pub step : next_state Call.SendAttach false s.local_state ≡ Some AttachSent
-  pub after : sender_attached (sender_at_limit limit s) AttachSent ≡ sender_asking limit s
+  pub after : sender_attached (sender_at_limit limit s) false AttachSent ≡ sender_asking limit s
 
 -- the receiver takes the sender's attach; afterwards it is as `receiver_half_attached`
 pub record CanTakeAsked (limit : ℕ) (s : Sender Target) (r : Receiver Target) : Type 0 where

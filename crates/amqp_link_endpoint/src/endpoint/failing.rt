@@ -1,5 +1,5 @@
 //! What to do after an attach has failed (2.6.3): close the link, end the session, or nothing.
-ghost use Rattle.std.specs.Prelude.{◌≡◌, true, None, IfOk, OnErr, MatchOption, is_some};
+ghost use Rattle.std.specs.Prelude.{◌≡◌, Bool, true, None, IfOk, OnErr, MatchOption, is_some};
 ghost use Rattle.amqp_link_endpoint.specs.Failing.{condition_text, handle_in_use, error_sent, handled, state_after};
 ghost use Rattle.amqp_link_endpoint.specs.Failing;
 ghost use Rattle.amqp_link_endpoint.specs.declared.endpoint.failing.Remedy.{Remedy as TheRemedy};
@@ -62,6 +62,9 @@ pub trait AttachFailure: Drop {
     // What follows from it.
     ghost remedy: { Self → TheRemedy };
 
+    // Whether it carries a list: there may be no memory for that.
+    ghost is_listing: { Self → Bool };
+
     /// The error of a call for which there is no transition.
     fn illegal_state() -> Self
         ensures { result ≡ illegal_state };
@@ -118,6 +121,7 @@ fn receiver_remedy(error: &ReceiverAttachError) -> Remedy
 
 impl AttachFailure for SenderAttachError {
     ghost use Rattle.amqp_link_types.specs.declared.types.errors.SenderAttachError.TheVariants.{IllegalState, AttachTooLarge, OutOfMemory};
+    ghost use Rattle.std.specs.Prelude.{false};
     ghost use Rattle.amqp_link_endpoint.specs.Failing.{sender_remedy};
 
     ghost illegal_state = { IllegalState };
@@ -127,6 +131,8 @@ impl AttachFailure for SenderAttachError {
     ghost out_of_memory = { OutOfMemory };
 
     ghost remedy = { sender_remedy };
+
+    ghost is_listing = { λ error. false };
 
     ghost errors_differ = { ((λ h. Prim.cc), (λ h. Prim.cc), (λ h. Prim.cc)) };
 
@@ -149,7 +155,7 @@ impl AttachFailure for SenderAttachError {
 
 impl AttachFailure for ReceiverAttachError {
     ghost use Rattle.amqp_link_types.specs.declared.types.errors.ReceiverAttachError.TheVariants.{IllegalState, AttachTooLarge, OutOfMemory};
-    ghost use Rattle.amqp_link_endpoint.specs.Failing.{receiver_remedy};
+    ghost use Rattle.amqp_link_endpoint.specs.Failing.{is_listing, receiver_remedy};
 
     ghost illegal_state = { IllegalState };
 
@@ -158,6 +164,8 @@ impl AttachFailure for ReceiverAttachError {
     ghost out_of_memory = { OutOfMemory };
 
     ghost remedy = { receiver_remedy };
+
+    ghost is_listing = { is_listing };
 
     ghost errors_differ = { ((λ h. Prim.cc), (λ h. Prim.cc), (λ h. Prim.cc)) };
 

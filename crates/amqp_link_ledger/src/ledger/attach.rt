@@ -1,6 +1,4 @@
-//! How a ledger is attached (2.6.3, 2.6.4), how its unsettled deliveries are exchanged (2.6.13), and what it holds, for
-//! the calls that both roles share: what its endpoint holds. None of those changes the unsettled deliveries, so the
-//! registrations stay.
+//! How a ledger is attached (2.6.3, 2.6.4), and how its unsettled deliveries are exchanged (2.6.13).
 //!
 //! A registration whose delivery the exchange returns to the user is handed out; one whose delivery has ended
 //! is resolved.
@@ -13,18 +11,14 @@ ghost use Rattle.amqp_link_ledger.specs.Exchanging.{deliveries_in, ledger_taken}
 
 use crate::ledger::OutcomeLedger;
 use amqp_link_core::resumption::ResumingDelivery;
-use amqp_link_endpoint::endpoint::either::{Access, EitherEnd};
 use amqp_link_endpoint::endpoint::target::LinkTarget;
 use amqp_link_endpoint::endpoint::{LinkAttach, LinkExt};
-use amqp_link_endpoint::link_inner::LinkInner;
 use amqp_link_sender::sender_link::SenderAttachExchange;
 use amqp_link_sender::sender_link::incoming::{
     AttachPlan, commit_incoming_attach, plan_incoming_attach,
 };
-use amqp_link_state::role::SenderMarker;
-use amqp_link_types::delivery::{Outcomes, UnsettledMessage};
+use amqp_link_types::delivery::Outcomes;
 use amqp_link_types::frame::LinkFrame;
-use amqp_link_types::types::unsettled_map::UnsettledMap;
 use amqp_link_types::types::{Attach, DeliveryTag, SenderAttachError};
 use std::alloc::AllocError;
 
@@ -73,80 +67,29 @@ impl<T: LinkTarget> OutcomeLedger<T> {
     }
 }
 
-impl<T: LinkTarget> EitherEnd for OutcomeLedger<T> {
-    ghost use Rattle.std.specs.Prelude.{refl};
-    ghost use Rattle.amqp_link_endpoint.specs.Links.{inner_of, with_inner};
-
-    type Marker = SenderMarker;
-
-    type Target = T;
-
-    ghost inner = { λ ledger. inner_of ledger.link };
-
-    ghost with_inner = { λ ledger i. record ledger { link = with_inner ledger.link i } };
-
-    ghost kept = { λ ledger. ledger.link.unsettled };
-
-    ghost at_rest = { λ ledger. ledger };
-
-    ghost apart = { λ ledger i. (refl, refl, refl, refl) };
-
-    fn inner(&self, access: Access) -> &LinkInner<SenderMarker, T> {
-        self.link.inner(access)
-    }
-
-    fn inner_mut(&mut self, access: Access) -> &mut LinkInner<SenderMarker, T> {
-        self.link.inner_mut(access)
-    }
-
-    fn kept(&self, access: Access) -> &UnsettledMap<UnsettledMessage> {
-        self.link.kept(access)
-    }
-
-    fn rest(&mut self, _: Access) {}
-}
-
 impl<T: LinkTarget> LinkAttach for OutcomeLedger<T> {
-    ghost use Rattle.std.specs.Prelude.{◌≡◌, false, [], refl};
+    ghost use Rattle.std.specs.Prelude.{◌≡◌};
     ghost use Rattle.amqp_link_exchange.specs.Exchanges.{outcomes_returned};
-    ghost use Rattle.amqp_link_sender.specs.SenderAttaches.{sender_attached, sender_refusal, sender_left, sender_taking_allocates, exchange_in};
-    ghost use Rattle.amqp_link_sender.specs.SenderAttaches.{sender_target_taken, sender_shown_after_refusal};
-    ghost use Rattle.amqp_link_ledger.specs.Exchanging.{given_up, ledger_taken};
+    ghost use Rattle.amqp_link_sender.specs.SenderAttaches.{sender_refusal, sender_left, sender_taking_allocates, exchange_in};
+    ghost use Rattle.amqp_link_ledger.specs.Exchanging.{ledger_attached, ledger_taken};
 
     type AttachExchange = (SenderAttachExchange, Outcomes);
 
     type AttachError = SenderAttachError;
 
-    ghost attached = { λ ledger s. record ledger { link = sender_attached ledger.link s } };
-
-    ghost emptied = { given_up };
+    ghost attached = { ledger_attached };
 
     ghost refusal_of = { λ ledger. sender_refusal T.admitted T.refused_by_sender ledger.link };
 
     ghost taken = { ledger_taken T.admitted };
 
-    ghost target_taken = { λ ledger attach. sender_target_taken T.sent_as T.admitted attach };
-
     ghost exchanged = { λ own remote state answer. (answer.0 ≡ exchange_in state own remote)
         × (answer.1.items ≡ outcomes_returned own remote) };
-
-    ghost is_listing = { λ error. false };
 
     ghost allocates = { λ ledger. sender_taking_allocates ledger.link };
 
     ghost left = { λ error ledger attach.
         record ledger { link = sender_left T.admitted T.refused_by_sender error ledger.link attach } };
-
-    ghost shown_after_attach = { λ ledger s. refl };
-
-    ghost shown_emptied = { λ ledger. refl };
-
-    ghost shown_after_taking = { λ ledger a. refl };
-
-    ghost shown_after_refusal = { λ e ledger a.
-        sender_shown_after_refusal T.sent_as T.admitted T.refused_by_sender e ledger.link a };
-
-    ghost left_by_memory = { λ ledger a. refl };
 
     /// Sends the attach, as the endpoint does. If the link is reattached, each pending registration is
     /// resolved with `LinkStateError::IllegalState`.

@@ -41,7 +41,7 @@ fn send_whole<L: LinkAttach>(end: &mut L) -> Result<Attach, AllocError>
         → IfOk result (λ attach. attach
         ≡ with_entries (attach_stated (L.shown end.old) number) (L.shown end.old).entries 0) }
     ensures done { (next : TheState) → next_state Call.SendAttach false (L.shown end.old).local_state ≡ Some next
-        → OnOk result (end.new ≡ L.attached end.old next) }
+        → OnOk result (end.new ≡ L.attached end.old false next) }
     ensures left { OnErr result (end.new ≡ end.old) }
 {
     let (frame, outcomes) = match end.send_attach(false) {

@@ -1,4 +1,4 @@
-//! How a receiver's link endpoint is attached (2.6.3, 2.6.4), and what it holds, for the calls that both roles share.
+//! How a receiver's link endpoint is attached (2.6.3, 2.6.4).
 ghost use Rattle.std.specs.Prelude.{◌≡◌, ◌⊎◌, false, ℕ, List, [], if◌then◌else◌};
 ghost use Rattle.std.specs.Prelude.{None, Some, Ok, Err, IfOk, IsErrOf, MatchResult, unwrap_or};
 ghost use Rattle.std.specs.Option.{option_or};
@@ -10,12 +10,9 @@ ghost use Rattle.amqp_link_verification.specs.Termini.{verdict};
 use crate::receiver_link::ReceiverLink;
 use amqp_link_endpoint::endpoint::LinkAttach;
 use amqp_link_endpoint::endpoint::attached::{get_max_message_size, merged_with};
-use amqp_link_endpoint::endpoint::either::{Access, EitherEnd};
 use amqp_link_endpoint::endpoint::incoming::{IncomingAttach, read};
 use amqp_link_endpoint::endpoint::table::after_incoming_attach;
 use amqp_link_endpoint::endpoint::target::LinkTarget;
-use amqp_link_endpoint::link_inner::LinkInner;
-use amqp_link_state::role::ReceiverMarker;
 use amqp_link_state::state::LinkState;
 use amqp_link_types::delivery::Outcomes;
 use amqp_link_types::frame::LinkFrame;
@@ -32,7 +29,7 @@ pub enum ReceiverAttachExchange {
     /// The sender's attach states no unsettled delivery: there is nothing to resume.
     Complete,
     /// An attach did not state all unsettled deliveries. Those that the sender's attach states are resumed,
-    /// and then the link is attached anew (`ReceiverLink`, **Detach**) until an exchange is complete (2.6.13).
+    /// and then the link is attached anew (`Link`, **Detach**) until an exchange is complete (2.6.13).
     IncompleteUnsettled,
     /// The sender resumes deliveries.
     Resume,
@@ -196,77 +193,25 @@ impl<T: LinkTarget> ReceiverLink<T> {
     }
 }
 
-impl<T: LinkTarget> EitherEnd for ReceiverLink<T> {
-    ghost use Rattle.std.specs.Prelude.{refl, false};
-    ghost use Rattle.amqp_link_endpoint.specs.Links.{inner_of, with_inner};
-
-    type Marker = ReceiverMarker;
-
-    type Target = T;
-
-    ghost inner = { inner_of };
-
-    ghost with_inner = { with_inner };
-
-    ghost kept = { λ link. link.unsettled };
-
-    ghost at_rest = { λ link. record link { more = false } };
-
-    ghost apart = { λ link i. (refl, refl, refl, refl) };
-
-    fn inner(&self, _: Access) -> &LinkInner<ReceiverMarker, T> {
-        &self.inner
-    }
-
-    fn inner_mut(&mut self, _: Access) -> &mut LinkInner<ReceiverMarker, T> {
-        &mut self.inner
-    }
-
-    fn kept(&self, _: Access) -> &UnsettledMap<Option<DeliveryState>> {
-        &self.unsettled
-    }
-
-    fn rest(&mut self, _: Access) {
-        self.more = false;
-    }
-}
-
 impl<T: LinkTarget> LinkAttach for ReceiverLink<T> {
-    ghost use Rattle.std.specs.Prelude.{◌≡◌, [], option_map, refl};
-    ghost use Rattle.amqp_link_receiver.specs.ReceiverAttaches.{receiver_refusal, receiver_taken, receiver_left, is_listing, receiver_taking_allocates, has_entries, receiver_exchange_in};
-    ghost use Rattle.amqp_link_receiver.specs.ReceiverAttaches.{receiver_shown_after_refusal};
+    ghost use Rattle.std.specs.Prelude.{◌≡◌};
+    ghost use Rattle.amqp_link_receiver.specs.ReceiverAttaches.{receiver_attached, receiver_refusal, receiver_taken, receiver_left, receiver_taking_allocates, has_entries, receiver_exchange_in};
 
     type AttachExchange = ReceiverAttachExchange;
 
     type AttachError = ReceiverAttachError;
 
-    ghost attached = { λ link state. record link { local_state = state } };
-
-    ghost emptied = { λ link. record link { unsettled = [] } };
+    ghost attached = { receiver_attached };
 
     ghost refusal_of = { receiver_refusal T.admitted T.refused_by_receiver };
 
     ghost taken = { receiver_taken };
 
-    ghost target_taken = { λ link attach. option_map T.sent_as link.target };
-
     ghost exchanged = { λ _ remote state answer. answer ≡ receiver_exchange_in state (has_entries remote) };
-
-    ghost is_listing = { is_listing };
 
     ghost allocates = { receiver_taking_allocates T.admitted T.refused_by_receiver };
 
     ghost left = { receiver_left T.admitted T.refused_by_receiver };
-
-    ghost shown_after_attach = { λ link s. refl };
-
-    ghost shown_emptied = { λ link. refl };
-
-    ghost shown_after_taking = { λ link a. refl };
-
-    ghost shown_after_refusal = { receiver_shown_after_refusal T.sent_as T.admitted T.refused_by_receiver };
-
-    ghost left_by_memory = { λ link a. refl };
 
     fn send_attach(
         &mut self,

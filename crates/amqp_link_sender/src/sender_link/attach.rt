@@ -1,53 +1,15 @@
-//! How a sender's link endpoint is attached (2.6.3, 2.6.4), and what it holds, for the calls that both roles share.
+//! How a sender's link endpoint is attached (2.6.3, 2.6.4).
 use crate::sender_link::{SenderAttachExchange, SenderLink};
 use amqp_link_endpoint::endpoint::LinkAttach;
-use amqp_link_endpoint::endpoint::either::{Access, EitherEnd};
 use amqp_link_endpoint::endpoint::target::LinkTarget;
-use amqp_link_endpoint::link_inner::LinkInner;
-use amqp_link_state::role::SenderMarker;
-use amqp_link_types::delivery::{Outcomes, UnsettledMessage};
+use amqp_link_types::delivery::Outcomes;
 use amqp_link_types::frame::LinkFrame;
-use amqp_link_types::types::unsettled_map::UnsettledMap;
 use amqp_link_types::types::{Attach, SenderAttachError};
 
-impl<T: LinkTarget> EitherEnd for SenderLink<T> {
-    ghost use Rattle.std.specs.Prelude.{refl};
-    ghost use Rattle.amqp_link_endpoint.specs.Links.{inner_of, with_inner};
-
-    type Marker = SenderMarker;
-
-    type Target = T;
-
-    ghost inner = { inner_of };
-
-    ghost with_inner = { with_inner };
-
-    ghost kept = { λ link. link.unsettled };
-
-    ghost at_rest = { λ link. link };
-
-    ghost apart = { λ link i. (refl, refl, refl, refl) };
-
-    fn inner(&self, _: Access) -> &LinkInner<SenderMarker, T> {
-        &self.inner
-    }
-
-    fn inner_mut(&mut self, _: Access) -> &mut LinkInner<SenderMarker, T> {
-        &mut self.inner
-    }
-
-    fn kept(&self, _: Access) -> &UnsettledMap<UnsettledMessage> {
-        &self.unsettled
-    }
-
-    fn rest(&mut self, _: Access) {}
-}
-
 impl<T: LinkTarget> LinkAttach for SenderLink<T> {
-    ghost use Rattle.std.specs.Prelude.{◌≡◌, false, [], refl};
+    ghost use Rattle.std.specs.Prelude.{◌≡◌};
     ghost use Rattle.amqp_link_exchange.specs.Exchanges.{outcomes_returned};
     ghost use Rattle.amqp_link_sender.specs.SenderAttaches.{sender_attached, sender_refusal, sender_taken, sender_left, sender_taking_allocates, exchange_in};
-    ghost use Rattle.amqp_link_sender.specs.SenderAttaches.{sender_target_taken, sender_shown_after_refusal};
 
     type AttachExchange = (SenderAttachExchange, Outcomes);
 
@@ -55,32 +17,16 @@ impl<T: LinkTarget> LinkAttach for SenderLink<T> {
 
     ghost attached = { sender_attached };
 
-    ghost emptied = { λ link. record link { unsettled = [] } };
-
     ghost refusal_of = { sender_refusal T.admitted T.refused_by_sender };
 
     ghost taken = { sender_taken T.admitted };
 
-    ghost target_taken = { λ link attach. sender_target_taken T.sent_as T.admitted attach };
-
     ghost exchanged = { λ own remote state answer. (answer.0 ≡ exchange_in state own remote)
         × (answer.1.items ≡ outcomes_returned own remote) };
-
-    ghost is_listing = { λ error. false };
 
     ghost allocates = { sender_taking_allocates };
 
     ghost left = { sender_left T.admitted T.refused_by_sender };
-
-    ghost shown_after_attach = { λ link s. refl };
-
-    ghost shown_emptied = { λ link. refl };
-
-    ghost shown_after_taking = { λ link a. refl };
-
-    ghost shown_after_refusal = { sender_shown_after_refusal T.sent_as T.admitted T.refused_by_sender };
-
-    ghost left_by_memory = { λ link a. refl };
 
     fn send_attach(
         &mut self,

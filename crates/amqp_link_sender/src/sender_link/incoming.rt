@@ -38,7 +38,7 @@ pub enum SenderAttachExchange {
     Complete,
     /// An attach did not state all unsettled deliveries. The list has every own one, as in `Resume`; those that
     /// the receiver's attach states are resumed, the others put back, and then the link is attached anew
-    /// (`SenderLink`, **Detach**) until an exchange is complete (2.6.13).
+    /// (`Link`, **Detach**) until an exchange is complete (2.6.13).
     IncompleteUnsettled(ResumingDeliveries),
     /// These deliveries are to be resumed.
     Resume(ResumingDeliveries),

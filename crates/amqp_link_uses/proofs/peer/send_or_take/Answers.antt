@@ -6,19 +6,18 @@ use Rattle.amqp_link_uses.proofs.peer.send_or_take.Goals as goal
 pub returns-in-SendAttach-clause-leads : goal.returns-in-SendAttach-clause-leads
 returns-in-SendAttach-clause-leads g c =
     let call = c.send_attach in
-    rw c.in-SendAttach.is (λ _. sent_or_stays g.L.LinkDetach.shown c.args.link.now call.new.self g.L.LinkAttach.attached call.result g.met.L.LinkAttach.shown_after_attach call.ensures.sent call.ensures.left)
+    rw c.in-SendAttach.is (λ _. sent_or_stays g.L.LinkDetach.shown c.args.link.now call.new.self call.result call.ensures.sent call.ensures.shown call.ensures.left)
 
 pub returns-in-Attach-clause-leads : goal.returns-in-Attach-clause-leads
 returns-in-Attach-clause-leads g c =
     let old = c.args.link.now in
     let attach = c.in-Attach.attach in
     let call = c.on_incoming_attach in
-    let handle = keeps_handle g.L.LinkDetach.shown old call.new.self _ (λ error. g.L.LinkAttach.left error old attach) (g.L.LinkAttach.taken old attach)
-    (g.L.LinkAttach.target_taken old attach) attach call.result call.ensures.taken call.ensures.left
-    (g.met.L.LinkAttach.shown_after_taking old attach) (λ error. g.met.L.LinkAttach.shown_after_refusal error old attach) in
-    rw c.in-Attach.is (λ _. stays_or_moves g.L.LinkDetach.shown old call.new.self g.L.AttachError.AttachFailure.illegal_state g.L.AttachError.AttachFailure.out_of_memory
-    (λ error. g.L.LinkAttach.left error old attach) call.result (next_of (g.L.LinkDetach.shown old).local_state attach) handle
-    call.ensures.step call.ensures.kept call.ensures.left (g.met.L.LinkAttach.left_by_memory old attach))
+    let now = call.new.self in
+    let handle = keeps_handle g.L.LinkDetach.shown old now (g.L.LinkDetach.shown now).target attach call.result call.ensures.shown call.ensures.terms in
+    rw c.in-Attach.is (λ _. stays_or_moves g.L.LinkDetach.shown old now g.L.AttachError.AttachFailure.illegal_state g.L.AttachError.AttachFailure.out_of_memory
+    call.result (next_of (g.L.LinkDetach.shown old).local_state attach) handle
+    call.ensures.step call.ensures.kept call.ensures.unchanged)
 
 pub returns-in-SendDetach-clause-leads : goal.returns-in-SendDetach-clause-leads
 returns-in-SendDetach-clause-leads g c =

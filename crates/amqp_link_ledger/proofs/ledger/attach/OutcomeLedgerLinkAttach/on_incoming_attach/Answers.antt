@@ -1,5 +1,6 @@
 use Rattle.std.proofs.Common.{refl, sym, subst, ap, Err}
 use Rattle.amqp_link_ledger.proofs.ExchangeLemmas.{step_refused, kept_refused, unsettled-left, taken_by_plan}
+use Rattle.amqp_link_sender.proofs.AttachLemmas.{keeps_shown}
 use Rattle.amqp_link_sender.specs.SenderAttaches.{IsAttachPlan}
 use Rattle.amqp_link_sender.specs.Senders.{Sender}
 use Rattle.amqp_link_ledger.proofs.ledger.attach.OutcomeLedgerLinkAttach.on_incoming_attach.Goals as goal
@@ -13,6 +14,11 @@ pub returns-in-Err-clause-kept : goal.returns-in-Err-clause-kept
 returns-in-Err-clause-kept g c =
     rw (← c.self.view_is, c.in-Err.ensures.left)
     (kept_refused g.T.LinkTarget.admitted g.T.VerifyTargetArchetype.refused_by_sender c.self.inside.link c.args.attach c.in-Err.refused c.in-Err.ensures.refused (λ is. c.in-Err.ensures.memory (ap Err is)) c.self.inside.registrations.records _ refl)
+
+pub returns-in-Err-clause-terms : goal.returns-in-Err-clause-terms
+returns-in-Err-clause-terms g c =
+    rw (← c.self.view_is)
+    (keeps_shown g.T.LinkTarget.sent_as g.T.LinkTarget.admitted g.T.VerifyTargetArchetype.refused_by_sender c.in-Err.refused c.self.inside.link _ c.args.attach c.in-Err.ensures.left)
 
 pub invariant_of-self-in-Err : goal.invariant_of-self-in-Err
 invariant_of-self-in-Err g c =
