@@ -13,8 +13,9 @@ ghost use Rattle.std.specs.Prelude.{IfOk, IfErr, IsErrOf, IsSomeAnd, OnOk, OnErr
 ghost use Rattle.amqp_link.specs.AttachFields.{next_of, remote_entries};
 ghost use Rattle.amqp_link.specs.Bodies.{whole_message};
 ghost use Rattle.amqp_link.specs.Completing.{IsDelivery, link_refusal, transfer_refusal};
+ghost use Rattle.amqp_link.specs.Failing.{is_listing};
 ghost use Rattle.amqp_link.specs.Held.{Held, held_bytes};
-ghost use Rattle.amqp_link.specs.ReceiverAttaches.{has_entries, receiver_exchange_in, receiver_left, receiver_refusal, receiver_taken, is_listing, receiver_taking_allocates};
+ghost use Rattle.amqp_link.specs.ReceiverAttaches.{has_entries, receiver_exchange_in, receiver_left, receiver_refusal, receiver_taken, receiver_taking_allocates};
 ghost use Rattle.amqp_link.specs.Refusals.{AnswersExactly, AnswersThenOutOfMemory, refusal};
 ghost use Rattle.amqp_link.specs.Targets.{plain_target};
 ghost use Rattle.amqp_link.specs.Termini.{receiver_refuses_target};
