@@ -31,6 +31,7 @@ pub use Rattle.amqp_link_ledger.specs.Exchanging
 pub use Rattle.amqp_link_ledger.specs.Fates
 pub use Rattle.amqp_link_ledger.specs.Ledgers
 pub use Rattle.amqp_link_ledger.specs.Sends
+pub use Rattle.amqp_link_pair.specs.Aborting
 pub use Rattle.amqp_link_payloads.specs.Bodies
 pub use Rattle.amqp_link_payloads.specs.Header
 pub use Rattle.amqp_link_payloads.specs.Pieces

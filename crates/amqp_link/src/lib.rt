@@ -43,7 +43,7 @@ pub use endpoint::{Link, LinkAttach, LinkDetach, LinkExt, LinkParts};
 pub use frame::{LinkFrame, LinkTransfer};
 pub use incomplete_transfer::IncompleteTransfer;
 pub use ledger::{Fate, OutcomeLedger};
-pub use pair::{Answer, Arrived, Event, Pair, PairError, Progress, Resumed, Sent};
+pub use pair::{Answer, Arrived, Event, OrAborted, Pair, PairError, Progress, Resumed, Sent};
 pub use receiver_link::ReceiverLink;
 pub use sender_link::{SenderLink, Sending, Waiting};
 pub use types::{DeliveryState, DeliveryTag, Payload, Whole};

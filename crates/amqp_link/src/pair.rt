@@ -1,5 +1,5 @@
 //! Two link endpoints and the wire between them, through any interruptions.
 
 pub use amqp_link_pair::{
-    Answer, AnswerOf, Arrived, Event, Pair, PairError, Progress, Resumed, Sent,
+    Answer, AnswerOf, Arrived, Event, OrAborted, Pair, PairError, Progress, Resumed, Sent,
 };

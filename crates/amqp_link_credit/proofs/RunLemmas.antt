@@ -90,7 +90,7 @@ module _ (old : CreditWorld) (k : IsCreditWorld old) (payload : List ℕ) (settl
   sent_world = record old { sender = sender_after_send settled old.sender payload; forward = old.forward ++ frames }
 
   ones : IsOne false frames × (deliveries None frames ≡ (next_tag old.sender, payload) ∷ [])
-  ones = one_sent old.sender (record { 0 = 0 }) (run_transfer settled (next_tag old.sender)) payload frames k.attached.sender_input refl (record { tag = refl; mode = refl }) framed
+  ones = one_sent old.sender (record { 0 = 0 }) (run_transfer settled (next_tag old.sender)) payload frames k.attached.sender_input refl refl (record { tag = refl; mode = refl }) framed
 
   pub sent_under_way : under_way sent_world ≡ under_way old ++ (next_tag old.sender, payload) ∷ []
   sent_under_way = way-append old.held old.forward frames k.whole ∙ ap (λ ds. under_way old ++ ds) ones.1

@@ -164,11 +164,11 @@ not_below k n e = grind (arith, nat_tests)
 is_below : (k n m : ℕ) → suc (suc k) + m ≡ n → nat_lt (k + 1) n ≡ true
 is_below k n m e = grind (arith, nat_tests)
 
--- a transfer of which no state is count_of_flow
-module _ (h : InputHandle) (t : Transfer) (n : ℕ) (silent : t.state ≡ None) where
+-- a transfer that states nothing and does not abort its delivery
+module _ (h : InputHandle) (t : Transfer) (n : ℕ) (silent : t.state ≡ None) (carries : t.aborted ≡ false) where
   goes_on : (k : ℕ) (p : List ℕ) → FollowsOn true (frame_of h t (suc k) n p)
   goes_on k p = subst (λ b. FollowsOn true (cond b (first_at h t (suc k) n p) (next_at h t (suc k) n p))) (sym (not_zero k))
-      (record { id = refl; tag = refl; silent = record { format = refl; settled = refl; state = silent } })
+      (record { id = refl; tag = refl; silent = record { format = refl; settled = refl; state = silent }; carries = carries })
 
   one_from : (begun : Bool) (k : ℕ) (f : LinkFrame) (frames : List LinkFrame) → FollowsOn begun f → AreFrames h t n k (f ∷ frames) → IsOne begun (f ∷ frames)
   one_from begun k f [] next a = (next, ap (λ f. (performative_of f).more) a.0 ∙ more_of_frame h t k n (payload_of f) ∙ not_below k n a.1)
@@ -179,14 +179,14 @@ module _ (h : InputHandle) (t : Transfer) (n : ℕ) (silent : t.state ≡ None) 
   )
 
 -- all frames of an opening transfer make one delivery
-pub one_of_frames : (h : InputHandle) (t : Transfer) (frames : List LinkFrame) → t.state ≡ None → BeginsDelivery t → 1 ≤ length frames → AreFramesOf h t frames
+pub one_of_frames : (h : InputHandle) (t : Transfer) (frames : List LinkFrame) → t.state ≡ None → t.aborted ≡ false → BeginsDelivery t → 1 ≤ length frames → AreFramesOf h t frames
     → IsOne false frames × (deliveries None frames ≡ (unwrap_or t.delivery_tag [], payload_of_all frames) ∷ [])
-one_of_frames h t [] silent opens some each = absurd (omega arith)
-one_of_frames h t (f ∷ frames) silent opens some each =
+one_of_frames h t [] silent carries opens some each = absurd (omega arith)
+one_of_frames h t (f ∷ frames) silent carries opens some each =
     let a : AreFrames h t (length (f ∷ frames)) 0 (f ∷ frames) =
     frames_from h t (length (f ∷ frames)) 0 (f ∷ frames) (omega arith) (λ i d l. subst (λ j. slice_index_or (f ∷ frames) i d ≡ frame_of h t j (length (f ∷ frames)) (payload_of (slice_index_or (f ∷ frames) i d))) (let z : i ≡ 0 + i = omega arith in z) (each i d l)) in
     let first : FollowsOn false f = subst (FollowsOn false) (sym a.0) (record { tag = opens.tag; mode = opens.mode }) in
-    let one : IsOne false (f ∷ frames) = one_from h t (length (f ∷ frames)) silent false 0 f frames first a in
+    let one : IsOne false (f ∷ frames) = one_from h t (length (f ∷ frames)) silent carries false 0 f frames first a in
     (one, one-made f frames one ∙ ap (λ tag. (unwrap_or tag [], payload_of_all (f ∷ frames)) ∷ []) (ap (λ f. (performative_of f).delivery_tag) a.0))
 
 joined-concat : (frames : List LinkFrame) → payload_of_all frames ≡ concat (map payload_of frames)
@@ -198,12 +198,12 @@ at_handle : (P : InputHandle → Type 0) (o : Option InputHandle) (h : InputHand
 at_handle P o h is all = let Q : Option InputHandle → Type 0 = λ o. IsSomeAnd o P in subst Q is all
 
 -- the frames of a payload that was sent make one delivery with that payload
-pub one_sent : {T : Type 0} (s : Sender T) (h : InputHandle) (t : Transfer) (payload : List ℕ) (frames : List LinkFrame) → s.input_handle ≡ Some h → t.state ≡ None → BeginsDelivery t → IsSent s t payload frames
+pub one_sent : {T : Type 0} (s : Sender T) (h : InputHandle) (t : Transfer) (payload : List ℕ) (frames : List LinkFrame) → s.input_handle ≡ Some h → t.state ≡ None → t.aborted ≡ false → BeginsDelivery t → IsSent s t payload frames
     → IsOne false frames × (deliveries None frames ≡ (unwrap_or t.delivery_tag [], payload) ∷ [])
-one_sent s h t payload frames input silent opens sent =
+one_sent s h t payload frames input silent carries opens sent =
     let each : AreFramesOf h t frames = at_handle (λ handle. AreFramesOf handle t frames) s.input_handle h input sent.each in
     let some : 1 ≤ length frames = omega (arith, sent.split.some, length-map frames payload_of) in
-    let one = one_of_frames h t frames silent opens some each in
+    let one = one_of_frames h t frames silent carries opens some each in
     (one.0, one.1 ∙ ap (λ bytes. (unwrap_or t.delivery_tag [], bytes) ∷ []) (joined-concat frames ∙ sent.split.joined))
 
 -- ---- what is held

@@ -1,9 +1,10 @@
 -- An attach of both endpoints is a step of the pair's world, and so is one that stops on the way.
-use Rattle.std.proofs.Common.{◌≡◌, ◌∙◌, sym, ap, subst, ℕ, false, inl, inr}
+use Rattle.std.proofs.Common.{◌≡◌, ◌∙◌, ◌++◌, sym, ap, subst, ℕ, false, inl, inr}
 use Rattle.std.specs.Map.{keys_of}
 use Rattle.std.specs.Prelude.{None, Result, Err}
 use Rattle.amqp_link_types.specs.Entries.{Entries}
 use Rattle.amqp_link_types.specs.Refusals.{refusal}
+use Rattle.amqp_link_exchange.specs.Exchanges.{unknown_aborted}
 use Rattle.amqp_link_ledger.specs.Fates.{HandsOut, Resolves, after}
 use Rattle.amqp_link_ledger.proofs.RecordLemmas.{resolves-none}
 use Rattle.amqp_link_worlds.specs.Invariants.{IsWorld}
@@ -50,7 +51,7 @@ module _ (old new : World) (limit count : ℕ) (k : IsWorld old) (may : refusal 
   off : is_together old.phase ≡ false
   off = (none_hold (attach_tests old limit) may).0
 
-  pub all_listed : keys_of new.resuming ≡ keys_of old.ledger.link.unsettled
+  pub all_listed : keys_of new.resuming ≡ keys_of old.ledger.link.unsettled ++ keys_of (unknown_aborted old.ledger.link.unsettled old.receiver.unsettled)
   all_listed = ap (λ (w : World). keys_of w.resuming) a.world ∙ attach_tags_are old k off
 
   pub only_handed_out : new.ledger.records ≡ after (HandsOut new.resuming) old.ledger.records

@@ -1,5 +1,5 @@
 -- A pair's receiver hands out a delivery.
-use Rattle.std.proofs.Common.{◌≡◌, ◌∙◌, ◌⊎◌, sym, ap, subst, refl, ℕ, Bool, true, false, not, List, [], ◌∷◌, ◌==◌, None, Some, Option, inl, inr}
+use Rattle.std.proofs.Common.{◌≡◌, ◌∙◌, ◌⊎◌, sym, ap, subst, refl, ℕ, Bool, true, false, not, ◌||◌, List, [], ◌∷◌, ◌==◌, None, Some, Option, inl, inr}
 use Rattle.std.specs.Prelude.{is_some, IfSome, IfOk, IfErr, Result, Ok, Err, option_and_then}
 use Rattle.std.specs.Option.{option_map_or}
 use Rattle.amqp_link_payloads.specs.declared.error.DecodeError.{DecodeError}
@@ -48,10 +48,14 @@ can_take w kept tag is world on =
 past_first : (b : Bool) (e : PairError) (tests : PairTests) → b ≡ false → refusal ((b, e) ∷ tests) ≡ refusal tests
 past_first b e tests h = rw (h) refl
 
+-- nothing is held, or the delivery was withdrawn, by how far it has come
+abbrev unknown_by : Option Progress → Bool
+unknown_by q = not (is_some (option_and_then (λ (p : Progress). p.held) q)) || option_map_or (λ (p : Progress). p.withdrawn) q false
+
 -- those before the message is decoded, by how far the delivery has come
 abbrev credit_by : Option Progress → Receiver Target → PairTests
 credit_by q r =
-    (not (is_some (option_and_then (λ (p : Progress). p.held) q)), error.UnknownTag)
+    (unknown_by q, error.UnknownTag)
     ∷ (not (option_map_or (λ (p : Progress). p.whole) q false), error.NotWhole)
     ∷ (option_map_or (λ (p : Progress). p.taken) q false, error.AlreadyHandedOut)
     ∷ (r.flow_state.link_credit == 0, error.TransferLimitExceeded)
@@ -72,7 +76,7 @@ module _ {B : Type 0} (decoded : List ℕ → Result (Message B) DecodeError) wh
   -- and all of them
   abbrev tests_by : Option Progress → Receiver Target → PairTests
   tests_by q r =
-      (not (is_some (option_and_then (λ (p : Progress). p.held) q)), error.UnknownTag)
+      (unknown_by q, error.UnknownTag)
       ∷ (not (option_map_or (λ (p : Progress). p.whole) q false), error.NotWhole)
       ∷ (option_map_or (λ (p : Progress). p.taken) q false, error.AlreadyHandedOut)
       ∷ (r.flow_state.link_credit == 0, error.TransferLimitExceeded)
@@ -124,6 +128,7 @@ module _ (tag : Tag) (old : Entries Kept) (r : Receiver Target) (new : Entries K
   refused_outcome error.NothingToResume l = inl l
   refused_outcome error.UnknownTag l = inl l
   refused_outcome error.NotWhole l = inl l
+  refused_outcome error.AlreadyWhole l = inl l
   refused_outcome error.AlreadyHandedOut l = inl l
   refused_outcome error.TransferLimitExceeded l = inl l
   refused_outcome error.OnWire l = inl l
@@ -201,6 +206,7 @@ module _ (w : World) (tag : Tag) (old : Entries Kept) (new : Entries Kept) (afte
   left_world A error.NothingToResume l = same_world l.0 l.1
   left_world A error.UnknownTag l = same_world l.0 l.1
   left_world A error.NotWhole l = same_world l.0 l.1
+  left_world A error.AlreadyWhole l = same_world l.0 l.1
   left_world A error.AlreadyHandedOut l = same_world l.0 l.1
   left_world A error.TransferLimitExceeded l = same_world l.0 l.1
   left_world A error.OnWire l = same_world l.0 l.1

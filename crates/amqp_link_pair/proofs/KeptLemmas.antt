@@ -132,6 +132,7 @@ module _ (old new : Entries Kept) (tag : Tag) (before after : Kept) (r r2 : Rece
   left_as error.NothingToResume l = (stays l.0, l.1)
   left_as error.UnknownTag l = (stays l.0, l.1)
   left_as error.NotWhole l = (stays l.0, l.1)
+  left_as error.AlreadyWhole l = (stays l.0, l.1)
   left_as error.AlreadyHandedOut l = (stays l.0, l.1)
   left_as error.TransferLimitExceeded l = (stays l.0, l.1)
   left_as error.Decode l = (before, known, put ∙ ap (with_entry old tag) l.0, l.1)

@@ -12,3 +12,4 @@ pub mod AttachLemmas
 pub mod EndsLemmas
 pub mod HandOutLemmas
 pub mod RunLemmas
+pub mod WithdrawLemmas

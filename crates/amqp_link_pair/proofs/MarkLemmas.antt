@@ -1,5 +1,5 @@
 -- What a pair keeps of each pending delivery shows, after each call, whether transfers of it are under way.
-use Rattle.std.proofs.Common.{◌≡◌, ◌∙◌, sym, ap, subst, refl, Bool, true, false, not, ◌&&◌, ℕ, ◌<◌, List, [], ◌∷◌, ◌++◌, length, None, Some, Option, arith}
+use Rattle.std.proofs.Common.{◌≡◌, ◌∙◌, sym, ap, subst, refl, Bool, true, false, not, ◌&&◌, ℕ, ◌<◌, List, [], ◌∷◌, ◌++◌, length, None, Some, Option, arith, inl, inr}
 use Rattle.std.specs.Prelude.{is_some, IsSome, IfSome}
 use Rattle.amqp_link_types.specs.Entries.{Tag, Entries, IsMap, entry_at, with_entry, without_entry}
 use Rattle.amqp_link_types.specs.Frames.{performative_of}
@@ -13,7 +13,7 @@ use Rattle.amqp_link_ledger.specs.Fates.{fates_of}
 use Rattle.amqp_link_worlds.specs.Invariants.{IsKeptAs, IsWorld}
 use Rattle.amqp_link_worlds.specs.Steps.{is_empty}
 use Rattle.amqp_link_worlds.specs.Wires.{OnWire, frames_of, under}
-use Rattle.amqp_link_worlds.specs.Worlds.{World, EndsInTime, is_together}
+use Rattle.amqp_link_worlds.specs.Worlds.{World, AreAborts, EndsInTime, is_together}
 use Rattle.amqp_link_worlds.specs.declared.progress.Progress.{Progress}
 use Rattle.amqp_link_worlds.proofs.EntriesOf.{by_tag, removed_here, removed_there}
 use Rattle.amqp_link_worlds.proofs.WorldLemmas.{frames_first, frames_other, frames_sent, frames_sent_other}
@@ -128,27 +128,35 @@ ends_by : (b whole : Bool) (f : LinkFrame) (frames : List LinkFrame) → (b ≡ 
 ends_by true whole f frames ends quiet = ends refl
 ends_by false whole f frames ends quiet = absurd (cons_is_nil (quiet refl))
 
+-- a transfer that carries its delivery is none that aborts it
+no_abort : (f : LinkFrame) (frames : List LinkFrame) → (performative_of f).aborted ≡ false → AreAborts (f ∷ frames) → ⊥
+no_abort f [] carries aborts = false_is_not_true (sym carries ∙ aborts)
+no_abort f (g ∷ frames) carries aborts = aborts
+
 -- what is under way of a pending delivery ends in time
 arriving_ends : (b : Bool) (tag : Tag) (own : Option UnsettledMessage) (listed : Option ResumingDelivery) (q : Option Progress) (reported : Option (Option DeliveryState)) (f : LinkFrame) (frames : List LinkFrame) (fates : List Fate)
-    → IsKeptAs b tag own listed q reported (f ∷ frames) fates → (performative_of f).more ≡ not (is_empty frames)
-arriving_ends b tag None None q reported f frames fates k = absurd (cons_is_nil k.2)
-arriving_ends b tag (Some entry) None None reported f frames fates k = absurd k
-arriving_ends b tag (Some entry) None (Some p) reported f frames fates k =
+    → (performative_of f).aborted ≡ false → IsKeptAs b tag own listed q reported (f ∷ frames) fates → (performative_of f).more ≡ not (is_empty frames)
+arriving_ends b tag None None None reported f frames fates carries k = absurd (cons_is_nil k.1)
+arriving_ends b tag None None (Some p) reported f frames fates carries k = absurd (no_abort f frames carries k.aborts)
+arriving_ends b tag (Some entry) None None reported f frames fates carries k = absurd k
+arriving_ends b tag (Some entry) None (Some p) reported f frames fates carries k =
     more_follow p.whole f frames (ends_by (b && not p.put_back) p.whole f frames k.0.good.ends k.0.good.quiet)
-arriving_ends b tag None (Some next) None reported f frames fates k = absurd k
-arriving_ends b tag None (Some next) (Some p) reported f frames fates k = absurd (cons_is_nil (k.0.under_way.good.quiet refl))
-arriving_ends b tag (Some entry) (Some next) q reported f frames fates k = absurd k
+arriving_ends b tag None (Some next) None reported f frames fates carries k = absurd k
+arriving_ends b tag None (Some next) (Some p) reported f frames fates carries k =
+    absurd (elim (k) as (λ _. ⊥) [ inl l ↦ cons_is_nil (l.0.under_way.good.quiet refl) | inr a ↦ cons_is_nil (a.withdrawn.quiet refl) ])
+arriving_ends b tag (Some entry) (Some next) q reported f frames fates carries k = absurd k
 
 module _ (old new : World) (kept : Entries Kept) (marks : AreMarked old kept) (world : IsWorld old)
     (s : OnWire) (id : ℕ) (k : Kept)
     (phase : is_together new.phase ≡ is_together old.phase)
     (own : new.ledger.link.unsettled ≡ old.ledger.link.unsettled)
-    (wire : old.wire ≡ s ∷ new.wire) where
+    (wire : old.wire ≡ s ∷ new.wire)
+    (carries : (performative_of s.frame).aborted ≡ false) where
   pub marks_arrived : AreMarked new (with_entry kept s.tag (kept_after k id s.frame))
   marks_arrived on =
       let first : frames_of s.tag old.wire ≡ s.frame ∷ frames_of s.tag new.wire = ap (frames_of s.tag) wire ∙ frames_first s new.wire in
       let more : (performative_of s.frame).more ≡ not (is_empty (frames_of s.tag new.wire)) =
-      arriving_ends (is_together old.phase) s.tag (entry_at old.ledger.link.unsettled s.tag) (entry_at old.resuming s.tag) (entry_at old.deliveries s.tag) (entry_at old.receiver.unsettled s.tag) s.frame (frames_of s.tag new.wire) (fates_of s.tag old.ledger.records)
+      arriving_ends (is_together old.phase) s.tag (entry_at old.ledger.link.unsettled s.tag) (entry_at old.resuming s.tag) (entry_at old.deliveries s.tag) (entry_at old.receiver.unsettled s.tag) s.frame (frames_of s.tag new.wire) (fates_of s.tag old.ledger.records) carries
       (subst (λ fs. IsKeptAs (is_together old.phase) s.tag (entry_at old.ledger.link.unsettled s.tag) (entry_at old.resuming s.tag) (entry_at old.deliveries s.tag) (entry_at old.receiver.unsettled s.tag) fs (fates_of s.tag old.ledger.records)) first (world.each s.tag)) in
       by_tag (λ t. IsMarkedAs (entry_at new.ledger.link.unsettled t) (entry_at (with_entry kept s.tag (kept_after k id s.frame)) t) (frames_of t new.wire)) s.tag
       (marked_as refl (sym (entry_at-put kept s.tag (kept_after k id s.frame))) refl (λ _. more))
@@ -156,4 +164,35 @@ module _ (old new : World) (kept : Entries Kept) (marks : AreMarked old kept) (w
       (ap (λ m. entry_at m other) (sym own))
       (sym (entry_at-put_other kept s.tag other (kept_after k id s.frame) n))
       (ap (frames_of other) wire ∙ frames_other other s new.wire n)
+      (marks (sym phase ∙ on) other))
+
+-- the delivery of the next transfer is forgotten
+module _ (old new : World) (kept : Entries Kept) (marks : AreMarked old kept) (is_kept : IsMap kept) (s : OnWire)
+    (phase : is_together new.phase ≡ is_together old.phase)
+    (own : new.ledger.link.unsettled ≡ old.ledger.link.unsettled)
+    (wire : old.wire ≡ s ∷ new.wire) where
+  pub marks_forgotten : AreMarked new (without_entry kept s.tag)
+  marks_forgotten on =
+      by_tag (λ t. IsMarkedAs (entry_at new.ledger.link.unsettled t) (entry_at (without_entry kept s.tag) t) (frames_of t new.wire)) s.tag
+      (marked_as refl (sym (removed_here kept s.tag is_kept)) refl (λ _. tt))
+      (λ other n. marked_as
+      (ap (λ m. entry_at m other) (sym own))
+      (sym (removed_there kept s.tag other is_kept n))
+      (ap (frames_of other) wire ∙ frames_other other s new.wire n)
+      (marks (sym phase ∙ on) other))
+
+-- the frames of a delivery that is not pending are added
+module _ (old new : World) (kept : Entries Kept) (marks : AreMarked old kept) (tag : Tag) (frames : List LinkFrame)
+    (phase : is_together new.phase ≡ is_together old.phase)
+    (own : new.ledger.link.unsettled ≡ old.ledger.link.unsettled)
+    (free : entry_at old.ledger.link.unsettled tag ≡ None)
+    (wire : new.wire ≡ old.wire ++ under tag frames) where
+  pub marks_aborting : AreMarked new kept
+  marks_aborting on =
+      by_tag (λ t. IsMarkedAs (entry_at new.ledger.link.unsettled t) (entry_at kept t) (frames_of t new.wire)) tag
+      (λ h. absurd (false_is_not_true (ap is_some (sym (ap (λ m. entry_at m tag) own ∙ free)) ∙ h)))
+      (λ other n. marked_as
+      (ap (λ m. entry_at m other) (sym own))
+      refl
+      (sym (ap (frames_of other) wire ∙ frames_sent_other other tag old.wire frames n))
       (marks (sym phase ∙ on) other))

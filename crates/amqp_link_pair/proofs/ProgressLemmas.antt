@@ -1,6 +1,6 @@
 -- How far each delivery has come, of what a pair keeps of it.
 use Rattle.std.proofs.Common.{◌≡◌, ◌∙◌, sym, ap, subst, refl, ℕ, ◌<◌, cond, [], ◌∷◌, length, map, true, false, Option, Some, None, arith}
-use Rattle.std.specs.Prelude.{option_map, option_and_then, position}
+use Rattle.std.specs.Prelude.{if◌then◌else◌, is_some, option_map, option_and_then, position}
 use Rattle.std.specs.List.{IsDistinct, swap_remove}
 use Rattle.std.specs.Map.{keys_of}
 use Rattle.std.specs.Option.{option_map_or}
@@ -10,7 +10,8 @@ use Rattle.amqp_link_types.specs.Entries.{Tag, Entries, IsMap, entry_at, with_en
 use Rattle.amqp_link_worlds.specs.declared.progress.Progress.{Progress}
 use Rattle.amqp_link_worlds.proofs.EntriesOf.{entry_at-map, keys-map}
 use Rattle.amqp_link_pair.specs.HandingOut.{held_in}
-use Rattle.amqp_link_pair.specs.Keeping.{progress_of}
+use Rattle.amqp_link_worlds.specs.Steps.{after_withdrawal}
+use Rattle.amqp_link_pair.specs.Keeping.{progress_of, withdrawn_of, without_withdrawn}
 use Rattle.amqp_link_pair.specs.declared.deliveries.Kept.{Kept}
 
 abbrev pub progress_in : Option Kept → Option Progress
@@ -77,3 +78,12 @@ progress_of-removed (e ∷ kept) tag =
 -- the tags are as distinct
 pub IsMap-kept : (kept : Entries Kept) → IsMap (progress_of kept) → IsMap kept
 IsMap-kept kept h = subst (IsDistinct bytes_eq) (keys-map (λ _ (k : Kept). k.progress) kept) h
+
+-- after a withdrawal
+pub progress_of-withdrawn : (kept : Entries Kept) (tag : Tag) (k : Kept) → progress_of (without_withdrawn tag k kept) ≡ after_withdrawal (progress_of kept) tag k.progress
+progress_of-withdrawn kept tag k =
+    elim (is_some k.progress.held) as (λ b. progress_of (if b then with_entry kept tag (withdrawn_of k) else without_entry kept tag)
+    ≡ (if b then with_entry (progress_of kept) tag (record k.progress { withdrawn = true }) else without_entry (progress_of kept) tag)) [
+      | true ↦ progress_of-put kept tag (withdrawn_of k)
+      | false ↦ progress_of-removed kept tag
+    ]

@@ -1,5 +1,5 @@
 -- What each call of a list returns and leaves is a step.
-use Rattle.std.proofs.Common.{◌≡◌, sym, ap, ℕ, ◌≤◌, false, Bool, subst, ◌∙◌, List, ◌∷◌, [], Ok, Err, Result, drop, length, ◌+◌, ◌<◌, get_or, true}
+use Rattle.std.proofs.Common.{◌≡◌, ◌⊎◌, sym, ap, ℕ, ◌≤◌, false, Bool, subst, ◌∙◌, List, ◌∷◌, [], Ok, Err, Result, drop, length, ◌+◌, ◌<◌, get_or, true}
 use Rattle.std.specs.Result.{result_map_both}
 use Rattle.std.specs.Prelude.{None, IfOk, IsErrOf, OnOk, OnErr}
 use Rattle.std.proofs.lemmas.List.{drop_all, drop_more}
@@ -9,17 +9,20 @@ use Rattle.amqp_link_types.specs.Deliveries.{Delivered}
 use Rattle.amqp_link_types.specs.Entries.{Tag}
 use Rattle.amqp_link_types.specs.Refusals.{refusal, AnswersExactly, AnswersOrOutOfMemory, AnswersThenOutOfMemory}
 use Rattle.amqp_link_worlds.specs.Before.{before_decoding}
-use Rattle.amqp_link_worlds.specs.PairRuns.{Step, RunsEvents, is_answer_out_of_memory}
-use Rattle.amqp_link_worlds.specs.Steps.{Attaches, LeftByAttach, Grants, Sends, Arrives, Cuts, Resumes, PutsBack, HandsOutDelivery, LeftByHandOut, Settles, is_halfway_at_other}
-use Rattle.amqp_link_worlds.specs.Steps.{attach_tests, grant_tests, send_tests, arrive_tests, cut_tests, next_tests, hand_out_tests, settle_tests}
+use Rattle.amqp_link_worlds.specs.PairRuns.{Does, Step, RunsEvents, aborts_next, is_answer_out_of_memory}
+use Rattle.amqp_link_worlds.specs.Steps.{Attaches, LeftByAttach, Grants, Sends, Cuts, PutsBack, DropsAbort, HandsOutDelivery, LeftByHandOut, Settles, WithdrawsDelivery, is_halfway_at_other}
+use Rattle.amqp_link_worlds.specs.Steps.{attach_tests, grant_tests, send_tests, arrive_tests, cut_tests, next_tests, hand_out_tests, settle_tests, withdraw_tests}
 use Rattle.amqp_link_worlds.specs.Worlds.{World, is_together}
 use Rattle.amqp_link_worlds.specs.declared.error.PairError.{PairError}
 use Rattle.amqp_link_worlds.specs.declared.error.PairError.TheVariants.{OutOfMemory}
 use Rattle.amqp_link_worlds.specs.declared.event.AnswerOf.{AnswerOf}
 use Rattle.amqp_link_worlds.specs.declared.event.AnswerOf.TheVariants as answer
 use Rattle.amqp_link_worlds.specs.declared.event.Event.{Event}
-use Rattle.amqp_link_worlds.specs.declared.event.Event.TheVariants.{Attach, Grant, Send, Arrive, Cut, ResumeNext, PutBackNext, HandOut, Settle}
-use Rattle.amqp_link_worlds.proofs.CalledLemmas.{stepped, exactly_or, then_or, memory_exactly, memory_last, attach_measures, left_by_attach, left_by_grant, left_by_cut, left_by_hand_out, left_same, grant_needs_none, send_needs_none, arrive_needs_none, cut_needs_none, next_needs_none, settle_needs_none, no_events, no_room, the_last, an_event_then}
+use Rattle.amqp_link_worlds.specs.declared.event.Event.TheVariants.{Attach, Grant, Send, Arrive, Cut, ResumeNext, PutBackNext, HandOut, Settle, Withdraw}
+use Rattle.amqp_link_worlds.proofs.CalledLemmas.{stepped, exactly_or, then_or, memory_exactly, memory_last, attach_measures, left_by_attach, left_by_grant, left_by_cut, left_by_withdraw, left_by_arrive, left_by_hand_out, left_same, grant_needs_none, send_needs_none, arrive_needs_none, cut_needs_none, next_needs_none, settle_needs_none, withdraw_needs_none, no_events, no_room, the_last, an_event_then}
+use Rattle.amqp_link_pair.specs.Aborting.{ArrivesOrAborts, ResumesOrAborts, arrival_answer, resumption_answer}
+use Rattle.amqp_link_pair.specs.declared.pair.OrAborted.{OrAborted}
+use Rattle.amqp_link_pair.specs.declared.pair.OrAborted.TheVariants.{Aborted, Answer}
 use Rattle.amqp_link_pair.specs.declared.pair.Arrived.{Arrived}
 use Rattle.amqp_link_pair.specs.declared.pair.Resumed.{Resumed}
 use Rattle.amqp_link_pair.specs.declared.pair.Sent.{Sent}
@@ -41,6 +44,19 @@ module _ {A : Type 0} {old new : World} {event made : Event} {r : Result A PairE
   -- where it was refused
   pub err_step : {error : PairError} {result : Result (AnswerOf Whole) PairError} → r ≡ Err error → result ≡ Err error → MakesStep old made r to new → Step whole_message old event result new
   err_step was out m = subst (λ result. Step whole_message old event result new) (sym out) (subst (λ r. Step whole_message old event (result_map_both to (λ error. error) r) new) was (at_event m))
+
+-- what an arrival and a resumption do is what their answers state
+does_arrive : (old new : World) (id : ℕ) (r : Result (OrAborted Arrived) PairError) → IfOk r (λ came. ArrivesOrAborts old id came new)
+    → IfOk r (λ came. Does whole_message old (Arrive id) (arrival_answer came) new)
+does_arrive old new id (Ok (Answer came)) done = done
+does_arrive old new id (Ok (Aborted tag)) done = done
+does_arrive old new id (Err error) done = tt
+
+does_resume : (old new : World) (r : Result (OrAborted Resumed) PairError) → IfOk r (λ resumed. ResumesOrAborts old resumed new)
+    → IfOk r (λ resumed. Does whole_message old ResumeNext (resumption_answer resumed) new)
+does_resume old new (Ok (Answer resumed)) done = done
+does_resume old new (Ok (Aborted tag)) done = done
+does_resume old new (Err error) done = tt
 
 module _ {old new : World} where
   pub attach_steps : {limit : ℕ} {r : Result ℕ PairError} → IfOk r (λ count. Attaches old limit count new) → AnswersOrOutOfMemory OutOfMemory r (attach_tests old limit)
@@ -64,13 +80,13 @@ module _ {old new : World} where
             (memory_last r (send_tests old payload) (send_needs_none old payload) answers) (left_same whole_message old new (Send payload) r (λ same. same) (λ _ same. same) left);
       }
 
-  pub arrive_steps : {id : ℕ} {r : Result Arrived PairError} → IfOk r (λ came. Arrives old id came.tag (came.section_number, came.section_offset) came.whole new)
-      → AnswersThenOutOfMemory OutOfMemory r (arrive_tests old) → OnErr r (new ≡ old)
-      → MakesStep old (Arrive id) r (λ came. answer.Arrived came.tag came.section_number came.section_offset came.whole) new
-  arrive_steps {id} {r} done answers left =
+  pub arrive_steps : {id : ℕ} {r : Result (OrAborted Arrived) PairError} → IfOk r (λ came. ArrivesOrAborts old id came new)
+      → AnswersThenOutOfMemory OutOfMemory r (arrive_tests old) → (IsErrOf r OutOfMemory → aborts_next old.wire ≡ false) → OnErr r (new ≡ old)
+      → MakesStep old (Arrive id) r arrival_answer new
+  arrive_steps {id} {r} done answers carries left =
       record {
-        step = stepped whole_message old new (Arrive id) r (λ came. answer.Arrived came.tag came.section_number came.section_offset came.whole) done (then_or r (arrive_tests old) answers)
-            (memory_last r (arrive_tests old) (arrive_needs_none old) answers) (left_same whole_message old new (Arrive id) r (λ same. same) (λ _ same. same) left);
+        step = stepped whole_message old new (Arrive id) r arrival_answer (does_arrive old new id r done) (then_or r (arrive_tests old) answers)
+            (memory_last r (arrive_tests old) (arrive_needs_none old) answers) (left_by_arrive whole_message old new r id carries left);
       }
 
   pub cut_steps : {r : Result (Unit {0}) PairError} → OnOk r (Cuts old new) → AnswersExactly r (cut_tests old) → OnErr r (new ≡ old) → MakesStep old Cut r (λ _. answer.Cut) new
@@ -80,20 +96,28 @@ module _ {old new : World} where
             (left_by_cut whole_message old new r answers left);
       }
 
-  pub resume_steps : {r : Result Resumed PairError} → IfOk r (λ resumed. Resumes old resumed.tag resumed.frames resumed.resume new) → AnswersThenOutOfMemory OutOfMemory r (next_tests old) → OnErr r (new ≡ old)
-      → MakesStep old ResumeNext r (λ resumed. answer.Resumed resumed.tag resumed.frames resumed.resume) new
+  pub resume_steps : {r : Result (OrAborted Resumed) PairError} → IfOk r (λ resumed. ResumesOrAborts old resumed new) → AnswersThenOutOfMemory OutOfMemory r (next_tests old) → OnErr r (new ≡ old)
+      → MakesStep old ResumeNext r resumption_answer new
   resume_steps {r} done answers left =
       record {
-        step = stepped whole_message old new ResumeNext r (λ resumed. answer.Resumed resumed.tag resumed.frames resumed.resume) done (then_or r (next_tests old) answers)
+        step = stepped whole_message old new ResumeNext r resumption_answer (does_resume old new r done) (then_or r (next_tests old) answers)
             (memory_last r (next_tests old) (next_needs_none old) answers) (left_same whole_message old new ResumeNext r (λ same. same) (λ _ same. same) left);
       }
 
-  pub put_back_steps : {r : Result Tag PairError} → IfOk r (λ tag. PutsBack old tag new) → AnswersThenOutOfMemory OutOfMemory r (next_tests old) → OnErr r (new ≡ old)
+  pub put_back_steps : {r : Result Tag PairError} → IfOk r (λ tag. PutsBack old tag new ⊎ DropsAbort old tag new) → AnswersThenOutOfMemory OutOfMemory r (next_tests old) → OnErr r (new ≡ old)
       → MakesStep old PutBackNext r answer.PutBack new
   put_back_steps {r} done answers left =
       record {
         step = stepped whole_message old new PutBackNext r answer.PutBack done (then_or r (next_tests old) answers)
             (memory_last r (next_tests old) (next_needs_none old) answers) (left_same whole_message old new PutBackNext r (λ same. same) (λ _ same. same) left);
+      }
+
+  pub withdraw_steps : {tag : Tag} {r : Result (Unit {0}) PairError} → OnOk r (WithdrawsDelivery old tag new) → AnswersExactly r (withdraw_tests old tag) → OnErr r (new ≡ old)
+      → MakesStep old (Withdraw tag) r (λ _. answer.Withdrawn) new
+  withdraw_steps {tag} {r} done answers left =
+      record {
+        step = stepped whole_message old new (Withdraw tag) r (λ _. answer.Withdrawn) done (exactly_or r (withdraw_tests old tag) answers)
+            (memory_exactly r (withdraw_tests old tag) (withdraw_needs_none old tag) answers) (left_by_withdraw whole_message old new r tag answers left);
       }
 
   pub hand_out_steps : {tag : Tag} {r : Result (Delivered Whole) PairError} → IfOk r (λ delivery. HandsOutDelivery whole_message old tag delivery new)

@@ -42,26 +42,29 @@ module _ (w : World) (kept : Entries Kept) (tag : Tag) (is : w.deliveries ≡ pr
     flag_is : (flag : Progress → Bool) → has_flag flag w tag ≡ flag k.progress
     flag_is flag = ap (λ (m : Entries Progress). option_map_or flag (entry_at m tag) false) is ∙ ap (λ o. option_map_or flag o false) (known_at kept tag k known)
 
-    pub not_whole : k.progress.whole ≡ false → refusal (settle_tests w tag) ≡ Some error.NotWhole
-    not_whole h = rw (on, there, flag_is (λ p. p.whole), h) refl
+    pub given_up : k.progress.withdrawn ≡ true → refusal (settle_tests w tag) ≡ Some error.UnknownTag
+    given_up h = rw (on, there, flag_is (λ p. p.withdrawn), h) refl
 
-    module _ (whole : k.progress.whole ≡ true) where
+    pub not_whole : k.progress.withdrawn ≡ false → k.progress.whole ≡ false → refusal (settle_tests w tag) ≡ Some error.NotWhole
+    not_whole stays h = rw (on, there, flag_is (λ p. p.withdrawn), stays, flag_is (λ p. p.whole), h) refl
+
+    module _ (stays : k.progress.withdrawn ≡ false) (whole : k.progress.whole ≡ true) where
       pub still_to_resume : is_empty w.resuming ≡ false → refusal (settle_tests w tag) ≡ Some error.ResumeFirst
-      still_to_resume h = rw (on, there, flag_is (λ p. p.whole), whole, h) refl
+      still_to_resume h = rw (on, there, flag_is (λ p. p.withdrawn), stays, flag_is (λ p. p.whole), whole, h) refl
 
       module _ (none : is_empty w.resuming ≡ true) (world : IsWorld w) (marks : AreMarked w kept) where
         registered : IsSome (entry_at w.ledger.link.unsettled tag)
         registered = let found = settled_stands (is_together w.phase) tag (entry_at w.ledger.link.unsettled tag) (entry_at w.resuming tag) (entry_at w.deliveries tag) (entry_at w.receiver.unsettled tag) (frames_of tag w.wire) (fates_of tag w.ledger.records)
-            (nothing_listed w.resuming tag (nothing_in w.resuming (ap not none))) there (world.each tag) in found.0
+            (nothing_listed w.resuming tag (nothing_in w.resuming (ap not none))) there (flag_is (λ p. p.withdrawn) ∙ stays) (world.each tag) in found.0
 
         mark_is : k.is_under_way ≡ not (is_empty (frames_of tag w.wire))
         mark_is = subst (λ o. IfSome o (λ k. k.is_under_way ≡ not (is_empty (frames_of tag w.wire)))) known (marks on tag registered)
 
         pub under_way : k.is_under_way ≡ true → refusal (settle_tests w tag) ≡ Some error.OnWire
-        under_way h = let busy : not (is_empty (frames_of tag w.wire)) ≡ true = sym mark_is ∙ h in rw (on, there, flag_is (λ p. p.whole), whole, none, busy) refl
+        under_way h = let busy : not (is_empty (frames_of tag w.wire)) ≡ true = sym mark_is ∙ h in rw (on, there, flag_is (λ p. p.withdrawn), stays, flag_is (λ p. p.whole), whole, none, busy) refl
 
         pub may_settle : k.is_under_way ≡ false → refusal (settle_tests w tag) ≡ None
-        may_settle h = let free : not (is_empty (frames_of tag w.wire)) ≡ false = sym mark_is ∙ h in rw (on, there, flag_is (λ p. p.whole), whole, none, free) refl
+        may_settle h = let free : not (is_empty (frames_of tag w.wire)) ≡ false = sym mark_is ∙ h in rw (on, there, flag_is (λ p. p.withdrawn), stays, flag_is (λ p. p.whole), whole, none, free) refl
 
         pub has_id : IsSome held.performative.delivery_id
         has_id = held_has_id w tag held world holds_at

@@ -11,7 +11,9 @@ use Rattle.amqp_link_ledger.specs.Fates.{Resolves, after}
 use Rattle.amqp_link_ledger.specs.Ledgers.{Ledger}
 use Rattle.amqp_link_worlds.specs.Resumptions.{entry_of}
 use Rattle.amqp_link_worlds.specs.Steps.{Settles, PutsBack, after_registration}
-use Rattle.amqp_link_worlds.specs.Worlds.{World, is_together}
+use Rattle.amqp_link_worlds.specs.Invariants.{IsWorld}
+use Rattle.amqp_link_worlds.specs.Worlds.{World, Good, is_together}
+use Rattle.amqp_link_worlds.proofs.WorldLemmas.{Good-from_world}
 use Rattle.amqp_link_worlds.specs.declared.progress.Progress.{Progress}
 use Rattle.amqp_link_pair.specs.Endpoints.{IsEnds, IsOnWayAt, phase_of, with_ends}
 use Rattle.amqp_link_pair.specs.Keeping.{progress_of, marked}
@@ -92,3 +94,7 @@ puts_back w ends ledger kept left tag next others entry p listed is known l mark
   known = known;
   world = (λ i. record (with_ends w (registered_ends (l i) ends)) { deliveries = noted kept left tag p true known marks i; resuming = others });
 }
+
+-- a pair's world is good
+pub good_world : (w : World) → IsWorld w → Good w
+good_world w k = Good-from_world w k

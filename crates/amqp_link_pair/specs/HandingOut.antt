@@ -1,5 +1,5 @@
 -- A delivery is handed out (OASIS AMQP 1.0 core, 2.6.7 and 2.6.12): its refusals, and what they leave.
-use Rattle.std.specs.Prelude.{◌≡◌, ℕ, ◌==◌, ◌∷◌, [], true, false, not, List, Option, Some, is_some, option_and_then, Result}
+use Rattle.std.specs.Prelude.{◌≡◌, ℕ, Bool, ◌==◌, ◌||◌, ◌∷◌, [], true, false, not, List, Option, Some, is_some, option_and_then, Result}
 use Rattle.std.specs.Option.{option_map_or}
 use Rattle.amqp_link_payloads.specs.declared.error.DecodeError.{DecodeError}
 use Rattle.amqp_link_payloads.specs.declared.message.Message.{Message}
@@ -27,10 +27,14 @@ refusal_by _ = error.OutOfMemory
 abbrev pub held_in : Option Kept → Option Held
 held_in kept = option_and_then (λ (k : Kept). k.progress.held) kept
 
+-- whether nothing is held of it, or it was withdrawn
+abbrev pub is_unknown_in : Option Kept → Bool
+is_unknown_in kept = not (is_some (held_in kept)) || option_map_or (λ (k : Kept). k.progress.withdrawn) kept false
+
 -- the tests before its message is decoded
 abbrev pub credit_tests : Option Kept → Receiver Target → PairTests
 credit_tests kept r =
-    (not (is_some (held_in kept)), error.UnknownTag)
+    (is_unknown_in kept, error.UnknownTag)
     ∷ (not (option_map_or (λ (k : Kept). k.progress.whole) kept false), error.NotWhole)
     ∷ (option_map_or (λ (k : Kept). k.progress.taken) kept false, error.AlreadyHandedOut)
     ∷ (r.flow_state.link_credit == 0, error.TransferLimitExceeded)
@@ -44,7 +48,7 @@ module _ {B : Type 0} where
   -- all tests
   abbrev pub handing_out_tests : (List ℕ → Result (Message B) DecodeError) → Option Kept → Receiver Target → PairTests
   handing_out_tests decoded kept r =
-      (not (is_some (held_in kept)), error.UnknownTag)
+      (is_unknown_in kept, error.UnknownTag)
       ∷ (not (option_map_or (λ (k : Kept). k.progress.whole) kept false), error.NotWhole)
       ∷ (option_map_or (λ (k : Kept). k.progress.taken) kept false, error.AlreadyHandedOut)
       ∷ (r.flow_state.link_credit == 0, error.TransferLimitExceeded)

@@ -1,7 +1,7 @@
 -- What a pair keeps of each delivery: how far it has come, and whether transfers of it are under way.
-use Rattle.std.specs.Prelude.{◌≡◌, ℕ, Bool, true, not, ◌++◌, map, Some}
+use Rattle.std.specs.Prelude.{◌≡◌, ℕ, Bool, true, not, ◌++◌, if◌then◌else◌, is_some, map, Some}
 use Rattle.amqp_link_payloads.specs.Position.{position}
-use Rattle.amqp_link_types.specs.Entries.{Tag, Entries, entry_at, with_entry}
+use Rattle.amqp_link_types.specs.Entries.{Tag, Entries, entry_at, with_entry, without_entry}
 use Rattle.amqp_link_types.specs.Frames.{payload_of, performative_of}
 use Rattle.amqp_link_types.specs.declared.frame.LinkFrame.{LinkFrame}
 use Rattle.amqp_link_types.specs.declared.types.terminus.Target.{Target}
@@ -25,6 +25,15 @@ marked put_back kept = record {
   progress = record kept.progress { put_back = put_back };
   is_under_way = not put_back;
 }
+
+-- it was withdrawn
+abbrev pub withdrawn_of : Kept → Kept
+withdrawn_of kept = record { progress = record kept.progress { withdrawn = true }; is_under_way = kept.is_under_way }
+
+-- what is kept of all deliveries once one is withdrawn: nothing of it, unless something of it has arrived
+abbrev pub without_withdrawn : Tag → Kept → Entries Kept → Entries Kept
+without_withdrawn tag kept all =
+    if is_some kept.progress.held then with_entry all tag (withdrawn_of kept) else without_entry all tag
 
 -- a delivery once a transfer has arrived
 abbrev pub kept_after : Kept → ℕ → LinkFrame → Kept

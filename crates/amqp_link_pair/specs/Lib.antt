@@ -1,3 +1,4 @@
+pub mod Aborting
 pub mod Queues
 pub mod QueueViews
 pub mod Keeping

@@ -1,10 +1,11 @@
 //! How far each delivery of a pair has come, by tag.
 //!
 //! The map is hashed, so that what an arrival costs does not grow with the number of deliveries.
-ghost use Rattle.std.specs.Prelude.{◌≡◌, [], None, Some, true, false, is_none, IfOk, IfErr, IsSome, OnOk, OnErr};
-ghost use Rattle.std.specs.Option.{option_copied};
+ghost use Rattle.std.specs.Prelude.{◌≡◌, [], None, Some, true, false, is_none, is_some, IfOk, IfErr, IsSome, OnOk, OnErr};
+ghost use Rattle.std.specs.Option.{option_copied, option_map_or};
 ghost use Rattle.amqp_link_types.specs.Entries.{Entries, entry_at, with_entry, without_entry};
-ghost use Rattle.amqp_link_pair.specs.Keeping.{just_sent, marked};
+ghost use Rattle.amqp_link_pair.specs.HandingOut.{held_in};
+ghost use Rattle.amqp_link_pair.specs.Keeping.{just_sent, marked, withdrawn_of};
 
 mod handing_out;
 mod receiving;
@@ -57,6 +58,7 @@ fn new_delivery() -> Kept
             whole: false,
             put_back: false,
             taken: false,
+            withdrawn: false,
         },
         is_under_way: true,
     }
@@ -77,6 +79,23 @@ impl Deliveries {
         ensures { option_copied result ≡ entry_at self.now tag.now }
     {
         self.entries.get(tag)
+    }
+
+    // Whether the last transfer of a delivery has arrived.
+    pub(crate) fn is_whole(&self, tag: &DeliveryTag) -> bool
+        ensures { result ≡ option_map_or (λ kept. kept.progress.whole) (entry_at self.now tag.now) false }
+    {
+        match self.entries.get(tag) {
+            Some(kept) => kept.progress.whole,
+            None => false,
+        }
+    }
+
+    // Whether something is kept of the delivery with this tag.
+    pub(crate) fn contains(&self, tag: &[u8]) -> bool
+        ensures { result ≡ is_some (entry_at self.now tag.now) }
+    {
+        self.entries.contains_key(tag)
     }
 
     // Adds a delivery that is sent, unless there is one of the tag: then nothing changes. Whether it was added.
@@ -121,6 +140,43 @@ impl Deliveries {
             unreachable!()
         };
         drop(mem::replace(place, kept));
+    }
+
+    // Whether something of the delivery with this tag has arrived.
+    fn is_held(&self, tag: &DeliveryTag) -> bool
+        ensures { result ≡ is_some (held_in (entry_at self.now tag.now)) }
+    {
+        match self.entries.get(tag) {
+            Some(kept) => kept.progress.held.is_some(),
+            None => false,
+        }
+    }
+
+    // Marks a delivery that is there as withdrawn, or removes it if nothing of it has arrived.
+    pub(crate) fn withdraw_kept(&mut self, tag: &DeliveryTag)
+        requires { IsSome (entry_at self.old tag.now) }
+        ensures none_held { is_some (held_in (entry_at self.old tag.now)) ≡ false
+            → self.new ≡ without_entry self.old tag.now }
+        ensures some_held { (kept : Kept) → is_some (held_in (entry_at self.old tag.now)) ≡ true
+            → entry_at self.old tag.now ≡ Some kept → self.new ≡ with_entry self.old tag.now (withdrawn_of kept) }
+    {
+        if self.is_held(tag) {
+            self.mark_withdrawn(tag);
+        } else {
+            self.remove(tag);
+        }
+    }
+
+    // Marks a delivery that is there as withdrawn.
+    fn mark_withdrawn(&mut self, tag: &DeliveryTag)
+        requires { IsSome (entry_at self.old tag.now) }
+        ensures { (kept : Kept) → entry_at self.old tag.now ≡ Some kept
+            → self.new ≡ with_entry self.old tag.now (withdrawn_of kept) }
+    {
+        let Some(kept) = self.entries.get_mut(tag) else {
+            unreachable!()
+        };
+        kept.progress.withdrawn = true;
     }
 
     // Sets, for a delivery that is there, whether its entry was put back unsent or its transfers are under

@@ -114,6 +114,13 @@ impl Ends {
         matches!(self.stage, Stage::Together)
     }
 
+    /// Whether neither has begun to attach since they were made or lost their session.
+    pub(crate) fn are_apart(&self) -> bool
+        ensures { result ≡ Steps.is_apart (phase_of self.now.stage self.now.limit) }
+    {
+        matches!(self.stage, Stage::Apart)
+    }
+
     /// Whether the attaches of both endpoints with all their deliveries fit a frame at this limit.
     pub(crate) fn attaches_fit(&self, limit: u32) -> Result<bool, AllocError>
         ensures { IfOk result (λ fit. fit ≡ Steps.attaches_fit self.now.ledger.link self.now.receiver limit) }

@@ -16,4 +16,4 @@ mod wire;
 pub use amqp_link_worlds::error::PairError;
 pub use amqp_link_worlds::event::{Answer, AnswerOf, Event};
 pub use amqp_link_worlds::progress::Progress;
-pub use pair::{Arrived, Pair, Resumed, Sent};
+pub use pair::{Arrived, OrAborted, Pair, Resumed, Sent};

@@ -4,7 +4,7 @@
 //! delivery exactly the bytes that arrived. A cut loses what is on the wire; when both endpoints are attached
 //! again, each delivery is resumed from the position that the receiver reports. All deliveries are unsettled
 //! and of format 0.
-ghost use Rattle.std.specs.Prelude.{◌≡◌, ◌≢◌, ◌<◌, ◌≤◌, ◌^◌, [], true, false, length, None, Some, IfOk, IsErrOf, IsSome, OnOk, OnErr, is_some, option_copied, if◌then◌else◌};
+ghost use Rattle.std.specs.Prelude.{◌≡◌, ◌≢◌, ◌⊎◌, ◌++◌, ◌<◌, ◌≤◌, ◌^◌, [], true, false, length, None, Some, IfErr, IfOk, IfSome, IsErrOf, IsSome, OnOk, OnErr, is_some, option_copied, if◌then◌else◌};
 ghost use Rattle.amqp_link_types.specs.Entries.{entry_at};
 ghost use Rattle.amqp_link_types.specs.Refusals.{AnswersExactly, AnswersOrOutOfMemory, AnswersThenOutOfMemory, refusal};
 ghost use Rattle.std.specs.Map.{keys_of};
@@ -12,19 +12,26 @@ ghost use Rattle.amqp_link_sender.specs.Senders;
 ghost use Rattle.amqp_link_ledger.specs.Fates.{HandsOut, IsRecorded, after};
 ghost use Rattle.amqp_link_worlds.specs.Invariants.{IsWorld};
 ghost use Rattle.amqp_link_worlds.specs.Worlds.{Good, held_at, is_together};
-ghost use Rattle.amqp_link_worlds.specs.Steps.{Attaches, LeftByAttach, Grants, Sends, Arrives, Cuts, Resumes, PutsBack, HandsOutDelivery, LeftByHandOut, Settles};
-ghost use Rattle.amqp_link_worlds.specs.Steps.{new_world, is_halfway_at_other, attach_tests, grant_tests, send_tests, arrive_tests, cut_tests, next_tests, hand_out_tests, settle_tests};
+ghost use Rattle.amqp_link_worlds.specs.Steps.{Attaches, LeftByAttach, Grants, Sends, Arrives, AbortArrives, Cuts, Resumes, SendsAbort, PutsBack, DropsAbort, HandsOutDelivery, LeftByHandOut, Settles, WithdrawsDelivery};
+ghost use Rattle.amqp_link_worlds.specs.Steps.{new_world, is_halfway_at_other, attach_tests, grant_tests, send_tests, arrive_tests, cut_tests, next_tests, hand_out_tests, settle_tests, withdraw_tests};
 ghost use Rattle.amqp_link_worlds.specs.Before.{before_decoding, before_tag};
+ghost use Rattle.amqp_link_worlds.specs.PairRuns.{aborts_next};
+ghost use Rattle.amqp_link_worlds.specs.Resumptions.{is_abort};
+ghost use Rattle.amqp_link_exchange.specs.Exchanges.{unknown_aborted};
+ghost use Rattle.amqp_link_pair.specs.Queues.{first_element};
 
 mod runs;
 
 use crate::deliveries::Deliveries;
 use crate::ends::{Ends, Stage};
-use crate::receiving::take_off;
+use crate::receiving::{is_aborted, take_off};
 use crate::resuming::Resuming;
-use crate::sending::{is_resumed, next_tag, put_back, resume, resumption_of, send_unsettled};
+use crate::sending::{
+    abort_frames, is_resumed, next_tag, put_back, resume, resumption_of, send_unsettled,
+};
 use crate::wire::Wire;
 use amqp_link_core::incomplete_transfer::IncompleteTransfer;
+use amqp_link_core::resumption::ResumingDelivery;
 use amqp_link_endpoint::endpoint::LinkExt;
 use amqp_link_ledger::ledger::OutcomeLedger;
 use amqp_link_receiver::receiver_link::ReceiverLink;
@@ -68,6 +75,16 @@ pub struct Resumed {
     pub resume: bool,
 }
 
+/// What a call returns of the next delivery: an answer of its own, or the tag of a delivery that is aborted, since it was
+/// withdrawn.
+#[derive(Debug, PartialEq, Eq, Drop)]
+pub enum OrAborted<A> {
+    /// The call's own answer.
+    Answer(A),
+    /// The delivery with this tag is aborted.
+    Aborted(DeliveryTag),
+}
+
 /// Two endpoints of a link and the wire between them.
 ///
 /// A contract sees its world: how far the endpoints are attached, both endpoints, how far each delivery has
@@ -98,7 +115,10 @@ impl Model for Pair {
     ghost invariant = { IsPair };
 }
 
+#[tactic(auto, using(crate::proofs::StepLemmas::good_world))]
 impl Pair {
+    ghost use Rattle.amqp_link_pair.specs.Aborting.{ArrivesOrAborts, ResumesOrAborts};
+
     /// Two endpoints that are not attached, both with this delivery-count and no credit: the link "l" at
     /// handle 0.
     ///
@@ -119,8 +139,9 @@ impl Pair {
     }
 
     /// Attaches both endpoints, for the first time or after a cut, at a frame limit in bytes (2.6.3), and
-    /// returns how many deliveries are to be resumed. Each pending delivery of the sender is handed out for
-    /// that, in the order of its unsettled map, and no registration is resolved.
+    /// returns how many deliveries are to be resumed or aborted. Each pending delivery of the sender is handed out for
+    /// that, in the order of its unsettled map, and no registration is resolved. Those that were withdrawn, and of which
+    /// the receiver holds something, follow in the order of the receiver's map: they are aborted.
     ///
     /// Refused in this order, with nothing changed: `AlreadyAttached`; `LimitChanged`, if an earlier call has
     /// begun at another limit; `LimitTooSmall`, if the limit is under 29, or if the attach of an endpoint
@@ -133,7 +154,8 @@ impl Pair {
     /// position that the receiver reports is looked for.
     pub fn attach(&mut self, limit: u32) -> Result<usize, PairError>
         ensures done { IfOk result (λ count. Attaches self.old limit count self.new) }
-        ensures listed { OnOk result (keys_of self.new.resuming ≡ keys_of self.old.ledger.link.unsettled) }
+        ensures listed { OnOk result (keys_of self.new.resuming ≡ keys_of self.old.ledger.link.unsettled
+            ++ keys_of (unknown_aborted self.old.ledger.link.unsettled self.old.receiver.unsettled)) }
         ensures handed_out { OnOk result (self.new.ledger.records
             ≡ after (HandsOut self.new.resuming) self.old.ledger.records) }
         ensures refused { AnswersOrOutOfMemory PairError.OutOfMemory result (attach_tests self.old limit) }
@@ -208,19 +230,14 @@ impl Pair {
         }
     }
 
-    // Why a send that ran out of memory is refused: with `TagPending` if its tag is pending, which
+    // Why a send that ran out of memory is refused: with `TagPending` if something is kept of its tag, which
     // `send_next` may not have tested, otherwise with `OutOfMemory`.
     fn pending_or_out_of_memory(&self) -> PairError
-        ensures { result ≡ (if is_some (entry_at self.now.ledger.link.unsettled (Senders.next_tag self.now.ledger.link))
+        ensures { result ≡ (if is_some (entry_at self.now.deliveries (Senders.next_tag self.now.ledger.link))
             then PairError.TagPending else PairError.OutOfMemory) }
     {
         let count = self.ends.ledger.flow_state().delivery_count();
-        if self
-            .ends
-            .ledger
-            .unsettled()
-            .contains_key(count.to_be_bytes().as_slice())
-        {
+        if self.deliveries.contains(count.to_be_bytes().as_slice()) {
             PairError::TagPending
         } else {
             PairError::OutOfMemory
@@ -242,7 +259,7 @@ impl Pair {
         let tag = next_tag(self.alloc, &self.ends.ledger)?;
         // Room for all but the sender's entry, which is the last allocation.
         self.wire.reserve()?;
-        // There is a delivery of the tag exactly if the sender has one pending.
+        // There is a delivery of the tag exactly if the sender has one pending or the receiver holds something of one.
         if !self.deliveries.add(&tag)? {
             return Err(PairError::TagPending);
         }
@@ -280,17 +297,18 @@ impl Pair {
     /// The next transfer arrives, with this delivery id if it is the first of its delivery in this
     /// attachment. Its payload is added to what the receiver holds of the delivery, and the receiver reports
     /// the position of that. Returns the delivery's tag, that position, and whether the last transfer has
-    /// arrived.
+    /// arrived. If the transfer aborts its delivery, what is held of it is dropped, the receiver's entry goes, and the
+    /// tag is returned.
     ///
     /// Refused in this order, with nothing changed, so that the transfer stays on the wire: `NotAttached`,
-    /// `WireEmpty`, `OutOfMemory`.
+    /// `WireEmpty`, `OutOfMemory`, which an aborted transfer is not refused with.
     ///
     /// Its cost grows with the bytes of the transfer, which are read for the position, and not with the number
     /// of deliveries.
-    pub fn arrive(&mut self, id: DeliveryNumber) -> Result<Arrived, PairError>
-        ensures done { IfOk result (λ came. Arrives self.old id came.tag
-            (came.section_number, came.section_offset) came.whole self.new) }
+    pub fn arrive(&mut self, id: DeliveryNumber) -> Result<OrAborted<Arrived>, PairError>
+        ensures done { IfOk result (λ came. ArrivesOrAborts self.old id came self.new) }
         ensures refused { AnswersThenOutOfMemory PairError.OutOfMemory result (arrive_tests self.old) }
+        ensures memory { IsErrOf result PairError.OutOfMemory → aborts_next self.old.wire ≡ false }
         ensures left { OnErr result (self.new ≡ self.old) }
         ensures good { Good self.new }
         ensures kept { IsWorld self.new }
@@ -298,8 +316,49 @@ impl Pair {
         if !self.ends.are_together() {
             return Err(PairError::NotAttached);
         }
-        let Some((tag, frame)) = self.wire.first() else {
+        let Some((_, frame)) = self.wire.first() else {
             return Err(PairError::WireEmpty);
+        };
+        if is_aborted(frame) {
+            return Ok(OrAborted::Aborted(self.abort_arrives()));
+        }
+        Ok(OrAborted::Answer(self.transfer_arrives(id)?))
+    }
+
+    // The next transfer, which aborts its delivery, arrives.
+    fn abort_arrives(&mut self) -> DeliveryTag
+        requires may { refusal (arrive_tests self.old) ≡ None }
+        requires aborts { aborts_next self.old.wire ≡ true }
+        ensures done { AbortArrives self.old result self.new }
+        ensures good { Good self.new }
+        ensures kept { IsWorld self.new }
+    {
+        let Some((tag, _)) = self.wire.first() else {
+            unreachable!()
+        };
+        let Ok(tag) = tag.clone() else { unreachable!() };
+        let Some(frame) = self.wire.take_first() else {
+            unreachable!()
+        };
+        self.deliveries.remove(&tag);
+        self.ends.receiver.on_aborted(&tag);
+        take_off(&mut self.ends.receiver, frame);
+        tag
+    }
+
+    // The next transfer, which carries a part of its delivery, arrives.
+    fn transfer_arrives(&mut self, id: DeliveryNumber) -> Result<Arrived, PairError>
+        requires may { refusal (arrive_tests self.old) ≡ None }
+        requires carries { aborts_next self.old.wire ≡ false }
+        ensures done { IfOk result (λ came. Arrives self.old id came.tag
+            (came.section_number, came.section_offset) came.whole self.new) }
+        ensures refused { IfErr result (λ error. error ≡ PairError.OutOfMemory) }
+        ensures left { OnErr result (self.new ≡ self.old) }
+        ensures good { Good self.new }
+        ensures kept { IsWorld self.new }
+    {
+        let Some((tag, frame)) = self.wire.first() else {
+            unreachable!()
         };
         let tag = tag.clone()?;
         let (section_number, section_offset, whole) = self
@@ -342,14 +401,14 @@ impl Pair {
     }
 
     /// Sends those bytes of the next delivery to resume that the receiver does not hold, and registers its
-    /// entry again, with the whole payload. Spends no credit.
+    /// entry again, with the whole payload. Spends no credit. Of a delivery that was withdrawn the transfer that aborts it
+    /// is sent, nothing is registered, and its tag is returned.
     ///
     /// Refused in this order, with nothing changed: `NotAttached`, `NothingToResume`, `OutOfMemory`.
     ///
     /// Its cost grows as that of `send`.
-    pub fn resume_next(&mut self) -> Result<Resumed, PairError>
-        ensures done { IfOk result (λ resumed.
-            Resumes self.old resumed.tag resumed.frames resumed.resume self.new) }
+    pub fn resume_next(&mut self) -> Result<OrAborted<Resumed>, PairError>
+        ensures done { IfOk result (λ resumed. ResumesOrAborts self.old resumed self.new) }
         ensures refused { AnswersThenOutOfMemory PairError.OutOfMemory result (next_tests self.old) }
         ensures left { OnErr result (self.new ≡ self.old) }
         ensures good { Good self.new }
@@ -358,8 +417,56 @@ impl Pair {
         if !self.ends.are_together() {
             return Err(PairError::NotAttached);
         }
-        let Some((tag, next)) = self.resuming.first() else {
+        let Some((_, next)) = self.resuming.first() else {
             return Err(PairError::NothingToResume);
+        };
+        if matches!(next, ResumingDelivery::Abort { .. }) {
+            return Ok(OrAborted::Aborted(self.abort_next()?));
+        }
+        Ok(OrAborted::Answer(self.resume_listed()?))
+    }
+
+    // Sends the transfer that aborts the next delivery of the list, which was withdrawn.
+    fn abort_next(&mut self) -> Result<DeliveryTag, PairError>
+        requires may { refusal (next_tests self.old) ≡ None }
+        requires aborts { IfSome (first_element self.old.resuming) (λ next. is_abort next.1 ≡ true) }
+        ensures done { IfOk result (λ tag. SendsAbort self.old tag self.new) }
+        ensures refused { IfErr result (λ error. error ≡ PairError.OutOfMemory) }
+        ensures left { OnErr result (self.new ≡ self.old) }
+        ensures good { Good self.new }
+        ensures kept { IsWorld self.new }
+    {
+        let Some((tag, _)) = self.resuming.first() else {
+            unreachable!()
+        };
+        self.wire.reserve()?;
+        let on_wire = tag.clone()?;
+        let frames = match abort_frames(self.alloc, self.ends.ledger.link(), &on_wire) {
+            Ok(frames) => frames,
+            Err(refused) => {
+                drop(on_wire);
+                return Err(refused.into());
+            }
+        };
+        let (tag, next) = self.resuming.take_first();
+        drop(next);
+        self.wire.push(on_wire, frames);
+        Ok(tag)
+    }
+
+    // Resumes the next delivery of the list, or sends it again.
+    fn resume_listed(&mut self) -> Result<Resumed, PairError>
+        requires may { refusal (next_tests self.old) ≡ None }
+        requires resumes { IfSome (first_element self.old.resuming) (λ next. is_abort next.1 ≡ false) }
+        ensures done { IfOk result (λ resumed.
+            Resumes self.old resumed.tag resumed.frames resumed.resume self.new) }
+        ensures refused { IfErr result (λ error. error ≡ PairError.OutOfMemory) }
+        ensures left { OnErr result (self.new ≡ self.old) }
+        ensures good { Good self.new }
+        ensures kept { IsWorld self.new }
+    {
+        let Some((tag, next)) = self.resuming.first() else {
+            unreachable!()
         };
         let is_resumed = is_resumed(next);
         self.wire.reserve()?;
@@ -385,13 +492,14 @@ impl Pair {
     }
 
     /// Registers the entry of the next delivery to resume again without sending it, and returns its tag. The
-    /// next attach hands it out again.
+    /// next attach hands it out again. Of a delivery that was withdrawn nothing is registered: the next attach lists it
+    /// again.
     ///
     /// Refused in this order, with nothing changed: `NotAttached`, `NothingToResume`, `OutOfMemory`.
     ///
     /// Its cost does not grow with the number of deliveries.
     pub fn put_back_next(&mut self) -> Result<DeliveryTag, PairError>
-        ensures done { IfOk result (λ tag. PutsBack self.old tag self.new) }
+        ensures done { IfOk result (λ tag. PutsBack self.old tag self.new ⊎ DropsAbort self.old tag self.new) }
         ensures refused { AnswersThenOutOfMemory PairError.OutOfMemory result (next_tests self.old) }
         ensures left { OnErr result (self.new ≡ self.old) }
         ensures good { Good self.new }
@@ -400,8 +508,40 @@ impl Pair {
         if !self.ends.are_together() {
             return Err(PairError::NotAttached);
         }
-        let Some((tag, _)) = self.resuming.first() else {
+        let Some((_, next)) = self.resuming.first() else {
             return Err(PairError::NothingToResume);
+        };
+        if matches!(next, ResumingDelivery::Abort { .. }) {
+            return Ok(self.drop_abort());
+        }
+        self.put_back_listed()
+    }
+
+    // Takes the next delivery of the list, which was withdrawn, off it.
+    fn drop_abort(&mut self) -> DeliveryTag
+        requires may { refusal (next_tests self.old) ≡ None }
+        requires aborts { IfSome (first_element self.old.resuming) (λ next. is_abort next.1 ≡ true) }
+        ensures done { DropsAbort self.old result self.new }
+        ensures good { Good self.new }
+        ensures kept { IsWorld self.new }
+    {
+        let (tag, next) = self.resuming.take_first();
+        drop(next);
+        tag
+    }
+
+    // Registers the next delivery of the list again.
+    fn put_back_listed(&mut self) -> Result<DeliveryTag, PairError>
+        requires may { refusal (next_tests self.old) ≡ None }
+        requires resumes { IfSome (first_element self.old.resuming) (λ next. is_abort next.1 ≡ false) }
+        ensures done { IfOk result (λ tag. PutsBack self.old tag self.new) }
+        ensures refused { IfErr result (λ error. error ≡ PairError.OutOfMemory) }
+        ensures left { OnErr result (self.new ≡ self.old) }
+        ensures good { Good self.new }
+        ensures kept { IsWorld self.new }
+    {
+        let Some((tag, _)) = self.resuming.first() else {
+            unreachable!()
         };
         let own = tag.clone()?;
         let (tag, next) = self.resuming.take_first();
@@ -416,8 +556,8 @@ impl Pair {
     /// The receiver hands out a complete delivery, with its message, for one credit. What it holds of the
     /// delivery stays until the delivery is settled.
     ///
-    /// Refused in this order. With nothing changed: `NotAttached`; `UnknownTag`, if nothing is held of it;
-    /// `NotWhole`; `AlreadyHandedOut`; `TransferLimitExceeded`, if the receiver has no credit; `OutOfMemory`,
+    /// Refused in this order. With nothing changed: `NotAttached`; `UnknownTag`, if nothing is held of it, or it was
+    /// withdrawn; `NotWhole`; `AlreadyHandedOut`; `TransferLimitExceeded`, if the receiver has no credit; `OutOfMemory`,
     /// which comes after all of these. With the credit spent: `Decode`, if the message cannot be decoded; the
     /// delivery counts as handed out then.
     ///
@@ -444,8 +584,8 @@ impl Pair {
     /// delivery leaves both unsettled maps, its registration is resolved as accepted, and what is held of it is
     /// dropped.
     ///
-    /// Refused in this order, with nothing changed: `NotAttached`; `UnknownTag`, if nothing is held of it;
-    /// `NotWhole`; `ResumeFirst`, while any delivery is still to be resumed; `OnWire`, if a transfer of it is
+    /// Refused in this order, with nothing changed: `NotAttached`; `UnknownTag`, if nothing is held of it, or it was
+    /// withdrawn; `NotWhole`; `ResumeFirst`, while any delivery is still to be resumed; `OnWire`, if a transfer of it is
     /// under way; `OutOfMemory`.
     ///
     /// Its cost grows with the number of pieces that are held of the delivery, which are dropped, and not with
@@ -478,6 +618,9 @@ impl Pair {
         let Some(held) = &kept.progress.held else {
             return Err(PairError::UnknownTag);
         };
+        if kept.progress.withdrawn {
+            return Err(PairError::UnknownTag);
+        }
         if !kept.progress.whole {
             return Err(PairError::NotWhole);
         }
@@ -491,6 +634,42 @@ impl Pair {
             Some(id) => Ok(id),
             None => unreachable!(),
         }
+    }
+
+    /// Takes a pending delivery back between two attachments: its registration is withdrawn, and its entry leaves the
+    /// sender's unsettled map. What the receiver holds of it stays: the next attach lists it to be aborted, until that has
+    /// arrived.
+    ///
+    /// Refused in this order, with nothing changed: `AlreadyAttached`, also after an attach that was out of memory once it
+    /// had begun; `UnknownTag`, if the delivery is not pending; `AlreadyWhole`, if its last transfer has arrived. Does not
+    /// allocate, and its cost does not grow with the number of deliveries.
+    pub fn withdraw(&mut self, tag: &DeliveryTag) -> Result<(), PairError>
+        ensures done { OnOk result (WithdrawsDelivery self.old tag.now self.new) }
+        ensures refused { AnswersExactly result (withdraw_tests self.old tag.now) }
+        ensures left { OnErr result (self.new ≡ self.old) }
+        ensures good { Good self.new }
+        ensures kept { IsWorld self.new }
+    {
+        self.may_withdraw(tag)?;
+        drop(self.ends.ledger.withdraw(tag));
+        self.deliveries.withdraw_kept(tag);
+        Ok(())
+    }
+
+    // The tests of a withdrawal.
+    fn may_withdraw(&self, tag: &DeliveryTag) -> Result<(), PairError>
+        ensures { AnswersExactly result (withdraw_tests self.now tag.now) }
+    {
+        if !self.ends.are_apart() {
+            return Err(PairError::AlreadyAttached);
+        }
+        if !self.ends.ledger.unsettled_map().contains(tag) {
+            return Err(PairError::UnknownTag);
+        }
+        if self.deliveries.is_whole(tag) {
+            return Err(PairError::AlreadyWhole);
+        }
+        Ok(())
     }
 
     /// What the receiver holds of a delivery: none before its first transfer has arrived. May be called at

@@ -68,6 +68,16 @@ pub fn go_on(
         .map_err(out_of_memory)
 }
 
+/// Whether a frame is a transfer that aborts its delivery.
+pub fn is_aborted(frame: &LinkFrame) -> bool
+    ensures { result ≡ (performative_of frame.now).aborted }
+{
+    match frame.as_transfer() {
+        Some(transfer) => transfer.performative.aborted,
+        None => false,
+    }
+}
+
 /// The receiver takes a transfer off its session, and notes whether more is to come of its delivery. A receiver that
 /// settles at once gives its session no id to keep, so that this does not allocate.
 pub fn take_off(receiver: &mut ReceiverLink<Target>, frame: LinkFrame)

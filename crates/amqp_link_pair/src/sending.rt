@@ -1,12 +1,13 @@
 //! What the sender of a pair sends and registers: new deliveries, and the rests of those that are resumed
 //! (2.6.13, 2.7.5).
-ghost use Rattle.std.specs.Prelude.{◌≡◌, None, Some, false, IfOk, IfErr, IsSome, OnOk, OnErr};
+ghost use Rattle.std.specs.Prelude.{◌≡◌, ◌∷◌, [], true, None, Some, false, IfOk, IfErr, IsSome, OnOk, OnErr};
 ghost use Rattle.amqp_link_types.specs.Entries.{entry_at};
 ghost use Rattle.amqp_link_types.specs.Refusals.{refusal};
 ghost use Rattle.amqp_link_types.specs.declared.delivery.UnsettledMessage.{UnsettledMessage as Message};
 ghost use Rattle.amqp_link_types.specs.declared.types.definitions.SenderSettleMode.TheVariants.{Mixed};
 ghost use Rattle.amqp_link_split.specs.Fitting.{IsFitting};
-ghost use Rattle.amqp_link_sender.specs.Senders.{IsSent, new_entry, unsettled_transfer_tests};
+ghost use Rattle.amqp_link_split.specs.Room.{has_room};
+ghost use Rattle.amqp_link_sender.specs.Senders.{abort_frame, abort_transfer, IsSent, new_entry, unsettled_transfer_tests};
 ghost use Rattle.amqp_link_sender.specs.Senders;
 ghost use Rattle.amqp_link_worlds.specs.Callable.{CanSend};
 ghost use Rattle.amqp_link_worlds.specs.Resumptions.{entry_of, resumes};
@@ -115,6 +116,25 @@ fn transfer_of(link: &SenderLink<Target>, tag: DeliveryTag, is_resumed: bool) ->
         Ok(transfer) => transfer,
         Err(_) => unreachable!(),
     }
+}
+
+// The transfer that aborts the delivery of this tag, as the frames of a send.
+pub(crate) fn abort_frames(
+    alloc: Global,
+    link: &SenderLink<Target>,
+    tag: &DeliveryTag,
+) -> Result<Vec<LinkFrame>, AllocError>
+    requires output { link.now.output_handle ≡ Some (record { 0 = 0 }) }
+    requires input { link.now.input_handle ≡ Some (record { 0 = 0 }) }
+    requires free { entry_at link.now.unsettled tag.now ≡ None }
+    requires room { has_room (abort_transfer (record { 0 = 0 }) tag.now 0) link.now.max_frame_size [] ≡ true }
+    ensures { IfOk result (λ frames.
+        frames.items ≡ abort_frame (record { 0 = 0 }) (record { 0 = 0 }) tag.now 0 ∷ []) }
+{
+    let Ok(frame) = link.send_abort(tag, 0) else {
+        return Err(AllocError);
+    };
+    Ok(vec![in alloc; frame]?)
 }
 
 // What a delivery is resumed with, by copies of its tag and of its rest.

@@ -1,19 +1,27 @@
 //! The calls of a script one by one, also if one allocation is refused, whichever it is. Run by hand with `rt
 //! try --test --fail-alloc N`.
 use crate::assertions::{assert_equal, assert_equal_at};
-use crate::script::{CUT_OFF, Call, RESUMED, SENT_AGAIN, Sample, Seen, TWELVE, new_sample};
+use crate::script::{
+    CUT_OFF, Call, RESUMED, SENT_AGAIN, Sample, Seen, TWELVE, WITHDRAWN, new_sample,
+};
 use amqp_link::errors::LinkStateError;
-use amqp_link::{DeliveryState, DeliveryTag, Fate, LinkExt, Pair, PairError, Whole};
+use amqp_link::{DeliveryState, DeliveryTag, Fate, LinkExt, OrAborted, Pair, PairError, Whole};
 use std::process::Abort;
 
-fn arrive(pair: &mut Pair, id: u32) -> Result<Seen, PairError> {
-    let came = pair.arrive(id)?;
-    Ok(Seen::Place(came.section_number, came.section_offset, came.whole))
+fn arrive(pair: &mut Pair, id: u32, sample: &Sample) -> Result<Seen, PairError> {
+    Ok(match pair.arrive(id)? {
+        OrAborted::Answer(came) => {
+            Seen::Place(came.section_number, came.section_offset, came.whole)
+        }
+        OrAborted::Aborted(tag) => Seen::Aborted(tag == sample.tag),
+    })
 }
 
-fn resume_next(pair: &mut Pair) -> Result<Seen, PairError> {
-    let resumed = pair.resume_next()?;
-    Ok(Seen::Resumed(resumed.frames, resumed.resume))
+fn resume_next(pair: &mut Pair, sample: &Sample) -> Result<Seen, PairError> {
+    Ok(match pair.resume_next()? {
+        OrAborted::Answer(resumed) => Seen::Resumed(resumed.frames, resumed.resume),
+        OrAborted::Aborted(tag) => Seen::Aborted(tag == sample.tag),
+    })
 }
 
 fn hand_out(pair: &mut Pair, tag: &DeliveryTag) -> Result<Seen, PairError> {
@@ -28,12 +36,13 @@ fn make(pair: &mut Pair, call: Call, sample: &Sample) -> Result<Seen, PairError>
         Call::Attach(limit) => Ok(Seen::Count(pair.attach(limit)?)),
         Call::Grant(credit) => Ok(Seen::Credit(pair.grant(credit)?)),
         Call::Send => Ok(Seen::Count(pair.send(&sample.payload)?.frames)),
-        Call::Arrive(id) => arrive(pair, id),
+        Call::Arrive(id) => arrive(pair, id, sample),
         Call::Cut => pair.cut().map(|()| Seen::Done),
-        Call::ResumeNext => resume_next(pair),
+        Call::ResumeNext => resume_next(pair, sample),
         Call::PutBackNext => Ok(Seen::Back(pair.put_back_next()? == sample.tag)),
         Call::HandOut => hand_out(pair, &sample.tag),
         Call::Settle => pair.settle(&sample.tag).map(|()| Seen::Done),
+        Call::Withdraw => pair.withdraw(&sample.tag).map(|()| Seen::Done),
     }
 }
 
@@ -44,6 +53,7 @@ enum Shown {
     Pending,
     HandedOut,
     Accepted,
+    Withdrawn,
     Other,
 }
 
@@ -63,6 +73,7 @@ fn fate_shown(fate: Option<&Fate>) -> Shown {
     };
     match fate {
         Fate::Pending => Shown::Pending,
+        Fate::Withdrawn => Shown::Withdrawn,
         Fate::HandedOut => Shown::HandedOut,
         Fate::Resolved(outcome) if is_accepted(outcome) => Shown::Accepted,
         _ => Shown::Other,
@@ -173,4 +184,30 @@ fn refused_growth_resumes_all_the_same(rt: HostRuntime) {
     );
     assert_equal(&rt, &left.held, &Some(12));
     assert_equal(&rt, &left.fates[1], &Shown::Pending);
+}
+
+// What was withdrawn is forgotten, and no credit is spent for the transfer that aborts it.
+#[test]
+fn refused_growth_aborts_all_the_same(rt: HostRuntime) {
+    let sample = new_sample(&rt);
+    let pair = Pair::new(rt.alloc(), 0).or_else(|_| Pair::new(rt.alloc(), 0));
+    let mut pair = pair.expect(&rt, "memory");
+    expect_seen(&rt, &mut pair, &sample, WITHDRAWN.as_slice());
+    let left = standing_of(&pair, &sample.tag);
+    drop(pair);
+    drop(sample);
+    let wanted = Standing {
+        held: None,
+        pending: 0,
+        reported: 0,
+        sender_credit: 1,
+        receiver_credit: 2,
+        fates: [
+            Shown::Withdrawn,
+            Shown::Nothing,
+            Shown::Nothing,
+            Shown::Nothing,
+        ],
+    };
+    assert_equal(&rt, &left, &wanted);
 }

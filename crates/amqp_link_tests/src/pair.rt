@@ -2,7 +2,7 @@
 use crate::assertions::assert_equal;
 use crate::script::{TWELVE, tag};
 use amqp_link::types::DataBody;
-use amqp_link::{DeliveryTag, LinkExt, Pair, PairError, Payload};
+use amqp_link::{DeliveryTag, LinkExt, OrAborted, Pair, PairError, Payload};
 
 // The calls of a pair stand in functions without a contract: each call in a test is proved with all that the
 // contracts of those before it say.
@@ -20,10 +20,12 @@ fn send(pair: &mut Pair, payload: &Payload) -> Result<usize, PairError> {
     Ok(pair.send(payload)?.frames)
 }
 
-// What an arrival answers but for its tag.
-fn arrive(pair: &mut Pair, id: u32) -> Result<(u32, u64, bool), PairError> {
-    let came = pair.arrive(id)?;
-    Ok((came.section_number, came.section_offset, came.whole))
+// What an arrival answers but for its tag; none is of a transfer that aborts its delivery.
+fn arrive(pair: &mut Pair, id: u32) -> Result<Option<(u32, u64, bool)>, PairError> {
+    Ok(match pair.arrive(id)? {
+        OrAborted::Answer(came) => Some((came.section_number, came.section_offset, came.whole)),
+        OrAborted::Aborted(_) => None,
+    })
 }
 
 // How many bytes are held of a delivery.
@@ -41,7 +43,7 @@ fn undecoded_delivery_is_settled(rt: HostRuntime) {
     assert_equal(&rt, &attach(&mut pair, 64), &Ok(0));
     assert_equal(&rt, &grant(&mut pair, 1), &Ok(1));
     assert_equal(&rt, &send(&mut pair, &bytes), &Ok(1));
-    assert_equal(&rt, &arrive(&mut pair, 7), &Ok((0, 12, true)));
+    assert_equal(&rt, &arrive(&mut pair, 7), &Ok(Some((0, 12, true))));
     let decoded = pair.hand_out::<DataBody>(&first).err();
     assert_equal(&rt, &decoded, &Some(PairError::Decode));
     assert_equal(&rt, &pair.receiver().flow_state().link_credit(), &0);
@@ -66,7 +68,7 @@ fn arrive_again(
     pair: &mut Pair,
     tag: &DeliveryTag,
     id: u32,
-) -> Result<(u32, u64, bool), PairError> {
+) -> Result<Option<(u32, u64, bool)>, PairError> {
     let before = held_bytes(pair, tag);
     let came = arrive(pair, id);
     if came == Err(PairError::OutOfMemory) && held_bytes(pair, tag) == before {
@@ -105,13 +107,21 @@ fn refused_growth_loses_nothing(rt: HostRuntime) {
     assert_equal(&rt, &attach_again(&mut pair, 30), &Ok(0));
     assert_equal(&rt, &grant(&mut pair, 1), &Ok(1));
     assert_equal(&rt, &send_again(&mut pair, &bytes), &Ok(3));
-    assert_equal(&rt, &arrive_again(&mut pair, &first, 7), &Ok((0, 5, false)));
+    assert_equal(
+        &rt,
+        &arrive_again(&mut pair, &first, 7),
+        &Ok(Some((0, 5, false))),
+    );
     assert_equal(
         &rt,
         &arrive_again(&mut pair, &first, 0),
-        &Ok((0, 10, false)),
+        &Ok(Some((0, 10, false))),
     );
-    assert_equal(&rt, &arrive_again(&mut pair, &first, 0), &Ok((0, 12, true)));
+    assert_equal(
+        &rt,
+        &arrive_again(&mut pair, &first, 0),
+        &Ok(Some((0, 12, true))),
+    );
     assert_equal(&rt, &held_bytes(&pair, &first), &Some(12));
     drop((pair, bytes));
     drop(first);

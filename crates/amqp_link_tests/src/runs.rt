@@ -1,6 +1,8 @@
 //! Lists of calls that a pair runs by itself.
 use crate::assertions::{assert_equal, assert_equal_at, assert_holds_at};
-use crate::script::{CUT_OFF, Call, RESUMED, SENT_AGAIN, Sample, Seen, TWELVE, new_sample};
+use crate::script::{
+    CUT_OFF, Call, RESUMED, SENT_AGAIN, Sample, Seen, TWELVE, WITHDRAWN, new_sample,
+};
 use amqp_link::{Answer, DeliveryTag, Event, Fate, Pair, PairError, Payload};
 use std::alloc::{AllocError, Global};
 use std::process::Abort;
@@ -16,6 +18,7 @@ fn event(call: Call, sample: &Sample) -> Result<Event, AllocError> {
         Call::PutBackNext => Event::PutBackNext,
         Call::HandOut => Event::HandOut(sample.tag.clone()?),
         Call::Settle => Event::Settle(sample.tag.clone()?),
+        Call::Withdraw => Event::Withdraw(sample.tag.clone()?),
     })
 }
 
@@ -42,7 +45,8 @@ fn seen(answer: &Answer, sample: &Sample) -> Seen {
             whole,
             ..
         } => Seen::Place(*section_number, *section_offset, *whole),
-        Answer::Cut | Answer::Settled => Seen::Done,
+        Answer::Cut | Answer::Settled | Answer::Withdrawn => Seen::Done,
+        Answer::Aborted(tag) => Seen::Aborted(*tag == sample.tag),
         Answer::Resumed { frames, resume, .. } => Seen::Resumed(*frames, *resume),
         Answer::PutBack(tag) => Seen::Back(*tag == sample.tag),
         Answer::HandedOut(delivery) => {
@@ -114,6 +118,10 @@ fn scripts_run_to_their_end(rt: HostRuntime) {
     let pair = Pair::new(rt.alloc(), 0).or_else(|_| Pair::new(rt.alloc(), 0));
     let mut pair = pair.expect(&rt, "memory");
     expect_run(&rt, &mut pair, &sample, RESUMED.as_slice());
+    drop(pair);
+    let pair = Pair::new(rt.alloc(), 0).or_else(|_| Pair::new(rt.alloc(), 0));
+    let mut pair = pair.expect(&rt, "memory");
+    expect_run(&rt, &mut pair, &sample, WITHDRAWN.as_slice());
     drop(pair);
     drop(sample);
 }

@@ -1,5 +1,6 @@
 //! Scripts of a delivery of twelve bytes that is cut off, with what each call returns: before it arrives, to be put
-//! back, sent again, handed out and settled; and after ten bytes, to be resumed and handed out.
+//! back, sent again, handed out and settled; after ten bytes, to be resumed and handed out; and after five, to be
+//! withdrawn and aborted.
 use amqp_link::{DeliveryTag, PairError, Payload};
 use std::alloc::{AllocError, Global};
 use std::process::Abort;
@@ -18,6 +19,7 @@ pub(crate) enum Call {
     PutBackNext,
     HandOut,
     Settle,
+    Withdraw,
 }
 
 // What is seen of an answer.
@@ -34,6 +36,8 @@ pub(crate) enum Seen {
     HandedOut(bool),
     /// Whether it is the delivery.
     Back(bool),
+    /// Whether it is the delivery.
+    Aborted(bool),
     Done,
 }
 
@@ -96,4 +100,29 @@ pub(crate) const RESUMED: [(Call, Result<Seen, PairError>); 12] = [
     (Call::Settle, Err(PairError::NotWhole)),
     (Call::Arrive(8), Ok(Seen::Place(0, 12, true))),
     (Call::HandOut, Ok(Seen::HandedOut(true))),
+];
+
+// A delivery of which five bytes have arrived is withdrawn: the receiver forgets it, once the transfer arrives that
+// aborts it. It is listed again by each attach until then.
+pub(crate) const WITHDRAWN: [(Call, Result<Seen, PairError>); 20] = [
+    (Call::Attach(30), Ok(Seen::Count(0))),
+    (Call::Grant(2), Ok(Seen::Credit(2))),
+    (Call::Send, Ok(Seen::Count(3))),
+    (Call::Arrive(7), Ok(Seen::Place(0, 5, false))),
+    (Call::Withdraw, Err(PairError::AlreadyAttached)),
+    (Call::Cut, Ok(Seen::Done)),
+    (Call::Withdraw, Ok(Seen::Done)),
+    (Call::Withdraw, Err(PairError::UnknownTag)),
+    (Call::Attach(45), Err(PairError::LimitTooSmall)),
+    (Call::Attach(46), Ok(Seen::Count(1))),
+    (Call::PutBackNext, Ok(Seen::Back(true))),
+    (Call::Cut, Ok(Seen::Done)),
+    (Call::Attach(46), Ok(Seen::Count(1))),
+    (Call::ResumeNext, Ok(Seen::Aborted(true))),
+    (Call::Cut, Ok(Seen::Done)),
+    (Call::Attach(46), Ok(Seen::Count(1))),
+    (Call::ResumeNext, Ok(Seen::Aborted(true))),
+    (Call::HandOut, Err(PairError::UnknownTag)),
+    (Call::Settle, Err(PairError::UnknownTag)),
+    (Call::Arrive(0), Ok(Seen::Aborted(true))),
 ];

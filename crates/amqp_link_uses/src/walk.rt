@@ -7,7 +7,7 @@ ghost use Rattle.amqp_link.specs.Worlds.{IsRegistered, bytes_in, held_at};
 ghost use Rattle.amqp_link_uses.specs.Walks.{KeepsRegistered};
 
 use amqp_link::laws::held_is_what_was_sent;
-use amqp_link::{DeliveryTag, Pair, PairError, Payload, Whole};
+use amqp_link::{DeliveryTag, OrAborted, Pair, PairError, Payload, Whole};
 use std::alloc::Global;
 
 /// Sends a payload over a new pair, whose link is cut after its first transfer, and returns what the receiver hands
@@ -99,16 +99,19 @@ fn cut(pair: &mut Pair) -> Result<(), PairError>
     pair.cut()
 }
 
-// Sends the rest of the next delivery, and returns the number of its transfers.
+// Sends the rest of the next delivery, and returns the number of its transfers: one that aborts it, if it was withdrawn.
 fn resume(pair: &mut Pair) -> Result<usize, PairError>
     requires { IsWorld pair.old }
     ensures keeps { OnOk result (KeepsRegistered pair.old pair.new) }
     ensures kept { IsWorld pair.new }
 {
     held_is_what_was_sent::<Whole>();
-    let resumed = pair.resume_next()?;
-    let count = resumed.frames;
-    drop(resumed);
+    let next = pair.resume_next()?;
+    let count = match &next {
+        OrAborted::Answer(resumed) => resumed.frames,
+        OrAborted::Aborted(_) => 1,
+    };
+    drop(next);
     Ok(count)
 }
 

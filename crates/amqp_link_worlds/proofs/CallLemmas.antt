@@ -1,5 +1,5 @@
 -- By what a pair keeps its endpoints refuse a call only if they are out of memory.
-use Rattle.std.proofs.Common.{◌≡◌, ◌∙◌, sym, ap, subst, Bool, true, false, cond, List, [], ◌∷◌, ◌++◌, refl, ℕ, ◌<◌, ◌≤◌, not, arith, ◌==◌, drop, length}
+use Rattle.std.proofs.Common.{◌≡◌, ◌∙◌, sym, ap, subst, Bool, true, false, cond, List, [], ◌∷◌, ◌++◌, refl, ℕ, ◌<◌, ◌≤◌, not, arith, ◌==◌, drop, length, min, nat_le, ◌+◌, inl, inr, ◌⊎◌}
 use Rattle.std.specs.Prelude.{Option, Some, None, is_some, is_none, IsSome, IfSome, ◌&&◌, unwrap_or, option_and_then}
 use Rattle.std.proofs.lemmas.Bool.Decides.{nat_tests}
 use Rattle.amqp_link_types.specs.Entries.{Tag, Entries, entry_at}
@@ -10,7 +10,7 @@ use Rattle.amqp_link_endpoint.specs.LinkStates.{state_without_session}
 use Rattle.amqp_link_payloads.specs.Position.{position}
 use Rattle.amqp_link_receiver.specs.Receivers.{Receiver}
 use Rattle.amqp_link_receiver.specs.Completing.{may_receive, transfer_refusal, entered, spent, reported, unsettled_tag, is_illegal_mode}
-use Rattle.amqp_link_sender.specs.Senders.{Sender, next_tag, new_transfer, resuming_transfer, delivery_of, settled_by_mode, unsettled_transfer_tests}
+use Rattle.amqp_link_sender.specs.Senders.{Sender, next_tag, new_transfer, resuming_transfer, delivery_of, settled_by_mode, unsettled_transfer_tests, abort_transfer}
 use Rattle.amqp_link_types.specs.declared.types.terminus.Target.{Target}
 use Rattle.amqp_link_types.specs.declared.types.transfer.Transfer.{Transfer}
 use Rattle.amqp_link_types.specs.declared.types.definitions.ReceiverSettleMode.{ReceiverSettleMode}
@@ -22,12 +22,16 @@ use Rattle.amqp_link_types.specs.declared.types.errors.ReceiverTransferError.The
 use Rattle.amqp_link_types.specs.declared.delivery.UnsettledMessage.{UnsettledMessage}
 use Rattle.amqp_link_types.specs.declared.frame.LinkFrame.{LinkFrame}
 use Rattle.amqp_link_core.specs.declared.resumption.ResumingDelivery.{ResumingDelivery}
+use Rattle.amqp_link_core.specs.declared.resumption.ResumingDelivery.TheVariants.{Abort}
+use Rattle.amqp_link_types.specs.Size.{transfer_len, before, list_of, content}
+use Rattle.amqp_link_values.specs.Length.{text_len}
+use Rattle.amqp_link_split.specs.Room.{worst}
 use Rattle.amqp_link_types.proofs.MapLemmas.{false_is_not_true, put-same}
-use Rattle.amqp_link_worlds.specs.Callable.{CanSend, IsFree, CanGrant, CanCut, CanResume, CanComplete, CanSettle}
+use Rattle.amqp_link_worlds.specs.Callable.{CanSend, IsFree, CanGrant, CanCut, CanResume, CanAbort, CanComplete, CanSettle}
 use Rattle.amqp_link_ledger.specs.Fates.{fates_of}
 use Rattle.amqp_link_ledger.specs.declared.fate.Fate.{Fate}
 use Rattle.amqp_link_ledger.proofs.ListSteps.{some_is_none}
-use Rattle.amqp_link_worlds.specs.Resumptions.{resumes}
+use Rattle.amqp_link_worlds.specs.Resumptions.{entry_of, resumes}
 use Rattle.amqp_link_worlds.specs.Steps.{delivery_transfer, zero_output, send_tests, settle_tests}
 use Rattle.amqp_link_worlds.specs.Worlds.{World, Phase, Apart, Halfway, Together, is_together, held_at, receiver_entry, received_at, bytes_in}
 use Rattle.amqp_link_worlds.specs.declared.progress.Progress.{Progress}
@@ -35,7 +39,7 @@ use Rattle.amqp_link_worlds.specs.Wires.{frames_of}
 use Rattle.amqp_link_worlds.specs.Receiving.{AreNamed}
 use Rattle.amqp_link_worlds.specs.Invariants.{IsWorld, IsKeptAs, IsHeld, IsNamed, AreEnds, AreTogether}
 use Rattle.amqp_link_worlds.proofs.DeliveryLemmas.{has_room-delivery, none_of_three}
-use Rattle.amqp_link_worlds.proofs.WorldLemmas.{none_hold, not_is_false, none_there, listed_progress, listed_stands, settled_stands, nothing_listed, nothing_in, nothing_there}
+use Rattle.amqp_link_worlds.proofs.WorldLemmas.{aborting, listed_entry, tag_is_free, known_parts, none_hold, not_is_false, listed_progress, listed_stands, settled_stands, nothing_listed, nothing_in, nothing_there}
 
 -- an attached pair's ends
 pub ends_together : (phase : Phase) (s : Sender Target) (r : Receiver Target) → is_together phase ≡ true → AreEnds phase s r → (limit : ℕ) × AreTogether limit s r
@@ -58,7 +62,7 @@ can_send w payload k may =
       input = ends.sender_input;
       mode = ap (λ (s : Sender Target). s.snd_settle_mode) k.sender;
       credit = some_credit w.ledger.link.flow_state.link_credit tests.1.1.1.0;
-      free = none_there (entry_at w.ledger.link.unsettled (next_tag w.ledger.link)) tests.1.1.1.1.0;
+      free = (tag_is_free w payload may).0;
       room = subst (λ n. 29 ≤ n) (sym ends.frame) ends.enough;
     }
 
@@ -83,11 +87,12 @@ none_resumed : (s : Sender Target) (tag : Tag) (r : Bool) (bytes : List ℕ) →
 none_resumed s tag r bytes input free four room =
     none_of_three _ _ _ error.IllegalState error.TagPending error.NoRoom (ap is_none input) (ap is_some free) (ap not (has_room-delivery tag r s.max_frame_size bytes four room))
 
-pub can_resume : (w : World) (tag : Tag) (next : ResumingDelivery) (others : Entries ResumingDelivery) → IsWorld w → is_together w.phase ≡ true → w.resuming ≡ (tag, next) ∷ others → CanResume w tag next
-can_resume w tag next others k on listed =
+pub can_resume : (w : World) (tag : Tag) (next : ResumingDelivery) (others : Entries ResumingDelivery) (entry : UnsettledMessage) → IsWorld w → is_together w.phase ≡ true → w.resuming ≡ (tag, next) ∷ others
+    → entry_of next ≡ Some entry → CanResume w tag next
+can_resume w tag next others entry k on listed kept =
     let q = listed_progress w tag next others k listed in
     let stand = listed_stands w tag next others k listed q.0 q.1 in
-    let l = stand.1 in
+    let l = (listed_entry w tag next others k listed entry kept q.0 q.1).0 in
     let e = ends_together w.phase w.ledger.link w.receiver on k.ends in
     let ends = e.1 in
     let p : Progress = q.0 in
@@ -103,6 +108,44 @@ can_resume w tag next others k on listed =
       free = stand.0;
       allowed = none_resumed w.ledger.link tag (resumes next) rest ends.sender_input stand.0 l.under_way.own.tag_is (subst (λ n. 29 ≤ n) (sym ends.frame) ends.enough);
       flag = l.flag ∙ sym (reported_as_held p.held (entry_at w.receiver.unsettled tag) l.under_way.good.report);
+    }
+
+-- ---- the list to resume has entries and aborts alone
+
+pub entry_or_abort : (w : World) (tag : Tag) (next : ResumingDelivery) (others : Entries ResumingDelivery) → IsWorld w → w.resuming ≡ (tag, next) ∷ others
+    → ((entry : UnsettledMessage) × (entry_of next ≡ Some entry)) ⊎ (next ≡ Abort 0 None)
+entry_or_abort w tag next others k listed =
+    let q = listed_progress w tag next others k listed in
+    elim ((listed_stands w tag next others k listed q.0 q.1).1) [
+      | inl l ↦ inl (l.0.entry, l.0.entry_is)
+      | inr a ↦ inr a.is
+    ]
+
+-- ---- an abort is sent
+
+worst_aborted : ℕ → ℕ
+worst_aborted n = list_of (content (Some 1 ∷ Some 5 ∷ Some (text_len n) ∷ Some 1 ∷ Some 1 ∷ Some 1 ∷ None ∷ None ∷ Some 1 ∷ Some 1 ∷ None ∷ []))
+
+pub worst-abort : (tag : Tag) → length tag ≡ 4 → worst (abort_transfer zero_output tag 0) ≡ 25
+unfolding transfer_len before list_of worst_aborted
+worst-abort tag four =
+    let step : worst (abort_transfer zero_output tag 0) ≡ worst_aborted (length tag) = refl in
+    step ∙ ap worst_aborted four
+
+room_for : (w frame : ℕ) → w ≡ 25 → 29 ≤ frame → nat_le (4 + w + min 1 0) frame ≡ true
+room_for w frame e h = grind (arith, nat_tests)
+
+pub can_abort : (w : World) (tag : Tag) (others : Entries ResumingDelivery) → IsWorld w → is_together w.phase ≡ true → w.resuming ≡ (tag, Abort 0 None) ∷ others → CanAbort w tag
+can_abort w tag others k on listed =
+    let e = ends_together w.phase w.ledger.link w.receiver on k.ends in
+    let ends = e.1 in
+    let a = aborting w tag others k listed in
+    record {
+      output = ends.sender_output;
+      input = ends.sender_input;
+      free = a.0;
+      room = room_for (worst (abort_transfer zero_output tag 0)) w.ledger.link.max_frame_size (worst-abort tag a.1.2.tag_is) (subst (λ n. 29 ≤ n) (sym ends.frame) ends.enough);
+      report = a.1.2.report ∙ ap receiver_entry (ap (option_and_then (λ (p : Progress). p.held)) (sym a.1.1));
     }
 
 -- ---- a delivery is handed out
@@ -145,11 +188,15 @@ entered_same r tag held named there =
 -- what is held of a tag has its report
 held_kept : (b : Bool) (tag : Tag) (own : Option UnsettledMessage) (listed : Option ResumingDelivery) (q : Option Progress) (reported : Option (Option DeliveryState)) (frames : List LinkFrame) (fates : List Fate) (held : Held)
     → option_and_then (λ (p : Progress). p.held) q ≡ Some held → IsKeptAs b tag own listed q reported frames fates → IsHeld tag held × (reported ≡ receiver_entry (Some held))
-held_kept b tag None None q reported frames fates held is k = absurd (some_is_none (sym is ∙ ap (option_and_then (λ (p : Progress). p.held)) k.0))
+held_kept b tag None None None reported frames fates held is k = absurd (some_is_none (sym is))
+held_kept b tag None None (Some p) reported frames fates held is k = (subst (λ o. IfSome o (IsHeld tag)) is k.held, k.report ∙ ap receiver_entry is)
 held_kept b tag (Some entry) None None reported frames fates held is k = absurd k
 held_kept b tag (Some entry) None (Some p) reported frames fates held is k = (subst (λ o. IfSome o (IsHeld tag)) is k.0.held, k.0.good.report ∙ ap receiver_entry is)
 held_kept b tag None (Some next) None reported frames fates held is k = absurd k
-held_kept b tag None (Some next) (Some p) reported frames fates held is k = (subst (λ o. IfSome o (IsHeld tag)) is k.0.under_way.held, k.0.under_way.good.report ∙ ap receiver_entry is)
+held_kept b tag None (Some next) (Some p) reported frames fates held is k = elim (k) [
+  | inl l ↦ (subst (λ o. IfSome o (IsHeld tag)) is l.0.under_way.held, l.0.under_way.good.report ∙ ap receiver_entry is)
+  | inr a ↦ (subst (λ o. IfSome o (IsHeld tag)) is a.withdrawn.held, a.withdrawn.report ∙ ap receiver_entry is)
+]
 held_kept b tag (Some entry) (Some next) q reported frames fates held is k = absurd k
 
 module _ (w : World) (tag : Tag) (held : Held) (k : IsWorld w) (is : held_at w tag ≡ Some held) where
@@ -214,9 +261,10 @@ held_is_known (Some p) held = refl
 pub can_settle : (w : World) (tag : Tag) → IsWorld w → refusal (settle_tests w tag) ≡ None → CanSettle w tag
 can_settle w tag k may =
     let tests = none_hold (settle_tests w tag) may in
-    let held : is_some (held_at w tag) ≡ true = not_is_false (is_some (held_at w tag)) tests.1.0 in
+    let known = known_parts w tag tests.1.0 in
+    let held : is_some (held_at w tag) ≡ true = known.0 in
     let found = settled_stands (is_together w.phase) tag (entry_at w.ledger.link.unsettled tag) (entry_at w.resuming tag) (entry_at w.deliveries tag) (entry_at w.receiver.unsettled tag) (frames_of tag w.wire) (fates_of tag w.ledger.records)
-    (nothing_listed w.resuming tag (nothing_in w.resuming tests.1.1.1.0)) held (k.each tag) in
+    (nothing_listed w.resuming tag (nothing_in w.resuming tests.1.1.1.0)) held known.1 (k.each tag) in
     record { own = found.0; report = found.1; known = held_is_known (entry_at w.deliveries tag) held }
 
 -- ---- a grant and a cut
@@ -242,7 +290,7 @@ pub next_is_free : (w : World) (payload : List ℕ) → IsWorld w → refusal (s
 next_is_free w payload k may =
     let tag = next_tag w.ledger.link in
     let tests = none_hold (send_tests w payload) may in
-    let nothing = nothing_there w tag k (none_there (entry_at w.ledger.link.unsettled tag) tests.1.1.1.1.0) (nothing_listed w.resuming tag (nothing_in w.resuming tests.1.0)) in
+    let nothing = nothing_there w tag k (tag_is_free w payload may).0 (nothing_listed w.resuming tag (nothing_in w.resuming tests.1.0)) (tag_is_free w payload may).1 in
     record { delivery = nothing.0; report = nothing.1; quiet = nothing.2 }
 
 -- ---- a delivery is resumed

@@ -8,11 +8,11 @@ use Rattle.amqp_link_types.specs.Refusals.{refusal, AnswersExactly, AnswersOrOut
 use Rattle.amqp_link_types.proofs.MapLemmas.{false_is_not_true}
 use Rattle.amqp_link_ledger.proofs.ListSteps.{some_is}
 use Rattle.amqp_link_worlds.specs.Before.{before_measuring}
-use Rattle.amqp_link_worlds.specs.PairRuns.{Decoder, tests_of, tests_before_memory, Does, IsLeft, IsRefused, Step, RunsEvents, StopsInTime, is_answer_out_of_memory, ends_out_of_memory}
+use Rattle.amqp_link_worlds.specs.PairRuns.{Decoder, aborts_next, tests_of, tests_before_memory, Does, IsLeft, IsRefused, Step, RunsEvents, StopsInTime, is_answer_out_of_memory, ends_out_of_memory}
 use Rattle.amqp_link_worlds.specs.declared.event.AnswerOf.{AnswerOf}
 use Rattle.amqp_link_worlds.specs.declared.event.Event.{Event}
-use Rattle.amqp_link_worlds.specs.declared.event.Event.TheVariants.{Attach, Grant, HandOut, Cut}
-use Rattle.amqp_link_worlds.specs.Steps.{PairTests, LeftByAttach, LeftByHandOut, grant_tests, send_tests, arrive_tests, cut_tests, next_tests, settle_tests, is_halfway_at_other}
+use Rattle.amqp_link_worlds.specs.declared.event.Event.TheVariants.{Attach, Grant, Arrive, HandOut, Cut, Withdraw}
+use Rattle.amqp_link_worlds.specs.Steps.{PairTests, LeftByAttach, LeftByHandOut, grant_tests, send_tests, arrive_tests, cut_tests, next_tests, settle_tests, withdraw_tests, is_halfway_at_other}
 use Rattle.amqp_link_worlds.specs.Worlds.{World, is_together}
 use Rattle.amqp_link_worlds.specs.declared.error.PairError.{PairError}
 use Rattle.amqp_link_worlds.specs.declared.error.PairError.TheVariants.{AlreadyAttached, LimitChanged, LimitTooSmall, OutOfMemory, Decode}
@@ -62,6 +62,9 @@ next_needs_none w = none_names_it (next_tests w) (refl, (refl, tt))
 
 pub settle_needs_none : (w : World) (tag : Tag) → refusal (settle_tests w tag) ≢ Some OutOfMemory
 settle_needs_none w tag = none_names_it (settle_tests w tag) (refl, (refl, (refl, (refl, (refl, tt)))))
+
+pub withdraw_needs_none : (w : World) (tag : Tag) → refusal (withdraw_tests w tag) ≢ Some OutOfMemory
+withdraw_needs_none w tag = none_names_it (withdraw_tests w tag) (refl, (refl, (refl, tt)))
 
 -- what a call returns that is out of memory only if no test holds
 pub memory_last : {A : Type 0} (r : Result A PairError) (tests : PairTests) → refusal tests ≢ Some OutOfMemory → AnswersThenOutOfMemory OutOfMemory r tests → IsErrOf r OutOfMemory
@@ -119,6 +122,15 @@ module _ {B : Type 0} (decoded : Decoder B) (old new : World) where
 
   pub left_by_cut : {A : Type 0} (r : Result A PairError) → AnswersExactly r (cut_tests old) → OnErr r (new ≡ old) → LeftBy Cut r
   left_by_cut r = left_exactly Cut r (cut_needs_none old) (λ _ same. same)
+
+  pub left_by_withdraw : {A : Type 0} (r : Result A PairError) (tag : Tag) → AnswersExactly r (withdraw_tests old tag) → OnErr r (new ≡ old) → LeftBy (Withdraw tag) r
+  left_by_withdraw r tag = left_exactly (Withdraw tag) r (withdraw_needs_none old tag) (λ _ same. same)
+
+  -- an arrival is out of memory only if it aborts no delivery
+  pub left_by_arrive : {A : Type 0} (r : Result A PairError) (id : ℕ) → (IsErrOf r OutOfMemory → aborts_next old.wire ≡ false) → OnErr r (new ≡ old) → LeftBy (Arrive id) r
+  left_by_arrive (Ok a) id carries l = tt
+  left_by_arrive (Err OutOfMemory) id carries l = (carries refl, l)
+  left_by_arrive (Err error) id carries l = l
 
   -- what a call returns and leaves is a step
   pub stepped : {A : Type 0} (e : Event) (r : Result A PairError) (to : A → AnswerOf B) → IfOk r (λ a. Does decoded old e (to a) new) → AnswersOrOutOfMemory OutOfMemory r (tests_of decoded old e)

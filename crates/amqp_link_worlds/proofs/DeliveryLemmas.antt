@@ -1,6 +1,6 @@
 -- One delivery: what each call makes of it.
 use Rattle.std.proofs.Common.{◌≡◌, ◌∙◌, sym, ap, subst, Bool, true, false, cond, ◌||◌, List, [], ◌∷◌, ◌++◌, refl, append_assoc, ℕ, zero, suc, ◌+◌, ◌<◌, ◌≤◌, ◌^◌, inl, inr, drop, ◌⊎◌, length, map, min, arith, length-append, nat_lt, nat_le, nat_eq, ◌==◌}
-use Rattle.std.specs.Prelude.{Option, Some, None, not, ◌&&◌, IfSome, IsSomeAnd, slice_index_or, is_none, bytes_eq}
+use Rattle.std.specs.Prelude.{Option, Some, None, not, ◌&&◌, IfSome, IsSomeAnd, slice_index_or, is_none, bytes_eq, is_some, option_and_then, if◌then◌else◌}
 use Rattle.std.specs.List.{concat, range_with_len, AllByRecursion}
 use lib.ListN.{length-map}
 use Rattle.std.proofs.lemmas.List.{append-nil}
@@ -18,7 +18,7 @@ use Rattle.amqp_link_payloads.specs.Sections.{is_too_long}
 use Rattle.amqp_link_core.specs.IncompleteRefusals.{differs, is_of_another, is_inconsistent}
 use Rattle.amqp_link_payloads.specs.Position.{position, starts, is_header_at}
 use Rattle.amqp_link_split.specs.Room.{worst, has_room}
-use Rattle.amqp_link_sender.specs.Senders.{Sender, IsSent, new_entry}
+use Rattle.amqp_link_sender.specs.Senders.{Sender, IsSent, new_entry, abort_frame}
 use Rattle.amqp_link_types.specs.declared.types.terminus.Target.{Target}
 use Rattle.amqp_link_types.specs.declared.types.delivery_state.DeliveryState.{DeliveryState}
 use Rattle.amqp_link_types.specs.declared.delivery.UnsettledMessage.{UnsettledMessage}
@@ -29,17 +29,19 @@ use Rattle.amqp_link_types.specs.declared.types.transfer.Transfer.{Transfer}
 use Rattle.amqp_link_types.specs.declared.types.errors.ReceiverTransferError.TheVariants as error
 use Rattle.amqp_link_core.specs.declared.resumption.ResumingDelivery.{ResumingDelivery}
 use Rattle.amqp_link_types.proofs.MapLemmas.{same_tag, false_is_not_true}
-use Rattle.amqp_link_ledger.specs.Fates.{latest}
+use Rattle.amqp_link_ledger.specs.Fates.{latest, fate_given}
 use Rattle.amqp_link_ledger.specs.declared.fate.Fate.{Fate}
 use Rattle.amqp_link_worlds.specs.Resumptions.{rest_of}
 use Rattle.amqp_link_worlds.specs.Wires.{OnWire, under, payload_of_all, does_begin, IsInTurn}
-use Rattle.amqp_link_worlds.specs.Worlds.{EndsInTime, IsGood, IsGoodIn, IsOpen, IsFront, bytes_in, received_at}
+use Rattle.amqp_link_worlds.specs.Worlds.{EndsInTime, IsGood, IsGoodIn, IsOpen, IsFront, bytes_in, received_at, IsGivenUp, AreAborts, receiver_entry}
 use Rattle.amqp_link_worlds.specs.declared.progress.Progress.{Progress}
-use Rattle.amqp_link_worlds.specs.Steps.{delivery_transfer, initial_progress, held_after, received}
+use Rattle.amqp_link_worlds.specs.Steps.{delivery_transfer, initial_progress, held_after, received, zero_output}
 use Rattle.amqp_link_worlds.specs.Receiving.{CanReceive}
-use Rattle.amqp_link_worlds.specs.Invariants.{IsNamed, IsContinuing, IsOpening, IsContinuation, IsNext, IsHeld, IsUnderWay, IsKeptAs}
-use Rattle.amqp_link_ledger.proofs.ListSteps.{some_is_none}
+use Rattle.amqp_link_worlds.specs.Invariants.{IsNamed, IsContinuing, IsOpening, IsContinuation, IsNext, IsHeld, IsUnderWay, IsKeptAs, IsWithdrawn, IsAborting, IsLatest, IsListed, AreOver}
 use Rattle.amqp_link_worlds.proofs.EntriesOf.{drop-front}
+use Rattle.amqp_link_core.specs.declared.resumption.ResumingDelivery.TheVariants.{Abort}
+use Rattle.amqp_link_ledger.specs.declared.fate.Fate.TheVariants.{Pending, HandedOut, Withdrawn}
+use Rattle.amqp_link_worlds.proofs.FateLemmas.{latest_is, latest_moved, latest_over}
 
 -- ---- a transfer comes
 
@@ -153,16 +155,34 @@ way_received b tag entry p id place reported f frames at k = record {
   own = k.own;
   held = held_received tag p.held id f frames k.held k.next;
   next = next_behind tag (held_after p.held id f) frames k.next.1;
+  stays = k.stays;
 }
 
+-- a first transfer of a withdrawn delivery aborts it
+pub aborts_first : (f : LinkFrame) (frames : List LinkFrame) → AreAborts (f ∷ frames) → (performative_of f).aborted ≡ true
+aborts_first f [] k = k
+aborts_first f (g ∷ frames) k = absurd k
+
+aborts_alone : (f : LinkFrame) (frames : List LinkFrame) → AreAborts (f ∷ frames) → frames ≡ []
+aborts_alone f [] k = refl
+aborts_alone f (g ∷ frames) k = absurd k
+
+-- of what is to be resumed or aborted nothing is under way
+nothing_under_way : (tag : Tag) (next : ResumingDelivery) (p : Progress) (reported : Option (Option DeliveryState)) (f : LinkFrame) (frames : List LinkFrame) (fates : List Fate)
+    → (IsListed tag next p reported (f ∷ frames) × IsLatest HandedOut fates) ⊎ IsAborting tag next p reported (f ∷ frames) fates → ⊥
+nothing_under_way tag next p reported f frames fates k = elim (k) [
+  | inl l ↦ no_items (l.0.under_way.good.quiet refl)
+  | inr a ↦ no_items (a.withdrawn.quiet refl)
+]
+
 pub kept_received : (b : Bool) (tag : Tag) (own : Option UnsettledMessage) (listed : Option ResumingDelivery) (p : Progress) (id : ℕ) (place : ℕ × ℕ) (reported : Option (Option DeliveryState))
-    (f : LinkFrame) (frames : List LinkFrame) (fates : List Fate) → place ≡ position (bytes_in p.held ++ payload_of f)
+    (f : LinkFrame) (frames : List LinkFrame) (fates : List Fate) → (performative_of f).aborted ≡ false → place ≡ position (bytes_in p.held ++ payload_of f)
     → IsKeptAs b tag own listed (Some p) reported (f ∷ frames) fates
     → IsKeptAs b tag own listed (Some (received p id f)) (Some (Some (received_at place))) frames fates
-kept_received b tag None None p id place reported f frames fates at k = absurd (no_items k.2)
-kept_received b tag (Some entry) None p id place reported f frames fates at k = (way_received (b && not p.put_back) tag entry p id place reported f frames at k.0, k.1)
-kept_received b tag None (Some next) p id place reported f frames fates at k = absurd (no_items (k.0.under_way.good.quiet refl))
-kept_received b tag (Some entry) (Some next) p id place reported f frames fates at k = absurd k
+kept_received b tag None None p id place reported f frames fates carries at k = absurd (false_is_not_true (sym carries ∙ aborts_first f frames k.aborts))
+kept_received b tag (Some entry) None p id place reported f frames fates carries at k = (way_received (b && not p.put_back) tag entry p id place reported f frames at k.0, k.1)
+kept_received b tag None (Some next) p id place reported f frames fates carries at k = absurd (nothing_under_way tag next p reported f frames fates k)
+kept_received b tag (Some entry) (Some next) p id place reported f frames fates carries at k = absurd k
 
 -- ---- it is not refused
 
@@ -254,15 +274,58 @@ receives payload tag (Some held) id (Detach x) frames is n e h = elim (n.0) [ in
 
 -- no transfer under way is refused
 pub kept_receives : (b : Bool) (tag : Tag) (own : Option UnsettledMessage) (listed : Option ResumingDelivery) (q : Option Progress) (reported : Option (Option DeliveryState))
-    (id : ℕ) (f : LinkFrame) (frames : List LinkFrame) (fates : List Fate) → IsKeptAs b tag own listed q reported (f ∷ frames) fates → IsSomeAnd q (λ p. CanReceive p.held id f)
-kept_receives b tag None None q reported id f frames fates k = absurd (no_items k.2)
-kept_receives b tag (Some entry) None None reported id f frames fates k = absurd k
-kept_receives b tag (Some entry) None (Some p) reported id f frames fates k =
+    (id : ℕ) (f : LinkFrame) (frames : List LinkFrame) (fates : List Fate) → (performative_of f).aborted ≡ false → IsKeptAs b tag own listed q reported (f ∷ frames) fates
+    → IsSomeAnd q (λ p. CanReceive p.held id f)
+kept_receives b tag None None None reported id f frames fates carries k = absurd (no_items k.1)
+kept_receives b tag None None (Some p) reported id f frames fates carries k = absurd (false_is_not_true (sym carries ∙ aborts_first f frames k.aborts))
+kept_receives b tag (Some entry) None None reported id f frames fates carries k = absurd k
+kept_receives b tag (Some entry) None (Some p) reported id f frames fates carries k =
     let way = k.0 in
     receives entry.payload tag p.held id f frames way.held way.next (way.good.all (out_if_under_way (b && not p.put_back) f frames way.good.quiet)) way.own.short
-kept_receives b tag None (Some next) None reported id f frames fates k = absurd k
-kept_receives b tag None (Some next) (Some p) reported id f frames fates k = absurd (no_items (k.0.under_way.good.quiet refl))
-kept_receives b tag (Some entry) (Some next) q reported id f frames fates k = absurd k
+kept_receives b tag None (Some next) None reported id f frames fates carries k = absurd k
+kept_receives b tag None (Some next) (Some p) reported id f frames fates carries k = absurd (nothing_under_way tag next p reported f frames fates k)
+kept_receives b tag (Some entry) (Some next) q reported id f frames fates carries k = absurd k
+
+-- ---- an abort comes
+
+-- a transfer of a delivery that goes on aborts none
+carries_on : (tag : Tag) (held : Option Held) (f : LinkFrame) (frames : List LinkFrame) → IsNext tag held (f ∷ frames) → (performative_of f).aborted ≡ false
+carries_on tag held (FirstTransfer x) frames n = elim (n.0) [ inl opens ↦ ap (λ (t : Transfer). t.aborted) opens | inr goes_on ↦ absurd goes_on.1 ]
+carries_on tag held (TransferContinuation x) frames n = elim (n.0) [ inl opens ↦ absurd opens | inr goes_on ↦ goes_on.1.carries ]
+carries_on tag held (RemoteTransfer x) frames n = elim (n.0) [ inl opens ↦ absurd opens | inr goes_on ↦ absurd goes_on.1 ]
+carries_on tag held (Attach x) frames n = elim (n.0) [ inl opens ↦ absurd opens | inr goes_on ↦ absurd goes_on.1 ]
+carries_on tag held (Flow x) frames n = elim (n.0) [ inl opens ↦ absurd opens | inr goes_on ↦ absurd goes_on.1 ]
+carries_on tag held (Disposition x) frames n = elim (n.0) [ inl opens ↦ absurd opens | inr goes_on ↦ absurd goes_on.1 ]
+carries_on tag held (Detach x) frames n = elim (n.0) [ inl opens ↦ absurd opens | inr goes_on ↦ absurd goes_on.1 ]
+
+pub closed_when_withdrawn : IsOpen (Some Withdrawn) → ⊥
+closed_when_withdrawn none = none
+
+pub over_when_withdrawn : (fates : List Fate) → IsLatest Withdrawn fates → AreOver fates
+over_when_withdrawn fates l = latest_over Withdrawn fates l refl closed_when_withdrawn
+
+-- what is held and reported is forgotten, and nothing more is under way
+pub kept_aborted : (b : Bool) (tag : Tag) (own : Option UnsettledMessage) (listed : Option ResumingDelivery) (q : Option Progress) (reported : Option (Option DeliveryState))
+    (f : LinkFrame) (frames : List LinkFrame) (fates : List Fate) → (performative_of f).aborted ≡ true → IsKeptAs b tag own listed q reported (f ∷ frames) fates
+    → IsKeptAs b tag own listed None None frames fates
+kept_aborted b tag None None None reported f frames fates aborts k = absurd (no_items k.1)
+kept_aborted b tag None None (Some p) reported f frames fates aborts k = (refl, aborts_alone f frames k.aborts, over_when_withdrawn fates k.last)
+kept_aborted b tag (Some entry) None None reported f frames fates aborts k = absurd k
+kept_aborted b tag (Some entry) None (Some p) reported f frames fates aborts k = absurd (false_is_not_true (sym (carries_on tag p.held f frames k.0.next) ∙ aborts))
+kept_aborted b tag None (Some next) None reported f frames fates aborts k = absurd k
+kept_aborted b tag None (Some next) (Some p) reported f frames fates aborts k = absurd (nothing_under_way tag next p reported f frames fates k)
+kept_aborted b tag (Some entry) (Some next) q reported f frames fates aborts k = absurd k
+
+-- its tag has four bytes
+pub aborted_tag : (b : Bool) (tag : Tag) (own : Option UnsettledMessage) (listed : Option ResumingDelivery) (q : Option Progress) (reported : Option (Option DeliveryState))
+    (f : LinkFrame) (frames : List LinkFrame) (fates : List Fate) → (performative_of f).aborted ≡ true → IsKeptAs b tag own listed q reported (f ∷ frames) fates → length tag ≡ 4
+aborted_tag b tag None None None reported f frames fates aborts k = absurd (no_items k.1)
+aborted_tag b tag None None (Some p) reported f frames fates aborts k = k.tag_is
+aborted_tag b tag (Some entry) None None reported f frames fates aborts k = absurd k
+aborted_tag b tag (Some entry) None (Some p) reported f frames fates aborts k = absurd (false_is_not_true (sym (carries_on tag p.held f frames k.0.next) ∙ aborts))
+aborted_tag b tag None (Some next) None reported f frames fates aborts k = absurd k
+aborted_tag b tag None (Some next) (Some p) reported f frames fates aborts k = absurd (nothing_under_way tag next p reported f frames fates k)
+aborted_tag b tag (Some entry) (Some next) q reported f frames fates aborts k = absurd k
 
 -- ---- a send
 
@@ -295,7 +358,7 @@ not_zero k = grind (arith, nat_tests)
 
 goes_on : (h : InputHandle) (tag : Tag) (r : Bool) (k n : ℕ) (p : List ℕ) → IsContinuation (frame_of h (delivery_transfer tag r) (suc k) n p)
 goes_on h tag r k n p = subst (λ b. IsContinuation (cond b (first_at h tag r (suc k) n p) (next_at h tag r (suc k) n p))) (sym (not_zero k))
-    (record { id = refl; tag = refl; silent = record { format = refl; settled = refl; state = refl } })
+    (record { id = refl; tag = refl; silent = record { format = refl; settled = refl; state = refl }; carries = refl })
 
 not_below : (k n : ℕ) → suc k ≡ n → nat_lt (k + 1) n ≡ false
 not_below k n e = grind (arith, nat_tests)
@@ -398,6 +461,7 @@ way_sent tag payload frames four short sent = record {
   own = record { tag_is = four; short = short; state = refl; format = refl };
   held = tt;
   next = sent.next;
+  stays = refl;
 }
 
 -- ---- it is resumed
@@ -422,6 +486,7 @@ way_resumed b tag entry p reported frames bytes k rest sent = record {
   own = k.own;
   held = k.held;
   next = sent.next;
+  stays = k.stays;
 }
 
 -- ---- it is put back
@@ -441,6 +506,7 @@ way_put_back tag entry p reported frames k = record {
   own = k.own;
   held = k.held;
   next = k.next;
+  stays = k.stays;
 }
 
 -- ---- the wire is lost
@@ -460,11 +526,27 @@ way_cut b tag entry p reported frames k = record {
   own = k.own;
   held = k.held;
   next = tt;
+  stays = k.stays;
+}
+
+withdrawn_cut : (b : Bool) (tag : Tag) (p : Progress) (reported : Option (Option DeliveryState)) (frames : List LinkFrame) (fates : List Fate)
+    → IsWithdrawn b tag p reported frames fates → IsWithdrawn false tag p reported [] fates
+withdrawn_cut b tag p reported frames fates k = record {
+  flag = k.flag;
+  unfinished = k.unfinished;
+  tag_is = k.tag_is;
+  holds = k.holds;
+  held = k.held;
+  report = k.report;
+  aborts = tt;
+  quiet = λ _. refl;
+  last = k.last;
 }
 
 pub kept_cut : (b : Bool) (tag : Tag) (own : Option UnsettledMessage) (q : Option Progress) (reported : Option (Option DeliveryState)) (frames : List LinkFrame) (fates : List Fate)
     → IsKeptAs b tag own None q reported frames fates → IsKeptAs false tag own None q reported [] fates
-kept_cut b tag None q reported frames fates k = (k.0, k.1, refl, k.3)
+kept_cut b tag None None reported frames fates k = (k.0, refl, k.2)
+kept_cut b tag None (Some p) reported frames fates k = withdrawn_cut b tag p reported frames fates k
 kept_cut b tag (Some entry) None reported frames fates k = absurd k
 kept_cut b tag (Some entry) (Some p) reported frames fates k = (way_cut (b && not p.put_back) tag entry p reported frames k.0, k.1)
 
@@ -488,23 +570,40 @@ way_taken b tag entry p reported frames k = record {
   own = k.own;
   held = k.held;
   next = k.next;
+  stays = k.stays;
+}
+
+withdrawn_taken : (b : Bool) (tag : Tag) (p : Progress) (reported : Option (Option DeliveryState)) (frames : List LinkFrame) (fates : List Fate)
+    → IsWithdrawn b tag p reported frames fates → IsWithdrawn b tag (taken_out p) reported frames fates
+withdrawn_taken b tag p reported frames fates k = record {
+  flag = k.flag;
+  unfinished = k.unfinished;
+  tag_is = k.tag_is;
+  holds = k.holds;
+  held = k.held;
+  report = k.report;
+  aborts = k.aborts;
+  quiet = k.quiet;
+  last = k.last;
 }
 
 pub kept_taken : (b : Bool) (tag : Tag) (own : Option UnsettledMessage) (listed : Option ResumingDelivery) (p : Progress) (reported : Option (Option DeliveryState)) (frames : List LinkFrame) (fates : List Fate)
     → IsKeptAs b tag own listed (Some p) reported frames fates → IsKeptAs b tag own listed (Some (taken_out p)) reported frames fates
-kept_taken b tag None None p reported frames fates k = absurd (some_is_none k.0)
+kept_taken b tag None None p reported frames fates k = withdrawn_taken b tag p reported frames fates k
 kept_taken b tag (Some entry) None p reported frames fates k = (way_taken (b && not p.put_back) tag entry p reported frames k.0, k.1)
-kept_taken b tag None (Some next) p reported frames fates k =
-    let l = k.0 in (
-      record {
-        entry = l.entry;
-        entry_is = l.entry_is;
-        under_way = way_taken false tag l.entry p reported frames l.under_way;
-        rest = l.rest;
-        flag = l.flag;
-      },
-      k.1,
-    )
+kept_taken b tag None (Some next) p reported frames fates k = elim (k) [
+  | inl l ↦ inl (
+    record {
+      entry = l.0.entry;
+      entry_is = l.0.entry_is;
+      under_way = way_taken false tag l.0.entry p reported frames l.0.under_way;
+      rest = l.0.rest;
+      flag = l.0.flag;
+    },
+    l.1,
+  )
+  | inr a ↦ inr (record { is = a.is; withdrawn = withdrawn_taken false tag p reported frames fates a.withdrawn })
+]
 kept_taken b tag (Some entry) (Some next) p reported frames fates k = absurd k
 
 -- ---- what is kept is good
@@ -515,26 +614,114 @@ rest_holds o bytes is = subst (λ o. IfSome o (λ rest. rest ≡ bytes)) (sym is
 pub good_kept : (b : Bool) (tag : Tag) (own : Option UnsettledMessage) (listed : Option ResumingDelivery) (q : Option Progress) (reported : Option (Option DeliveryState)) (frames : List LinkFrame) (fates : List Fate)
     → IsKeptAs b tag own listed q reported frames fates → IsOpen (latest fates)
     → IsGoodIn b (record { own = own; listed = listed; progress = q; reported = reported; frames = frames; fates = fates })
-good_kept b tag None None q reported frames fates k is = absurd (k.3.last is)
+good_kept b tag None None None reported frames fates k is = absurd (k.2.last is)
+good_kept b tag None None (Some p) reported frames fates k is = absurd (closed_when_withdrawn (subst IsOpen (latest_is Withdrawn fates k.last) is))
 good_kept b tag (Some entry) None None reported frames fates k is = absurd k
 good_kept b tag (Some entry) None (Some p) reported frames fates k is = k.0.good
 good_kept b tag None (Some next) None reported frames fates k is = absurd k
-good_kept b tag None (Some next) (Some p) reported frames fates k is =
-    let l = k.0 in
-    let g = l.under_way.good in
-    let good : IsGood l.entry.payload p false reported frames (rest_of next) =
-    record {
-      front = g.front;
-      report = g.report;
-      all = g.all;
-      ends = g.ends;
-      quiet = g.quiet;
-      complete = g.complete;
-      rest_is = rest_holds (rest_of next) (drop (length (bytes_in p.held)) l.entry.payload) l.rest;
-    } in
-    let P : Option UnsettledMessage → Type 0 = λ o. IsSomeAnd o (λ entry. IsGood entry.payload p false reported frames (rest_of next)) in
-    subst P (sym l.entry_is) good
+good_kept b tag None (Some next) (Some p) reported frames fates k is = elim (k) [
+  | inl m ↦
+      let l = m.0 in
+      let g = l.under_way.good in
+      let good : IsGood l.entry.payload p false reported frames (rest_of next) =
+      record {
+        front = g.front;
+        report = g.report;
+        all = g.all;
+        ends = g.ends;
+        quiet = g.quiet;
+        complete = g.complete;
+        rest_is = rest_holds (rest_of next) (drop (length (bytes_in p.held)) l.entry.payload) l.rest;
+      } in
+      let P : Option UnsettledMessage → Type 0 = λ o. IsSomeAnd o (λ entry. IsGood entry.payload p false reported frames (rest_of next)) in
+      subst P (sym l.entry_is) good
+  | inr a ↦ absurd (closed_when_withdrawn (subst IsOpen (latest_is Withdrawn fates a.withdrawn.last) is))
+]
 good_kept b tag (Some entry) (Some next) q reported frames fates k is = absurd k
+
+-- a withdrawn delivery is given up
+not_pending : Some Pending ≡ Some Withdrawn → ⊥
+not_pending h = cc
+
+not_handed_out : Some HandedOut ≡ Some Withdrawn → ⊥
+not_handed_out h = cc
+
+pub given_up_kept : (b : Bool) (tag : Tag) (own : Option UnsettledMessage) (listed : Option ResumingDelivery) (q : Option Progress) (reported : Option (Option DeliveryState)) (frames : List LinkFrame) (fates : List Fate)
+    → IsKeptAs b tag own listed q reported frames fates → latest fates ≡ Some Withdrawn → IsGivenUp (option_and_then (λ (p : Progress). p.held) q) reported frames
+given_up_kept b tag None None None reported frames fates k is = record { report = k.0; aborts = subst AreAborts (sym k.1) tt }
+given_up_kept b tag None None (Some p) reported frames fates k is = record { report = k.report; aborts = k.aborts }
+given_up_kept b tag (Some entry) None None reported frames fates k is = absurd k
+given_up_kept b tag (Some entry) None (Some p) reported frames fates k is = absurd (not_pending (sym (latest_is Pending fates k.1) ∙ is))
+given_up_kept b tag None (Some next) None reported frames fates k is = absurd k
+given_up_kept b tag None (Some next) (Some p) reported frames fates k is = elim (k) [
+  | inl l ↦ absurd (not_handed_out (sym (latest_is HandedOut fates l.1) ∙ is))
+  | inr a ↦ record { report = a.withdrawn.report; aborts = a.withdrawn.aborts }
+]
+given_up_kept b tag (Some entry) (Some next) q reported frames fates k is = absurd k
+
+-- ---- it is withdrawn
+
+pub way_withdrawn : (tag : Tag) (entry : UnsettledMessage) (p : Progress) (h : Option Held) (reported : Option (Option DeliveryState)) (frames : List LinkFrame) (fates : List Fate)
+    → p.held ≡ h → p.whole ≡ false → IsUnderWay false tag entry p reported frames → IsLatest Pending fates
+    → IsKeptAs false tag None None (if is_some h then Some (record p { withdrawn = true }) else None) reported frames (map (fate_given (Some Withdrawn)) fates)
+way_withdrawn tag entry p None reported frames fates is unfinished k l =
+    (k.good.report ∙ ap receiver_entry is, k.good.quiet refl, over_when_withdrawn _ (latest_moved Withdrawn fates l))
+way_withdrawn tag entry p (Some held) reported frames fates is unfinished k l = record {
+  flag = refl;
+  unfinished = unfinished;
+  tag_is = k.own.tag_is;
+  holds = ap is_some is;
+  held = k.held;
+  report = k.good.report;
+  aborts = subst AreAborts (sym (k.good.quiet refl)) tt;
+  quiet = λ _. k.good.quiet refl;
+  last = latest_moved Withdrawn fates l;
+}
+
+-- ---- its abort is sent, or left for the next attach
+
+-- a withdrawn delivery of which nothing is under way, once the endpoints are attached
+pub withdrawn_waits : (b : Bool) (tag : Tag) (p : Progress) (reported : Option (Option DeliveryState)) (frames : List LinkFrame) (fates : List Fate)
+    → IsWithdrawn false tag p reported frames fates → IsWithdrawn b tag p reported frames fates
+withdrawn_waits b tag p reported frames fates k = record {
+  flag = k.flag;
+  unfinished = k.unfinished;
+  tag_is = k.tag_is;
+  holds = k.holds;
+  held = k.held;
+  report = k.report;
+  aborts = k.aborts;
+  quiet = λ _. k.quiet refl;
+  last = k.last;
+}
+
+pub withdrawn_sent : (handle : InputHandle) (tag : Tag) (p : Progress) (reported : Option (Option DeliveryState)) (frames : List LinkFrame) (fates : List Fate)
+    → IsWithdrawn false tag p reported frames fates → IsWithdrawn true tag p reported (abort_frame zero_output handle tag 0 ∷ []) fates
+withdrawn_sent handle tag p reported frames fates k = record {
+  flag = k.flag;
+  unfinished = k.unfinished;
+  tag_is = k.tag_is;
+  holds = k.holds;
+  held = k.held;
+  report = k.report;
+  aborts = refl;
+  quiet = λ off. absurd (false_is_not_true (sym off));
+  last = k.last;
+}
+
+none_is_some : {A : Type 0} {x : A} → None ≡ Some x → ⊥
+none_is_some h = cc
+
+-- an abort in the list is of a withdrawn delivery
+pub aborting_kept : (b : Bool) (tag : Tag) (own : Option UnsettledMessage) (q : Option Progress) (reported : Option (Option DeliveryState)) (frames : List LinkFrame) (fates : List Fate)
+    → IsKeptAs b tag own (Some (Abort 0 None)) q reported frames fates
+    → (own ≡ None) × ((p : Progress) × (q ≡ Some p) × IsWithdrawn false tag p reported frames fates)
+aborting_kept b tag None None reported frames fates k = absurd k
+aborting_kept b tag None (Some p) reported frames fates k = elim (k) [
+  | inl l ↦ absurd (none_is_some l.0.entry_is)
+  | inr a ↦ (refl, (p, refl, a.withdrawn))
+]
+aborting_kept b tag (Some entry) q reported frames fates k = absurd k
 
 -- ---- room for what is resumed
 

@@ -1,11 +1,13 @@
 -- Look-ups in the maps and lists of a pair.
-use Rattle.std.proofs.Common.{◌≡◌, ◌≢◌, ◌∙◌, sym, ap, subst, Bool, true, false, cond, List, [], ◌∷◌, ◌++◌, refl, map, Option, Some, None, drop, length, take}
+use Rattle.std.proofs.Common.{◌≡◌, ◌≢◌, ◌∙◌, sym, ap, subst, Bool, true, false, cond, List, [], ◌∷◌, ◌++◌, refl, map, Option, Some, None, drop, length, take, append_assoc}
+use Rattle.std.specs.Option.{option_or}
+use Rattle.std.proofs.lemmas.List.{append-nil}
 use Rattle.std.specs.Prelude.{bytes_eq, Decides, filter, option_map}
 use Rattle.std.specs.List.{AllByRecursion, IsDistinct}
 use Rattle.std.specs.Map.{keys_of}
 use Rattle.std.proofs.lemmas.Map.{keys-set_value}
 use Rattle.std.proofs.lemmas.Slice.Eq.{bytes_eq-Decides}
-use Rattle.amqp_link_ledger.proofs.ListSteps.{some_is_none, entry_at-first}
+use Rattle.amqp_link_ledger.proofs.ListSteps.{some_is_none, entry_at-first, by_test, tag_is}
 use Rattle.amqp_link_types.specs.Entries.{Tag, Entries, entry_at, with_entry, without_entry, IsMap}
 use Rattle.amqp_link_types.proofs.MapLemmas.{same_tag, other_tag, false_is_not_true, put-absent, entry_at-removed}
 use Rattle.amqp_link_types.proofs.EntriesLemmas.{IsMap-push, with_entry-present}
@@ -60,6 +62,85 @@ module _ {V : Type 0} where
 
   pub removed_there : (m : Entries V) (tag other : Tag) → IsMap m → other ≢ tag → entry_at (without_entry m tag) other ≡ entry_at m other
   removed_there m tag other is n = entry_at-removed m tag other is ∙ ap (λ b. cond b None (entry_at m other)) (other_tag tag other (λ p. n (sym p)))
+
+-- ---- maps, one after the other
+
+module _ {V : Type 0} where
+  pub entry_at-append : (xs ys : Entries V) (tag : Tag) → entry_at (xs ++ ys) tag ≡ option_or (entry_at xs tag) (entry_at ys tag)
+  entry_at-append [] ys tag = refl
+  entry_at-append (e ∷ xs) ys tag =
+      elim (bytes_eq tag e.0) as (λ b. cond b (Some e.1) (entry_at (xs ++ ys) tag) ≡ option_or (cond b (Some e.1) (entry_at xs tag)) (entry_at ys tag)) [
+        | true ↦ refl
+        | false ↦ entry_at-append xs ys tag
+      ]
+
+  -- two maps without a common tag make one
+  pub IsMap-append : (xs ys : Entries V) → IsMap xs → IsMap ys → ((tag : Tag) (v : V) → entry_at ys tag ≡ Some v → entry_at xs tag ≡ None) → IsMap (xs ++ ys)
+  IsMap-append xs [] left right apart = subst IsMap (sym (append-nil xs)) left
+  IsMap-append xs (y ∷ ys) left right apart =
+      let tag : Tag = y.0 in
+      let free : entry_at xs tag ≡ None = apart tag y.1 (entry_at-first tag y.1 ys) in
+      let more : IsMap (xs ++ (tag, y.1) ∷ []) = IsMap-push xs tag y.1 left free in
+      subst IsMap (append_assoc xs (y ∷ []) ys)
+      (IsMap-append (xs ++ (tag, y.1) ∷ []) ys more (others_are_map tag y.1 ys right) (λ other v found.
+      let differ : other ≢ tag = λ same. some_is_none (sym found ∙ ap (entry_at ys) same ∙ first_alone tag y.1 ys right) in
+      entry_at-append xs ((tag, y.1) ∷ []) other
+      ∙ ap (λ o. option_or o (entry_at ((tag, y.1) ∷ []) other)) (apart other v (entry_at-behind tag other y.1 ys differ ∙ found))
+      ∙ entry_at-behind tag other y.1 [] differ))
+
+  -- those of its pairs that pass a test
+  module _ (test : Tag → Bool) where
+    abbrev pub passing : Entries V → Entries V
+    passing m = filter (λ e. test e.0) m
+
+    keys_passing : (m : Entries V) (tag : Tag) → AllByRecursion (λ k. bytes_eq tag k ≡ false) (keys_of m) → AllByRecursion (λ k. bytes_eq tag k ≡ false) (keys_of (passing m))
+    keys_passing [] tag h = tt
+    keys_passing (e ∷ m) tag h =
+        elim (test e.0) as (λ b. AllByRecursion (λ k. bytes_eq tag k ≡ false) (keys_of (cond b (e ∷ passing m) (passing m)))) [
+          | true ↦ (h.0, keys_passing m tag h.1)
+          | false ↦ keys_passing m tag h.1
+        ]
+
+    pub IsMap-passing : (m : Entries V) → IsMap m → IsMap (passing m)
+    unfolding IsDistinct
+    IsMap-passing [] is = is
+    IsMap-passing (e ∷ m) is =
+        elim (test e.0) as (λ b. IsMap (cond b (e ∷ passing m) (passing m))) [
+          | true ↦ (keys_passing m e.0 is.0, IsMap-passing m is.1)
+          | false ↦ IsMap-passing m is.1
+        ]
+
+    pub entry_at-passing : (m : Entries V) (tag : Tag) → test tag ≡ true → entry_at (passing m) tag ≡ entry_at m tag
+    entry_at-passing [] tag passes = refl
+    entry_at-passing (e ∷ m) tag passes =
+        by_test (bytes_eq tag e.0)
+        (λ same.
+        let here : test e.0 ≡ true = ap test (sym (tag_is tag e.0 same)) ∙ passes in
+        ap (λ b. entry_at (cond b (e ∷ passing m) (passing m)) tag) here
+        ∙ ap (λ b. cond b (Some e.1) (entry_at (passing m) tag)) same
+        ∙ sym (ap (λ b. cond b (Some e.1) (entry_at m tag)) same))
+        (λ other. by_test (test e.0)
+        (λ kept.
+        ap (λ b. entry_at (cond b (e ∷ passing m) (passing m)) tag) kept
+        ∙ ap (λ b. cond b (Some e.1) (entry_at (passing m) tag)) other
+        ∙ entry_at-passing m tag passes
+        ∙ sym (ap (λ b. cond b (Some e.1) (entry_at m tag)) other))
+        (λ gone.
+        ap (λ b. entry_at (cond b (e ∷ passing m) (passing m)) tag) gone
+        ∙ entry_at-passing m tag passes
+        ∙ sym (ap (λ b. cond b (Some e.1) (entry_at m tag)) other)))
+
+    -- the others are not there
+    pub entry_at-failing : (m : Entries V) (tag : Tag) → test tag ≡ false → entry_at (passing m) tag ≡ None
+    entry_at-failing [] tag fails = refl
+    entry_at-failing (e ∷ m) tag fails =
+        by_test (test e.0)
+        (λ kept.
+        let other : bytes_eq tag e.0 ≡ false = other_tag tag e.0 (λ same. false_is_not_true (sym fails ∙ ap test same ∙ kept)) in
+        ap (λ b. entry_at (cond b (e ∷ passing m) (passing m)) tag) kept
+        ∙ ap (λ b. cond b (Some e.1) (entry_at (passing m) tag)) other
+        ∙ entry_at-failing m tag fails)
+        (λ gone. ap (λ b. entry_at (cond b (e ∷ passing m) (passing m)) tag) gone ∙ entry_at-failing m tag fails)
 
 -- ---- values changed in place
 

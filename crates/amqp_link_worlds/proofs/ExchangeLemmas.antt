@@ -1,6 +1,5 @@
 -- What an exchange of unsettled maps leaves to resume.
-use Rattle.std.proofs.Common.{◌≡◌, ◌∙◌, sym, ap, subst, false, List, [], ◌∷◌, ◌++◌, refl, map, Option, Some, None, ℕ, ◌≤◌, drop, length, take, arith, length-append}
-use Rattle.std.proofs.lemmas.List.{append-nil}
+use Rattle.std.proofs.Common.{◌≡◌, ◌∙◌, sym, ap, subst, List, [], ◌∷◌, ◌++◌, refl, map, Option, Some, None, ℕ, ◌≤◌, drop, length, take, arith, length-append}
 use Rattle.std.specs.Prelude.{option_map, is_none, is_some, unwrap_or}
 use Rattle.std.specs.List.{AllByRecursion, filter_map, cons_option}
 use Rattle.amqp_link_types.specs.Entries.{Tag, Entries, entry_at, IsMap}
@@ -19,7 +18,9 @@ use Rattle.amqp_link_ledger.specs.declared.fate.Fate.TheVariants.{HandedOut}
 use Rattle.amqp_link_exchange.specs.Exchanges.{resolutions, to_resume, to_return, unknown_aborted, deliveries_to_resume, outcomes_returned}
 use Rattle.amqp_link_worlds.specs.Resumptions.{entry_of, rest_of, resumes}
 use Rattle.amqp_link_worlds.specs.Worlds.{IsFront, bytes_in, receiver_entry}
-use Rattle.amqp_link_worlds.proofs.EntriesOf.{entry_at-map, IsMap-map, none_left, take-front}
+use Rattle.amqp_link_worlds.proofs.EntriesOf.{entry_at-map, entry_at-append, entry_at-passing, entry_at-failing, passing, IsMap-map, IsMap-append, IsMap-passing, take-front}
+use Rattle.amqp_link_ledger.proofs.ListSteps.{some_is_none}
+use Rattle.std.specs.Option.{option_or}
 
 -- ---- the answer to one delivery
 
@@ -63,6 +64,11 @@ abbrev pub next_in : Resolution → ResumingDelivery
 next_in (Resuming next) = next
 next_in (Outcome outcome) = Abort 0 None
 
+-- what it has of a tag, by both maps' entries
+abbrev pub next_for : Tag → Option UnsettledMessage → Option (Option DeliveryState) → Option ResumingDelivery
+next_for tag (Some entry) reported = Some (next_in (resolution tag entry reported))
+next_for tag None reported = option_map (λ _. Abort 0 None) reported
+
 abbrev pub IsResuming : Resolution → Type 0
 IsResuming r = (next : ResumingDelivery) × (r ≡ Resuming next)
 
@@ -85,22 +91,46 @@ module _ (remote : States) where
   none_returned (e ∷ own) h =
       ap (λ r. cons_option (to_return (e.0, r)) (filter_map to_return (resolutions own remote))) h.0.1 ∙ none_returned own h.1
 
-  -- where all go on, and the receiver names no others
-  module _ (own : Entries UnsettledMessage) (all : AllGoOn own) (known : AllByRecursion (λ e. is_none (entry_at own e.0) ≡ false) remote) where
-    pub list_is : deliveries_to_resume own remote ≡ map (λ e. (e.0, next_in (answer_to e.0 e.1))) own
-    list_is =
-        ap (λ l. l ++ unknown_aborted own remote) (all_resumed own all)
-        ∙ ap (λ (l : States). map (λ e. (e.0, next_in (answer_to e.0 e.1))) own ++ map (λ e. (e.0, Abort 0 None)) l) (none_left (λ e. is_none (entry_at own e.0)) remote known)
-        ∙ append-nil (map (λ e. (e.0, next_in (answer_to e.0 e.1))) own)
+  -- where all go on
+  module _ (own : Entries UnsettledMessage) (all : AllGoOn own) where
+    abbrev answers : Entries ResumingDelivery
+    answers = map (λ e. (e.0, next_in (answer_to e.0 e.1))) own
+
+    -- what the receiver alone names is aborted
+    pub list_is : deliveries_to_resume own remote ≡ map (λ e. (e.0, next_in (answer_to e.0 e.1))) own ++ unknown_aborted own remote
+    list_is = ap (λ l. l ++ unknown_aborted own remote) (all_resumed own all)
 
     pub outcomes_are : outcomes_returned own remote ≡ []
     outcomes_are = none_returned own all
 
-    pub listed_at : (tag : Tag) → entry_at (deliveries_to_resume own remote) tag ≡ option_map (λ entry. next_in (answer_to tag entry)) (entry_at own tag)
-    listed_at tag = ap (λ (l : Entries ResumingDelivery). entry_at l tag) list_is ∙ entry_at-map (λ t entry. next_in (answer_to t entry)) own tag
+    -- a tag that only the receiver names
+    aborted_at : (tag : Tag) → entry_at (unknown_aborted own remote) tag ≡ option_map (λ _. Abort 0 None) (entry_at (passing (λ t. is_none (entry_at own t)) remote) tag)
+    aborted_at tag = entry_at-map (λ _ _. Abort 0 None) (passing (λ t. is_none (entry_at own t)) remote) tag
 
-    pub IsMap-listed : IsMap own → IsMap (deliveries_to_resume own remote)
-    IsMap-listed is = subst IsMap (sym list_is) (IsMap-map (λ t entry. next_in (answer_to t entry)) own is)
+    either_list : (tag : Tag) (o : Option UnsettledMessage) → entry_at own tag ≡ o
+        → option_or (option_map (λ entry. next_in (answer_to tag entry)) o) (entry_at (unknown_aborted own remote) tag) ≡ next_for tag o (entry_at remote tag)
+    either_list tag (Some entry) is = refl
+    either_list tag None is = aborted_at tag ∙ ap (option_map (λ _. Abort 0 None)) (entry_at-passing (λ t. is_none (entry_at own t)) remote tag (ap is_none is))
+
+    pub listed_at : (tag : Tag) → entry_at (deliveries_to_resume own remote) tag ≡ next_for tag (entry_at own tag) (entry_at remote tag)
+    listed_at tag =
+        ap (λ (l : Entries ResumingDelivery). entry_at l tag) list_is
+        ∙ entry_at-append answers (unknown_aborted own remote) tag
+        ∙ ap (λ o. option_or o (entry_at (unknown_aborted own remote) tag)) (entry_at-map (λ t entry. next_in (answer_to t entry)) own tag)
+        ∙ either_list tag (entry_at own tag) refl
+
+    not_answered : (tag : Tag) (next : ResumingDelivery) (o : Option UnsettledMessage) → entry_at own tag ≡ o → entry_at (unknown_aborted own remote) tag ≡ Some next
+        → option_map (λ entry. next_in (answer_to tag entry)) o ≡ None
+    not_answered tag next None is found = refl
+    not_answered tag next (Some entry) is found =
+        absurd (some_is_none (sym found ∙ aborted_at tag ∙ ap (option_map (λ _. Abort 0 None)) (entry_at-failing (λ t. is_none (entry_at own t)) remote tag (ap is_none is))))
+
+    pub IsMap-listed : IsMap own → IsMap remote → IsMap (deliveries_to_resume own remote)
+    IsMap-listed is theirs =
+        subst IsMap (sym list_is)
+        (IsMap-append answers (unknown_aborted own remote) (IsMap-map (λ t entry. next_in (answer_to t entry)) own is)
+        (IsMap-map (λ _ _. Abort 0 None) (passing (λ t. is_none (entry_at own t)) remote) (IsMap-passing (λ t. is_none (entry_at own t)) remote theirs))
+        (λ tag next found. entry_at-map (λ t entry. next_in (answer_to t entry)) own tag ∙ not_answered tag next (entry_at own tag) refl found))
 
 -- all of a list are handed out
 pub given_at : (list : Entries ResumingDelivery) (tag : Tag) → entry_at (map (λ d. (d.0, HandedOut)) list) tag ≡ option_map (λ _. HandedOut) (entry_at list tag)

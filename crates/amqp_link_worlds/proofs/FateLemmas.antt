@@ -14,7 +14,7 @@ use Rattle.amqp_link_worlds.proofs.EntriesOf.{none_left}
 
 -- ---- fates that have moved stay
 
-all-kept : (o : Option Fate) (fates : List Fate) → HaveMoved fates → map (fate_given o) fates ≡ fates
+pub all-kept : (o : Option Fate) (fates : List Fate) → HaveMoved fates → map (fate_given o) fates ≡ fates
 all-kept o [] h = refl
 all-kept o (fate ∷ fates) h = ap (λ f. f ∷ map (fate_given o) fates) (moved-kept o fate h.0) ∙ ap (λ l. fate ∷ l) (all-kept o fates h.1)
 

@@ -4,7 +4,7 @@ use Rattle.std.specs.Prelude.{Option, Some, None, ◌&&◌}
 use Rattle.std.specs.Option.{option_map_or}
 use Rattle.amqp_link_payloads.specs.declared.error.DecodeError.{DecodeError}
 use Rattle.amqp_link_payloads.specs.declared.message.Message.{Message}
-use Rattle.amqp_link_types.specs.Entries.{Tag, entry_at}
+use Rattle.amqp_link_types.specs.Entries.{Tag, entry_at, without_entry}
 use Rattle.amqp_link_types.specs.Refusals.{refusal}
 use Rattle.amqp_link_types.specs.declared.delivery.UnsettledMessage.{UnsettledMessage}
 use Rattle.amqp_link_types.proofs.MapLemmas.{same_tag, other_tag, entry_at-put, entry_at-put_other}
@@ -14,15 +14,15 @@ use Rattle.amqp_link_worlds.specs.PairRuns.{is_out_after, tests_of, Does, IsLeft
 use Rattle.amqp_link_worlds.specs.declared.event.AnswerOf.{AnswerOf}
 use Rattle.amqp_link_worlds.specs.declared.event.AnswerOf.TheVariants as answer
 use Rattle.amqp_link_worlds.specs.declared.event.Event.{Event}
-use Rattle.amqp_link_worlds.specs.declared.event.Event.TheVariants.{Attach, Grant, Send, Arrive, Cut, ResumeNext, PutBackNext, HandOut, Settle}
-use Rattle.amqp_link_worlds.specs.Steps.{after_hand_out, initial_progress, received, attach_tests, send_tests, next_tests}
+use Rattle.amqp_link_worlds.specs.declared.event.Event.TheVariants.{Attach, Grant, Send, Arrive, Cut, ResumeNext, PutBackNext, HandOut, Settle, Withdraw}
+use Rattle.amqp_link_worlds.specs.Steps.{PutsBack, after_withdrawal, after_hand_out, initial_progress, received, attach_tests, send_tests, next_tests}
 use Rattle.amqp_link_worlds.specs.Worlds.{World, is_out, is_out_at, is_together}
 use Rattle.amqp_link_worlds.specs.declared.error.PairError.{PairError}
 use Rattle.amqp_link_worlds.specs.declared.error.PairError.TheVariants.{Decode, OutOfMemory}
 use Rattle.amqp_link_worlds.specs.declared.progress.Progress.{Progress}
 use Rattle.amqp_link_worlds.proofs.DeliveryLemmas.{taken_out}
 use Rattle.amqp_link_worlds.proofs.EntriesOf.{by_tag, removed_here, removed_there}
-use Rattle.amqp_link_worlds.proofs.WorldLemmas.{none_hold, not_is_false, listed_free}
+use Rattle.amqp_link_worlds.proofs.WorldLemmas.{none_hold, not_is_false, listed_free, closed_aborted, off_withdrawn}
 
 -- by the phase, the sender's entry and the progress
 abbrev out_by : Bool → Option UnsettledMessage → Option Progress → Bool
@@ -61,6 +61,18 @@ module _ {B : Type 0} (decoded : List ℕ → Result (Message B) DecodeError) wh
   abbrev OutFollows : Tag → World → Event → AnswerOf B → World → Type 0
   OutFollows tag old e answer new = is_out_at new tag ≡ is_out_after tag e answer (is_out_at old tag)
 
+  put_back_follows : (tag next : Tag) (old new : World) → IsWorld old → refusal (next_tests old) ≡ None → PutsBack old next new → OutFollows tag old PutBackNext (answer.PutBack next) new
+  put_back_follows tag next old new k may d =
+      let on : is_together old.phase ≡ true = not_is_false (is_together old.phase) (none_hold (next_tests old) may).0 in
+      by_tag (λ t. OutFollows t old PutBackNext (answer.PutBack next) new) next
+      (ap (λ (w : World). is_out_at w next) d.world
+      ∙ same_out on (entry_at-put old.ledger.link.unsettled next d.entry) (entry_at-put old.deliveries next (record d.before { put_back = true }))
+      ∙ sym (none_out (is_together old.phase) (entry_at old.deliveries next))
+      ∙ sym (same_out refl (listed_free old next d.next d.others k d.listed) refl))
+      (λ other n. ap (λ (w : World). is_out_at w other) d.world
+      ∙ same_out refl (entry_at-put_other old.ledger.link.unsettled next other d.entry n) (entry_at-put_other old.deliveries next other (record d.before { put_back = true }) n))
+      tag
+
   pub out_follows : (tag : Tag) (old new : World) (e : Event) (answer : AnswerOf B) → IsWorld old → refusal (tests_of decoded old e) ≡ None → Does decoded old e answer new → OutFollows tag old e answer new
   out_follows tag old new (Attach limit) (answer.Attached count) k may d = ap (λ (w : World). is_out_at w tag) d.world ∙ none_out true (entry_at old.deliveries tag)
   out_follows tag old new (Grant n) (answer.Granted credit) k may d = ap (λ (w : World). is_out_at w tag) d.world
@@ -86,6 +98,13 @@ module _ {B : Type 0} (decoded : List ℕ → Result (Message B) DecodeError) wh
       arrived_stays : (b : Bool) (own : Option UnsettledMessage) (p : Progress) → out_by b own (Some (received p id d.first.frame)) ≡ out_by b own (Some p)
       arrived_stays b None p = refl
       arrived_stays b (Some entry) p = refl
+  out_follows tag old new (Arrive id) (answer.Aborted at) k may d =
+      by_tag (λ t. OutFollows t old (Arrive id) (answer.Aborted at) new) at
+      (ap (λ (w : World). is_out_at w at) d.world
+      ∙ same_out refl refl (removed_here old.deliveries at k.deliveries)
+      ∙ sym (same_out refl (closed_aborted old new at k may d).0 refl ∙ none_out (is_together old.phase) (entry_at old.deliveries at)))
+      (λ other n. ap (λ (w : World). is_out_at w other) d.world ∙ same_out refl refl (removed_there old.deliveries at other k.deliveries n))
+      tag
   out_follows tag old new Cut answer.Cut k may d = ap (λ (w : World). is_out_at w tag) d.world ∙ apart_out (entry_at old.ledger.link.unsettled tag) (entry_at old.deliveries tag)
   out_follows tag old new ResumeNext (answer.Resumed next count resume) k may d =
       let on : is_together old.phase ≡ true = not_is_false (is_together old.phase) (none_hold (next_tests old) may).0 in
@@ -97,16 +116,11 @@ module _ {B : Type 0} (decoded : List ℕ → Result (Message B) DecodeError) wh
       ∙ same_out refl (entry_at-put_other old.ledger.link.unsettled next other d.entry n) (entry_at-put_other old.deliveries next other (record d.before { put_back = false }) n)
       ∙ sym (ap (λ b. b || is_out_at old other) (other_tag other next n)))
       tag
-  out_follows tag old new PutBackNext (answer.PutBack next) k may d =
-      let on : is_together old.phase ≡ true = not_is_false (is_together old.phase) (none_hold (next_tests old) may).0 in
-      by_tag (λ t. OutFollows t old PutBackNext (answer.PutBack next) new) next
-      (ap (λ (w : World). is_out_at w next) d.world
-      ∙ same_out on (entry_at-put old.ledger.link.unsettled next d.entry) (entry_at-put old.deliveries next (record d.before { put_back = true }))
-      ∙ sym (none_out (is_together old.phase) (entry_at old.deliveries next))
-      ∙ sym (same_out refl (listed_free old next d.next d.others k d.listed) refl))
-      (λ other n. ap (λ (w : World). is_out_at w other) d.world
-      ∙ same_out refl (entry_at-put_other old.ledger.link.unsettled next other d.entry n) (entry_at-put_other old.deliveries next other (record d.before { put_back = true }) n))
-      tag
+  out_follows tag old new ResumeNext (answer.Aborted next) k may d = ap (λ (w : World). is_out_at w tag) d.world
+  out_follows tag old new PutBackNext (answer.PutBack next) k may d = elim (d) [
+    | inl entry ↦ put_back_follows tag next old new k may entry
+    | inr abort ↦ ap (λ (w : World). is_out_at w tag) abort.world
+  ]
   out_follows tag old new (HandOut out) (answer.HandedOut delivery) k may d = handed_out_stays tag old new out d.before d.known d.world
   out_follows tag old new (Settle settled) answer.Settled k may d =
       by_tag (λ t. OutFollows t old (Settle settled) answer.Settled new) settled
@@ -117,6 +131,12 @@ module _ {B : Type 0} (decoded : List ℕ → Result (Message B) DecodeError) wh
       ∙ same_out refl (removed_there old.ledger.link.unsettled settled other k.unsettled n) (removed_there old.deliveries settled other k.deliveries n)
       ∙ sym (ap (λ b. not b && is_out_at old other) (other_tag other settled n)))
       tag
+  out_follows tag old new (Withdraw withdrawn) answer.Withdrawn k may d =
+      let off : is_together old.phase ≡ false = off_withdrawn old new withdrawn k may d in
+      ap (λ (w : World). is_out_at w tag) d.world
+      ∙ same_out off refl refl
+      ∙ apart_out (entry_at (without_entry old.ledger.link.unsettled withdrawn) tag) (entry_at (after_withdrawal old.deliveries withdrawn d.before) tag)
+      ∙ sym (same_out off refl refl ∙ apart_out (entry_at old.ledger.link.unsettled tag) (entry_at old.deliveries tag))
   out_follows tag old new _ _ k may d = absurd d
 
   left_out : (tag : Tag) (old new : World) (e : Event) → IsLeft decoded old e new → is_out_at new tag ≡ is_out_at old tag
@@ -128,8 +148,9 @@ module _ {B : Type 0} (decoded : List ℕ → Result (Message B) DecodeError) wh
   ]
   left_out tag old new (Grant n) l = absurd l
   left_out tag old new Cut l = absurd l
+  left_out tag old new (Withdraw t) l = absurd l
   left_out tag old new (Send payload) l = ap (λ (w : World). is_out_at w tag) l
-  left_out tag old new (Arrive id) l = ap (λ (w : World). is_out_at w tag) l
+  left_out tag old new (Arrive id) l = ap (λ (w : World). is_out_at w tag) l.1
   left_out tag old new ResumeNext l = ap (λ (w : World). is_out_at w tag) l
   left_out tag old new PutBackNext l = ap (λ (w : World). is_out_at w tag) l
   left_out tag old new (HandOut t) l = ap (λ (w : World). is_out_at w tag) l
@@ -146,6 +167,7 @@ module _ {B : Type 0} (decoded : List ℕ → Result (Message B) DecodeError) wh
   refused_out tag old new ResumeNext error r = ap (λ (w : World). is_out_at w tag) r
   refused_out tag old new PutBackNext error r = ap (λ (w : World). is_out_at w tag) r
   refused_out tag old new (Settle t) error r = ap (λ (w : World). is_out_at w tag) r
+  refused_out tag old new (Withdraw t) error r = ap (λ (w : World). is_out_at w tag) r
 
   -- an event that is refused changes none
   pub out_stays : (tag : Tag) (old new : World) (e : Event) (error : PairError) → Step decoded old e (Err error) new → is_out_at new tag ≡ is_out_at old tag

@@ -1,5 +1,5 @@
 -- Only a settlement resolves a registration.
-use Rattle.std.proofs.Common.{◌≡◌, ◌∙◌, sym, ap, subst, cond, List, [], ◌∷◌, refl, ℕ, map, inl, inr, Ok, Err, Result, Option, Some, None, slice_get}
+use Rattle.std.proofs.Common.{◌≡◌, ◌∙◌, sym, ap, subst, Bool, true, false, cond, List, [], ◌∷◌, refl, ℕ, map, inl, inr, Ok, Err, Result, Option, Some, None, slice_get}
 use Rattle.std.specs.Prelude.{bytes_eq, option_map}
 use Rattle.std.proofs.lemmas.Option.{slice_get-map, slice_get_within}
 use Rattle.amqp_link_payloads.specs.declared.error.DecodeError.{DecodeError}
@@ -11,9 +11,9 @@ use Rattle.amqp_link_types.specs.declared.types.delivery_state.DeliveryState.The
 use Rattle.amqp_link_types.specs.declared.types.errors.LinkStateError.{LinkStateError}
 use Rattle.amqp_link_core.specs.declared.resumption.ResumingDelivery.{ResumingDelivery}
 use Rattle.amqp_link_exchange.specs.Exchanges.{outcomes_returned}
-use Rattle.amqp_link_ledger.specs.Fates.{Records, Enters, HandsOut, Resolves, after, fate_given, with_fates}
+use Rattle.amqp_link_ledger.specs.Fates.{Records, Enters, HandsOut, Resolves, Withdraws, after, fate_given, with_fates}
 use Rattle.amqp_link_ledger.specs.declared.fate.Fate.{Fate}
-use Rattle.amqp_link_ledger.specs.declared.fate.Fate.TheVariants.{Pending, HandedOut, Resolved}
+use Rattle.amqp_link_ledger.specs.declared.fate.Fate.TheVariants.{Pending, HandedOut, Resolved, Withdrawn}
 use Rattle.amqp_link_ledger.proofs.FateLemmas.{with_fates-none}
 use Rattle.amqp_link_ledger.proofs.ListSteps.{some_is, by_test, tag_is, get_push_old, entry_at-map}
 use Rattle.amqp_link_worlds.specs.Invariants.{IsWorld}
@@ -21,7 +21,7 @@ use Rattle.amqp_link_worlds.specs.PairRuns.{tests_of, Does, IsLeft, IsRefused, S
 use Rattle.amqp_link_worlds.specs.declared.event.AnswerOf.{AnswerOf}
 use Rattle.amqp_link_worlds.specs.declared.event.AnswerOf.TheVariants as answer
 use Rattle.amqp_link_worlds.specs.declared.event.Event.{Event}
-use Rattle.amqp_link_worlds.specs.declared.event.Event.TheVariants.{Attach, Grant, Send, Arrive, Cut, ResumeNext, PutBackNext, HandOut, Settle}
+use Rattle.amqp_link_worlds.specs.declared.event.Event.TheVariants.{Attach, Grant, Send, Arrive, Cut, ResumeNext, PutBackNext, HandOut, Settle, Withdraw}
 use Rattle.amqp_link_worlds.specs.Steps.{list_to_resume, attach_tests}
 use Rattle.amqp_link_worlds.specs.Worlds.{World}
 use Rattle.amqp_link_worlds.specs.declared.error.PairError.{PairError}
@@ -36,6 +36,9 @@ not_pending outcome h = cc
 
 not_handed_out : (outcome : Outcome) → HandedOut ≡ Resolved outcome → ⊥
 not_handed_out outcome h = cc
+
+not_the_withdrawn : (outcome : Outcome) → Withdrawn ≡ Resolved outcome → ⊥
+not_the_withdrawn outcome h = cc
 
 outcome_is : {a b : Outcome} → Resolved a ≡ Resolved b → a ≡ b
 outcome_is h = cc
@@ -70,6 +73,14 @@ module _ (n : ℕ) (tag : Tag) (outcome : Outcome) where
       by None h = not_pending outcome h
       by (Some next) h = not_handed_out outcome h
 
+  -- not where a delivery is withdrawn
+  by_withdrawing : (withdrawn : Tag) (old : Records) → ResolvesAt n tag outcome old (after (Withdraws withdrawn) old) → ⊥
+  by_withdrawing withdrawn old r = by (bytes_eq tag withdrawn) (given_then ((withdrawn, Withdrawn) ∷ []) old r)
+    where
+      by : (b : Bool) → fate_given (cond b (Some Withdrawn) None) Pending ≡ Resolved outcome → ⊥
+      by true h = not_the_withdrawn outcome h
+      by false h = not_pending outcome h
+
   -- where a delivery is settled, it is the one, and accepted
   by_settling : (settled : Tag) (old : Records) → ResolvesAt n tag outcome old (after (Resolves ((settled, Ok (Some Accepted)) ∷ [])) old) → (tag ≡ settled) × (outcome ≡ Ok (Some Accepted))
   by_settling settled old r =
@@ -100,21 +111,28 @@ module _ (n : ℕ) (tag : Tag) (outcome : Outcome) where
     done_resolves old new (Grant m) (answer.Granted credit) k may d r = absurd (stays old new _ d.world refl r)
     done_resolves old new (Send payload) (answer.Sent sent count) k may d r = absurd (by_entering sent old.ledger.records (along old new _ d.world r))
     done_resolves old new (Arrive id) (answer.Arrived at section offset whole) k may d r = absurd (stays old new _ d.world refl r)
+    done_resolves old new (Arrive id) (answer.Aborted at) k may d r = absurd (stays old new _ d.world refl r)
     done_resolves old new Cut answer.Cut k may d r = absurd (stays old new _ d.world refl r)
     done_resolves old new ResumeNext (answer.Resumed next count resume) k may d r = absurd (by_entering next old.ledger.records (along old new _ d.world r))
-    done_resolves old new PutBackNext (answer.PutBack next) k may d r = absurd (by_entering next old.ledger.records (along old new _ d.world r))
+    done_resolves old new ResumeNext (answer.Aborted next) k may d r = absurd (stays old new _ d.world refl r)
+    done_resolves old new PutBackNext (answer.PutBack next) k may d r = elim (d) [
+      | inl entry ↦ absurd (by_entering next old.ledger.records (along old new _ entry.world r))
+      | inr abort ↦ absurd (stays old new _ abort.world refl r)
+    ]
     done_resolves old new (HandOut out) (answer.HandedOut delivery) k may d r = absurd (stays old new _ d.world refl r)
     done_resolves old new (Settle settled) answer.Settled k may d r =
         let is = by_settling settled old.ledger.records (along old new _ d.world r) in
         (ap Settle (sym is.0), is.1)
+    done_resolves old new (Withdraw withdrawn) answer.Withdrawn k may d r = absurd (by_withdrawing withdrawn old.ledger.records (along old new _ d.world r))
     done_resolves old new _ _ k may d r = absurd d
 
     left_resolves : (old new : World) (e : Event) → IsLeft decoded old e new → ResolvesAt n tag outcome old.ledger.records new.ledger.records → ⊥
     left_resolves old new (Attach limit) l r = elim (l) [ inl same ↦ stays old new old same refl r | inr s ↦ stays old new _ s.1.world refl r ]
     left_resolves old new (Grant m) l r = l
     left_resolves old new Cut l r = l
+    left_resolves old new (Withdraw t) l r = l
     left_resolves old new (Send payload) l r = stays old new old l refl r
-    left_resolves old new (Arrive id) l r = stays old new old l refl r
+    left_resolves old new (Arrive id) l r = stays old new old l.1 refl r
     left_resolves old new ResumeNext l r = stays old new old l refl r
     left_resolves old new PutBackNext l r = stays old new old l refl r
     left_resolves old new (HandOut t) l r = stays old new old l refl r
@@ -131,6 +149,7 @@ module _ (n : ℕ) (tag : Tag) (outcome : Outcome) where
     refused_resolves old new ResumeNext error l r = stays old new old l refl r
     refused_resolves old new PutBackNext error l r = stays old new old l refl r
     refused_resolves old new (Settle t) error l r = stays old new old l refl r
+    refused_resolves old new (Withdraw t) error l r = stays old new old l refl r
 
     step_resolves : (old new : World) (e : Event) (r : Result (AnswerOf B) PairError) → IsWorld old → Step decoded old e r new → ResolvesAt n tag outcome old.ledger.records new.ledger.records → IsSettlement e
     step_resolves old new e (Ok answer) k s r = done_resolves old new e answer k s.0 s.1 r

@@ -1,5 +1,5 @@
 -- What is held of a delivery is a front of what was sent, and of a whole delivery all of it.
-use Rattle.std.proofs.Common.{◌≡◌, ◌∙◌, sym, ap, subst, Bool, true, false, cond, List, [], ◌∷◌, refl, ℕ, Ok, Err, Result}
+use Rattle.std.proofs.Common.{◌≡◌, ◌∙◌, sym, ap, subst, Bool, true, false, cond, List, [], ◌∷◌, refl, ℕ, Ok, Err, Result, inl, inr}
 use Rattle.std.specs.Prelude.{Option, Some, None, IsSomeAnd, option_and_then, option_map}
 use Rattle.std.specs.Option.{option_or, option_map_or}
 use Rattle.amqp_link_payloads.specs.declared.error.DecodeError.{DecodeError}
@@ -25,7 +25,7 @@ use Rattle.amqp_link_worlds.specs.declared.error.PairError.{PairError}
 use Rattle.amqp_link_worlds.specs.declared.event.AnswerOf.{AnswerOf}
 use Rattle.amqp_link_worlds.specs.declared.event.AnswerOf.TheVariants as answer
 use Rattle.amqp_link_worlds.specs.declared.event.Event.{Event}
-use Rattle.amqp_link_worlds.specs.declared.event.Event.TheVariants.{Attach, Grant, Send, Arrive, Cut, ResumeNext, PutBackNext, HandOut, Settle}
+use Rattle.amqp_link_worlds.specs.declared.event.Event.TheVariants.{Attach, Grant, Send, Arrive, Cut, ResumeNext, PutBackNext, HandOut, Settle, Withdraw}
 use Rattle.amqp_link_worlds.specs.declared.progress.Progress.{Progress}
 use Rattle.amqp_link_worlds.proofs.EntriesOf.{by_tag}
 use Rattle.amqp_link_worlds.proofs.FateLemmas.{latest_is}
@@ -58,7 +58,7 @@ front_of (Some entry) (Some p) out reported frames rest good = good.front
 front_registered : (w : World) (tag : Tag) → IsWorld w → IsOpenIn w tag → IsSomeAnd (registered_payload w tag) (IsFront (bytes_in (held_at w tag)))
 front_registered w tag k o =
     let s : Standing = standing w tag in
-    front_of (entry_in s) s.progress (is_out (is_together w.phase) s.own) s.reported s.frames (rest_in s) (Good-from_world w k tag o)
+    front_of (entry_in s) s.progress (is_out (is_together w.phase) s.own) s.reported s.frames (rest_in s) ((Good-from_world w k).deliveries tag o)
 
 -- ---- of a whole delivery it holds all of it
 
@@ -67,14 +67,14 @@ whole_as : (together : Bool) (tag : Tag) (own : Option UnsettledMessage) (listed
     → option_map_or (λ p. p.whole) q false ≡ true
     → IsOpen (latest fates) × (Some (bytes_in (option_and_then (λ p. p.held) q)) ≡ payload_in (option_or own (option_and_then entry_of listed)))
 whole_as together tag own listed None reported frames fates kept whole = absurd (false_is_not_true whole)
-whole_as together tag None None (Some p) reported frames fates kept whole = absurd (none_is_not_some (sym kept.0))
-  where
-    none_is_not_some : {A : Type 0} {a : A} → None ≡ Some a → ⊥
-    none_is_not_some h = cc
+whole_as together tag None None (Some p) reported frames fates kept whole = absurd (false_is_not_true (sym kept.unfinished ∙ whole))
 whole_as together tag (Some entry) None (Some p) reported frames fates kept whole =
     (subst IsOpen (sym (latest_is Pending fates kept.1)) tt, ap Some (kept.0.good.complete whole))
 whole_as together tag None (Some next) (Some p) reported frames fates kept whole =
-    (subst IsOpen (sym (latest_is HandedOut fates kept.1)) tt, ap Some (kept.0.under_way.good.complete whole) ∙ ap payload_in (sym kept.0.entry_is))
+    elim (kept) [
+      | inl l ↦ (subst IsOpen (sym (latest_is HandedOut fates l.1)) tt, ap Some (l.0.under_way.good.complete whole) ∙ ap payload_in (sym l.0.entry_is))
+      | inr a ↦ absurd (false_is_not_true (sym a.withdrawn.unfinished ∙ whole))
+    ]
 whole_as together tag (Some entry) (Some next) (Some p) reported frames fates kept whole = absurd kept
 
 -- it is a delivery, and what is held of it is registered
@@ -125,6 +125,8 @@ module _ {B : Type 0} (decoded : List ℕ → Result (Message B) DecodeError) wh
   keeps_sent true tag old new e (Ok (answer.PutBack a)) before k s is h = absurd (false_is_not_true is)
   keeps_sent true tag old new e (Ok (answer.HandedOut a)) before k s is h = absurd (false_is_not_true is)
   keeps_sent true tag old new e (Ok answer.Settled) before k s is h = absurd (false_is_not_true is)
+  keeps_sent true tag old new e (Ok answer.Withdrawn) before k s is h = absurd (false_is_not_true is)
+  keeps_sent true tag old new e (Ok (answer.Aborted a)) before k s is h = absurd (false_is_not_true is)
   keeps_sent true tag old new e (Err error) before k s is h = absurd (false_is_not_true is)
   keeps_sent true tag old new (Attach x) (Ok (answer.Sent sent count)) before k s is h = absurd s.1
   keeps_sent true tag old new (Grant x) (Ok (answer.Sent sent count)) before k s is h = absurd s.1
@@ -134,6 +136,7 @@ module _ {B : Type 0} (decoded : List ℕ → Result (Message B) DecodeError) wh
   keeps_sent true tag old new PutBackNext (Ok (answer.Sent sent count)) before k s is h = absurd s.1
   keeps_sent true tag old new (HandOut x) (Ok (answer.Sent sent count)) before k s is h = absurd s.1
   keeps_sent true tag old new (Settle x) (Ok (answer.Sent sent count)) before k s is h = absurd s.1
+  keeps_sent true tag old new (Withdraw x) (Ok (answer.Sent sent count)) before k s is h = absurd s.1
 
   abbrev sent_on : Tag → Option (List ℕ) → List (Moment decoded) → Option (List ℕ)
   sent_on tag sent [] = sent

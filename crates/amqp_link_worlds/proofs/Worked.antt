@@ -6,7 +6,8 @@ use Rattle.amqp_link_payloads.specs.declared.message.Message.{Message}
 use Rattle.amqp_link_payloads.specs.Position.{starts}
 use Rattle.amqp_link_types.specs.Entries.{Tag}
 use Rattle.amqp_link_types.specs.Refusals.{refusal}
-use Rattle.amqp_link_types.specs.Size.{attach_len, before, list_of}
+use Rattle.amqp_link_types.specs.Size.{attach_len, transfer_len, before, list_of}
+use Rattle.amqp_link_split.specs.Room.{worst}
 use Rattle.amqp_link_types.specs.declared.delivery.UnsettledMessage.{UnsettledMessage}
 use Rattle.amqp_link_types.specs.declared.frame.LinkFrame.{LinkFrame}
 use Rattle.amqp_link_types.specs.declared.frame.LinkFrame.TheVariants.{FirstTransfer, TransferContinuation}
@@ -14,17 +15,17 @@ use Rattle.amqp_link_types.specs.declared.types.delivery_state.DeliveryState.The
 use Rattle.amqp_link_types.specs.declared.types.terminus.Target.{Target}
 use Rattle.amqp_link_types.proofs.MapLemmas.{false_is_not_true}
 use Rattle.amqp_link_core.specs.declared.resumption.ResumingDelivery.TheVariants.{Resend, Resume, Abort}
-use Rattle.amqp_link_sender.specs.Senders.{Sender, new_entry}
+use Rattle.amqp_link_sender.specs.Senders.{Sender, new_entry, abort_transfer, abort_frame}
 use Rattle.amqp_link_receiver.specs.Receivers.{Receiver}
 use Rattle.amqp_link_ledger.specs.Fates.{HandsOut, Resolves, after}
-use Rattle.amqp_link_ledger.specs.declared.fate.Fate.TheVariants.{Pending, HandedOut, Resolved}
+use Rattle.amqp_link_ledger.specs.declared.fate.Fate.TheVariants.{Pending, HandedOut, Resolved, Withdrawn}
 use Rattle.amqp_link_worlds.specs.PairRuns.{Moment, last_payload, last_sent}
 use Rattle.amqp_link_worlds.specs.declared.event.AnswerOf.TheVariants as answer
 use Rattle.amqp_link_worlds.specs.declared.event.Event.TheVariants as event
 use Rattle.amqp_link_worlds.specs.Resumptions.{entry_of, rest_of, resumes}
-use Rattle.amqp_link_worlds.specs.Steps.{delivery_transfer, initial_progress, received, new_sender, new_receiver, new_world, attaches_fit, is_halfway_at_other, attach_tests, grant_tests, send_tests, arrive_tests, cut_tests, next_tests, settle_tests}
+use Rattle.amqp_link_worlds.specs.Steps.{delivery_transfer, initial_progress, received, new_sender, new_receiver, new_world, attaches_fit, is_halfway_at_other, attach_tests, grant_tests, send_tests, arrive_tests, cut_tests, next_tests, settle_tests, withdraw_tests, after_attach, list_to_resume, Attaches, WithdrawsDelivery, SendsAbort, AbortArrives, zero_output}
 use Rattle.amqp_link_worlds.specs.Wires.{OnWire, under, frames_of, payload_of_all, IsInTurn}
-use Rattle.amqp_link_worlds.specs.Worlds.{World, Apart, Halfway, Together, IsGood, is_out, bytes_in, receiver_entry, registered_payload}
+use Rattle.amqp_link_worlds.specs.Worlds.{World, Apart, Halfway, Together, IsGood, is_out, bytes_in, receiver_entry, registered_payload, held_at}
 use Rattle.amqp_link_worlds.specs.declared.error.PairError.TheVariants as error
 use Rattle.amqp_link_worlds.specs.declared.progress.Progress.{Progress}
 
@@ -85,6 +86,7 @@ held_after_last : received after_one 6 last ≡ record {
   whole = true;
   put_back = false;
   taken = false;
+  withdrawn = false;
 }
 held_after_last = refl
 
@@ -97,6 +99,7 @@ held_after_again : received after_one 6 again ≡ record {
   whole = true;
   put_back = false;
   taken = false;
+  withdrawn = false;
 }
 held_after_again = refl
 
@@ -227,3 +230,105 @@ module _ {B : Type 0} (decoded : List ℕ → Result (Message B) DecodeError) wh
   last_values : (last_payload decoded (pending (1 ∷ 2 ∷ [])) (cuts ∷ []) tag ≡ Some (1 ∷ 2 ∷ []))
       × (last_payload decoded (pending (1 ∷ 2 ∷ [])) (cuts ∷ sends (3 ∷ []) ∷ []) tag ≡ Some (3 ∷ [])) × (last_payload decoded (pending (1 ∷ 2 ∷ [])) [] other ≡ None)
   last_values = (refl, refl, refl)
+
+-- ---- a delivery of twelve bytes is withdrawn after five have arrived, and aborted
+
+abbrev zero_tag : Tag
+zero_tag = 0 ∷ 0 ∷ 0 ∷ 0 ∷ []
+
+abbrev twelve : UnsettledMessage
+twelve = entry (1 ∷ 2 ∷ 3 ∷ 4 ∷ 5 ∷ 6 ∷ 7 ∷ 8 ∷ 9 ∷ 10 ∷ 11 ∷ 12 ∷ [])
+
+abbrev five_arrived : Progress
+five_arrived =
+    let t = delivery_transfer zero_tag false in
+    received initial_progress 7 (FirstTransfer (record { input_handle = record { 0 = 0 }; performative = record t { more = true }; payload = 1 ∷ 2 ∷ 3 ∷ 4 ∷ 5 ∷ [] }))
+
+abbrev s_pending : Sender Target
+s_pending = let plain = new_sender 0 in record plain { flow_state = record plain.flow_state { delivery_count = 1 }; unsettled = (zero_tag, twelve) ∷ [] }
+
+-- after the cut
+abbrev cut_off : World
+cut_off =
+    let w = new_world 0 in
+    record w {
+      ledger = record { link = s_pending; records = (zero_tag, Pending) ∷ [] };
+      receiver = r 0 5;
+      deliveries = (zero_tag, five_arrived) ∷ [];
+    }
+
+abort_fits : worst (abort_transfer zero_output zero_tag 0) ≡ 25
+unfolding transfer_len before list_of
+abort_fits = refl
+
+may_withdraw : (refusal (withdraw_tests cut_off zero_tag) ≡ None) × (refusal (withdraw_tests cut_off other) ≡ Some error.UnknownTag)
+    × (refusal (withdraw_tests (record cut_off { phase = Halfway 46 }) zero_tag) ≡ Some error.AlreadyAttached)
+    × (refusal (withdraw_tests (record cut_off { deliveries = (zero_tag, record five_arrived { whole = true }) ∷ [] }) zero_tag) ≡ Some error.AlreadyWhole)
+may_withdraw = (refl, refl, refl, refl)
+
+-- after the withdrawal
+abbrev given_up : World
+given_up = record cut_off {
+  ledger = record { link = record s_pending { unsettled = [] }; records = (zero_tag, Withdrawn) ∷ [] };
+  deliveries = (zero_tag, record five_arrived { withdrawn = true }) ∷ [];
+}
+
+withdraws : WithdrawsDelivery cut_off zero_tag given_up
+withdraws = record { before = five_arrived; known = refl; world = refl }
+
+withdrawn_once : refusal (withdraw_tests given_up zero_tag) ≡ Some error.UnknownTag
+withdrawn_once = refl
+
+-- the receiver reports what it holds, so its attach takes 42 bytes
+fits_at_46 : (refusal (attach_tests given_up 45) ≡ Some error.LimitTooSmall) × (refusal (attach_tests given_up 46) ≡ None)
+unfolding attach_len before list_of
+fits_at_46 = (refl, refl)
+
+one_abort : list_to_resume given_up ≡ (zero_tag, Abort 0 None) ∷ []
+one_abort = refl
+
+attaches : Attaches given_up 46 1 (after_attach 46 given_up)
+attaches = record { counted = refl; world = refl }
+
+-- nothing was handed out
+still_withdrawn : (let w = after_attach 46 given_up in w.ledger.records) ≡ (zero_tag, Withdrawn) ∷ []
+still_withdrawn = refl
+
+-- the abort counts as handed out
+while_listed : (refusal (send_tests (after_attach 46 given_up) []) ≡ Some error.ResumeFirst) × (refusal (cut_tests (after_attach 46 given_up)) ≡ Some error.StillHandedOut)
+    × (refusal (settle_tests (after_attach 46 given_up) zero_tag) ≡ Some error.UnknownTag)
+while_listed = (refl, refl, refl)
+
+-- the abort is sent
+abbrev abort_sent : World
+abort_sent = let w = after_attach 46 given_up in record w { resuming = []; wire = under zero_tag (abort_frame zero_output (record { 0 = 0 }) zero_tag 0 ∷ []) }
+
+sends_abort : SendsAbort (after_attach 46 given_up) zero_tag abort_sent
+sends_abort = record { others = []; handle = record { 0 = 0 }; listed = refl; handle_is = refl; world = refl }
+
+-- what is held is there until it arrives
+shown_before : bytes_in (held_at abort_sent zero_tag) ≡ 1 ∷ 2 ∷ 3 ∷ 4 ∷ 5 ∷ []
+shown_before = refl
+
+abort_arrives : AbortArrives abort_sent zero_tag (record abort_sent { receiver = record abort_sent.receiver { unsettled = [] }; deliveries = []; wire = [] })
+abort_arrives = record {
+  first = record { tag = zero_tag; frame = abort_frame zero_output (record { 0 = 0 }) zero_tag 0 };
+  rest = [];
+  taken = refl;
+  aborts = refl;
+  tagged = refl;
+  world = refl;
+}
+
+-- put back, or cut off, it is in the next list again
+dropped_again : (refusal (next_tests (after_attach 46 given_up)) ≡ None) × (let w = after_attach 46 given_up in list_to_resume (record w { resuming = [] }) ≡ (zero_tag, Abort 0 None) ∷ [])
+    × (list_to_resume abort_sent ≡ (zero_tag, Abort 0 None) ∷ [])
+dropped_again = (refl, refl, refl)
+
+-- a tag of which something is held is not sent again
+held_tag_is_not_sent : (let w = in_phase_together in let l = w.ledger in let f = l.link.flow_state in
+    refusal (send_tests (record w {
+      ledger = record l { link = record l.link { flow_state = record f { link_credit = 1 } } };
+      deliveries = (zero_tag, record five_arrived { withdrawn = true }) ∷ [];
+    }) [])) ≡ Some error.TagPending
+held_tag_is_not_sent = refl

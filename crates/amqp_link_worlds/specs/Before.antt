@@ -1,8 +1,8 @@
 -- The first tests of three calls of a pair: only if none of them holds may the call be out of memory.
-use Rattle.std.specs.Prelude.{ℕ, ◌^◌, ◌∷◌, [], ◌==◌, List, not, is_some, length, nat_le, nat_lt}
+use Rattle.std.specs.Prelude.{ℕ, ◌^◌, ◌∷◌, [], ◌==◌, List, not, length, nat_le, nat_lt}
 use Rattle.amqp_link_types.specs.Entries.{Tag}
-use Rattle.amqp_link_worlds.specs.Steps.{PairTests, has_flag, is_empty, is_halfway_at_other}
-use Rattle.amqp_link_worlds.specs.Worlds.{World, held_at, is_together}
+use Rattle.amqp_link_worlds.specs.Steps.{PairTests, has_flag, is_empty, is_unknown, is_halfway_at_other}
+use Rattle.amqp_link_worlds.specs.Worlds.{World, is_together}
 use Rattle.amqp_link_worlds.specs.declared.error.PairError.TheVariants as error
 
 -- of an attach, before the attaches of both endpoints are made to be measured
@@ -26,7 +26,7 @@ before_tag w payload =
 abbrev pub before_decoding : World → Tag → PairTests
 before_decoding w tag =
     (not (is_together w.phase), error.NotAttached)
-    ∷ (not (is_some (held_at w tag)), error.UnknownTag)
+    ∷ (is_unknown w tag, error.UnknownTag)
     ∷ (not (has_flag (λ p. p.whole) w tag), error.NotWhole)
     ∷ (has_flag (λ p. p.taken) w tag, error.AlreadyHandedOut)
     ∷ (w.receiver.flow_state.link_credit == 0, error.TransferLimitExceeded)

@@ -11,12 +11,13 @@ use Rattle.amqp_link_core.specs.declared.resumption.ResumingDelivery.{ResumingDe
 use Rattle.amqp_link_endpoint.specs.LinkStates.{state_without_session}
 use Rattle.amqp_link_state.specs.declared.state.LinkState.TheVariants.{Detached}
 use Rattle.amqp_link_receiver.specs.Receivers.{Receiver}
-use Rattle.amqp_link_sender.specs.Senders.{Sender, next_tag, unsettled_transfer_tests}
+use Rattle.amqp_link_sender.specs.Senders.{Sender, next_tag, unsettled_transfer_tests, abort_transfer}
 use Rattle.amqp_link_receiver.specs.Completing.{may_receive, transfer_refusal, entered, spent}
 use Rattle.amqp_link_worlds.specs.Resumptions.{entry_of, rest_of, resumes}
-use Rattle.amqp_link_worlds.specs.Steps.{delivery_transfer}
+use Rattle.amqp_link_worlds.specs.Steps.{delivery_transfer, zero_output}
+use Rattle.amqp_link_split.specs.Room.{has_room}
 use Rattle.amqp_link_worlds.specs.Wires.{frames_of}
-use Rattle.amqp_link_worlds.specs.Worlds.{World}
+use Rattle.amqp_link_worlds.specs.Worlds.{World, held_at, receiver_entry}
 use Rattle.amqp_link_worlds.specs.declared.progress.Progress.{Progress}
 
 -- both handles are 0, the mode is mixed, there is credit, the next tag is free, and the frames have room
@@ -59,6 +60,15 @@ pub record CanResume (w : World) (tag : Tag) (next : ResumingDelivery) : Type 0 
   pub allowed : refusal (unsettled_transfer_tests w.ledger.link (delivery_transfer tag (resumes next)) tag rest) ≡ None
   -- its transfer has resume = true exactly if the receiver reports it
   pub flag : resumes next ≡ is_some (entry_at w.receiver.unsettled tag)
+
+-- the transfer that aborts what is held of a tag can be sent: both handles are 0, the tag is free, and a frame
+-- has room; the receiver reports what it holds
+pub record CanAbort (w : World) (tag : Tag) : Type 0 where
+  pub output : w.ledger.link.output_handle ≡ Some (record { 0 = 0 })
+  pub input : w.ledger.link.input_handle ≡ Some (record { 0 = 0 })
+  pub free : entry_at w.ledger.link.unsettled tag ≡ None
+  pub room : has_room (abort_transfer zero_output tag 0) w.ledger.link.max_frame_size [] ≡ true
+  pub report : entry_at w.receiver.unsettled tag ≡ receiver_entry (held_at w tag)
 
 -- a receiver that has credit takes the delivery that is held, and its report stays as it is
 pub record CanComplete (r : Receiver Target) (held : Held) : Type 0 where

@@ -1,6 +1,6 @@
 -- What each call of a pair keeps (clause `kept`), beside that its deliveries are good, so that a call is
 -- refused only for the reasons that its doc lists. The laws have it as their premise.
-use Rattle.std.specs.Prelude.{◌≡◌, ◌⊎◌, ℕ, Bool, false, not, ◌&&◌, ◌<◌, ◌≤◌, ◌^◌, List, [], ◌∷◌, ◌++◌, length, drop, Option, Some, None, IsSome, is_some, IfSome, unwrap_or}
+use Rattle.std.specs.Prelude.{◌≡◌, ◌⊎◌, ℕ, Bool, true, false, not, ◌&&◌, ◌<◌, ◌≤◌, ◌^◌, List, [], ◌∷◌, ◌++◌, length, drop, Option, Some, None, IsSome, is_some, IfSome, unwrap_or}
 use Rattle.std.specs.List.{AllByRecursion}
 use Rattle.amqp_link_types.specs.Entries.{Tag, IsMap}
 use Rattle.amqp_link_types.specs.declared.delivery.UnsettledMessage.{UnsettledMessage}
@@ -18,12 +18,13 @@ use Rattle.amqp_link_sender.specs.Senders.{Sender}
 use Rattle.amqp_link_receiver.specs.Receivers.{Receiver}
 use Rattle.amqp_link_ledger.specs.Fates.{is_pending_fate, latest}
 use Rattle.amqp_link_ledger.specs.declared.fate.Fate.{Fate}
-use Rattle.amqp_link_ledger.specs.declared.fate.Fate.TheVariants.{Pending, HandedOut}
+use Rattle.amqp_link_ledger.specs.declared.fate.Fate.TheVariants.{Pending, HandedOut, Withdrawn}
 use Rattle.amqp_link_worlds.specs.Resumptions.{entry_of, rest_of, resumes}
 use Rattle.amqp_link_worlds.specs.Wires.{IsInTurn}
 use Rattle.amqp_link_worlds.specs.Steps.{delivery_transfer, zero_output, new_sender, new_receiver}
-use Rattle.amqp_link_worlds.specs.Worlds.{World, Phase, Apart, Halfway, Together, is_together, Standing, standing, IsGood, IsOpen, bytes_in}
+use Rattle.amqp_link_worlds.specs.Worlds.{World, Phase, Apart, Halfway, Together, is_together, Standing, standing, IsGood, IsOpen, bytes_in, AreAborts, receiver_entry}
 use Rattle.amqp_link_worlds.specs.declared.progress.Progress.{Progress}
+use Rattle.amqp_link_core.specs.declared.resumption.ResumingDelivery.TheVariants.{Abort}
 
 -- ---- registrations of one tag
 
@@ -53,6 +54,7 @@ pub record IsContinuing (t : Transfer) : Type 0 where
   pub id : t.delivery_id ≡ None
   pub tag : t.delivery_tag ≡ None
   pub silent : IsSilent t
+  pub carries : t.aborted ≡ false
 
 -- the frame of a first transfer of the delivery
 abbrev pub IsOpening : Tag → LinkFrame → Type 0
@@ -93,6 +95,7 @@ pub record IsUnderWay (out : Bool) (tag : Tag) (entry : UnsettledMessage) (p : P
   pub own : IsOwn tag entry
   pub held : IfSome p.held (IsHeld tag)
   pub next : IsNext tag p.held frames
+  pub stays : p.withdrawn ≡ false
 
 -- A delivery that is to be resumed: nothing is under way, what is not held is to be sent, and its transfer
 -- has resume = true if something is held.
@@ -104,16 +107,38 @@ pub record IsListed (tag : Tag) (next : ResumingDelivery) (p : Progress) (report
   pub rest : rest_of next ≡ Some (drop (length (bytes_in p.held)) entry.payload)
   pub flag : resumes next ≡ is_some p.held
 
--- A tag is of no delivery, and the world has nothing of it; or it has an entry in the sender's map; or it is
--- in the list to resume.
+-- A withdrawn delivery of which the receiver holds something, and reports it: if the endpoints are attached,
+-- the transfer that aborts it may be under way.
+pub record IsWithdrawn (together : Bool) (tag : Tag) (p : Progress) (reported : Option (Option DeliveryState)) (frames : List LinkFrame)
+    (fates : List Fate) : Type 0 where
+  pub flag : p.withdrawn ≡ true
+  pub unfinished : p.whole ≡ false
+  pub tag_is : length tag ≡ 4
+  pub holds : IsSome p.held
+  pub held : IfSome p.held (IsHeld tag)
+  pub report : reported ≡ receiver_entry p.held
+  pub aborts : AreAborts frames
+  pub quiet : together ≡ false → frames ≡ []
+  pub last : IsLatest Withdrawn fates
+
+-- a withdrawn delivery that is to be aborted: nothing is under way
+pub record IsAborting (tag : Tag) (next : ResumingDelivery) (p : Progress) (reported : Option (Option DeliveryState)) (frames : List LinkFrame)
+    (fates : List Fate) : Type 0 where
+  pub is : next ≡ Abort 0 None
+  pub withdrawn : IsWithdrawn false tag p reported frames fates
+
+-- A tag is of no delivery, and the world has nothing of it; or it was withdrawn, and the receiver holds
+-- something of it; or it has an entry in the sender's map; or it is in the list to resume, or to be aborted.
 abbrev pub IsKeptAs : Bool → Tag → Option UnsettledMessage → Option ResumingDelivery → Option Progress → Option (Option DeliveryState)
     → List LinkFrame → List Fate → Type 0
-IsKeptAs together tag None None progress reported frames fates =
-    (progress ≡ None) × (reported ≡ None) × (frames ≡ []) × AreOver fates
+IsKeptAs together tag None None None reported frames fates =
+    (reported ≡ None) × (frames ≡ []) × AreOver fates
+IsKeptAs together tag None None (Some p) reported frames fates =
+    IsWithdrawn together tag p reported frames fates
 IsKeptAs together tag (Some entry) None (Some p) reported frames fates =
     IsUnderWay (together && not p.put_back) tag entry p reported frames × IsLatest Pending fates
 IsKeptAs together tag None (Some next) (Some p) reported frames fates =
-    IsListed tag next p reported frames × IsLatest HandedOut fates
+    (IsListed tag next p reported frames × IsLatest HandedOut fates) ⊎ IsAborting tag next p reported frames fates
 IsKeptAs together tag _ _ _ reported frames fates = ⊥
 
 abbrev pub IsTagKept : Bool → Tag → Standing → Type 0

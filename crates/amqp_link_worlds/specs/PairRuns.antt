@@ -6,17 +6,17 @@ use Rattle.std.specs.Str.{bytes_eq}
 use Rattle.amqp_link_payloads.specs.declared.error.DecodeError.{DecodeError}
 use Rattle.amqp_link_payloads.specs.declared.message.Message.{Message}
 use Rattle.amqp_link_types.specs.Entries.{Tag}
-use Rattle.amqp_link_types.specs.Frames.{payload_of}
+use Rattle.amqp_link_types.specs.Frames.{payload_of, performative_of}
 use Rattle.amqp_link_types.specs.Refusals.{refusal}
 use Rattle.amqp_link_ledger.specs.Fates.{MovesOnce, fates_of, latest}
 use Rattle.amqp_link_worlds.specs.Before.{before_measuring, before_decoding}
-use Rattle.amqp_link_worlds.specs.Steps.{PairTests, Attaches, StaysOrStops, Grants, Sends, Arrives, Cuts, Resumes, PutsBack, HandsOutDelivery, Settles, IsUndecoded, has_flag, attach_tests, grant_tests, send_tests, arrive_tests, cut_tests, next_tests, hand_out_tests, settle_tests}
+use Rattle.amqp_link_worlds.specs.Steps.{PairTests, Attaches, StaysOrStops, Grants, Sends, Arrives, Cuts, Resumes, PutsBack, HandsOutDelivery, Settles, IsUndecoded, has_flag, attach_tests, grant_tests, send_tests, arrive_tests, cut_tests, next_tests, hand_out_tests, settle_tests, AbortArrives, SendsAbort, DropsAbort, WithdrawsDelivery, withdraw_tests}
 use Rattle.amqp_link_worlds.specs.Wires.{OnWire}
 use Rattle.amqp_link_worlds.specs.Worlds.{World, IsFront, IsOpen, bytes_in, held_at, registered_payload}
 use Rattle.amqp_link_worlds.specs.declared.event.AnswerOf.{AnswerOf}
 use Rattle.amqp_link_worlds.specs.declared.event.AnswerOf.TheVariants as answer
 use Rattle.amqp_link_worlds.specs.declared.event.Event.{Event}
-use Rattle.amqp_link_worlds.specs.declared.event.Event.TheVariants.{Attach, Grant, Send, Arrive, Cut, ResumeNext, PutBackNext, HandOut, Settle}
+use Rattle.amqp_link_worlds.specs.declared.event.Event.TheVariants.{Attach, Grant, Send, Arrive, Cut, ResumeNext, PutBackNext, HandOut, Settle, Withdraw}
 use Rattle.amqp_link_worlds.specs.declared.error.PairError.{PairError}
 use Rattle.amqp_link_worlds.specs.declared.error.PairError.TheVariants as error
 
@@ -28,6 +28,11 @@ Decoder B = List ℕ → Result (Message B) DecodeError
 abbrev pub first_payload : List OnWire → List ℕ
 first_payload [] = []
 first_payload (next ∷ wire) = payload_of next.frame
+
+-- whether the first transfer on a wire aborts its delivery
+abbrev pub aborts_next : List OnWire → Bool
+aborts_next [] = false
+aborts_next (next ∷ wire) = (performative_of next.frame).aborted
 
 -- the payload that an event sends
 abbrev pub payload_to_send : Event → Option (List ℕ)
@@ -44,6 +49,13 @@ module _ {B : Type 0} where
   abbrev pub is_arrival_of : Tag → Result (AnswerOf B) PairError → Bool
   is_arrival_of tag (Ok (answer.Arrived came section offset whole)) = bytes_eq tag came
   is_arrival_of tag _ = false
+
+  -- whether an event changes what the receiver holds of a tag: a transfer of it arrives, or it is settled
+  abbrev pub changes_held : Tag → Event → AnswerOf B → Bool
+  changes_held tag (Arrive id) (answer.Arrived came section offset whole) = bytes_eq tag came
+  changes_held tag (Arrive id) (answer.Aborted came) = bytes_eq tag came
+  changes_held tag (Settle settled) answer = bytes_eq tag settled
+  changes_held tag event answer = false
 
   -- whether an answer states that the call was out of memory
   abbrev pub is_answer_out_of_memory : Result (AnswerOf B) PairError → Bool
@@ -84,6 +96,7 @@ module _ {B : Type 0} where
     tests_of w PutBackNext = next_tests w
     tests_of w (HandOut tag) = hand_out_tests decoded w tag
     tests_of w (Settle tag) = settle_tests w tag
+    tests_of w (Withdraw tag) = withdraw_tests w tag
 
     -- those of which none holds if the event is out of memory
     abbrev pub tests_before_memory : World → Event → PairTests
@@ -97,19 +110,24 @@ module _ {B : Type 0} where
     Does old (Grant n) (answer.Granted credit) new = Grants old n credit new
     Does old (Send payload) (answer.Sent tag count) new = Sends old payload tag count new
     Does old (Arrive id) (answer.Arrived tag section offset whole) new = Arrives old id tag (section, offset) whole new
+    Does old (Arrive id) (answer.Aborted tag) new = AbortArrives old tag new
     Does old Cut answer.Cut new = Cuts old new
     Does old ResumeNext (answer.Resumed tag count resume) new = Resumes old tag count resume new
-    Does old PutBackNext (answer.PutBack tag) new = PutsBack old tag new
+    Does old ResumeNext (answer.Aborted tag) new = SendsAbort old tag new
+    Does old PutBackNext (answer.PutBack tag) new = PutsBack old tag new ⊎ DropsAbort old tag new
     Does old (HandOut tag) (answer.HandedOut delivery) new = HandsOutDelivery decoded old tag delivery new
     Does old (Settle tag) answer.Settled new = Settles old tag new
+    Does old (Withdraw tag) answer.Withdrawn new = WithdrawsDelivery old tag new
     Does old _ _ new = ⊥
 
-    -- What an event leaves if it is out of memory: all as it was, or an attach between its steps. A grant and
-    -- a cut do not allocate.
+    -- What an event leaves if it is out of memory: all as it was, or an attach between its steps. A grant, a
+    -- cut, a withdrawal and the arrival of an abort do not allocate.
     abbrev pub IsLeft : World → Event → World → Type 0
     IsLeft old (Attach limit) new = StaysOrStops old limit new
     IsLeft old (Grant n) new = ⊥
     IsLeft old Cut new = ⊥
+    IsLeft old (Withdraw tag) new = ⊥
+    IsLeft old (Arrive id) new = (aborts_next old.wire ≡ false) × (new ≡ old)
     IsLeft old _ new = new ≡ old
 
     -- what a refused event leaves: all as it was, but a delivery that cannot be decoded counts as handed out

@@ -1,7 +1,7 @@
 -- One delivery of the list that an exchange of unsettled maps leaves to resume (OASIS AMQP 1.0 core, 2.6.13).
 use Rattle.std.specs.Prelude.{ℕ, Bool, true, false, List, Option, Some, None}
 use Rattle.amqp_link_core.specs.declared.resumption.ResumingDelivery.{ResumingDelivery}
-use Rattle.amqp_link_core.specs.declared.resumption.ResumingDelivery.TheVariants.{Resend, Resume}
+use Rattle.amqp_link_core.specs.declared.resumption.ResumingDelivery.TheVariants.{Abort, Resend, Resume}
 use Rattle.amqp_link_types.specs.declared.delivery.UnsettledMessage.{UnsettledMessage}
 
 -- its entry at the sender, with the whole payload
@@ -20,3 +20,8 @@ rest_of _ = None
 abbrev pub resumes : ResumingDelivery → Bool
 resumes (Resume entry rest) = true
 resumes _ = false
+
+-- whether it is aborted
+abbrev pub is_abort : ResumingDelivery → Bool
+is_abort (Abort message_format tag) = true
+is_abort _ = false

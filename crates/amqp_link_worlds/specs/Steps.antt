@@ -1,5 +1,5 @@
 -- What each call of a pair returns, and the world after it.
-use Rattle.std.specs.Prelude.{◌≡◌, ◌⊎◌, ℕ, ◌+◌, ◌^◌, ◌&&◌, Bool, true, false, not, ◌||◌, nat_lt, nat_le, ◌==◌, List, [], ◌∷◌, ◌++◌, length, Option, Some, None, is_some, unwrap_or, codes, Result, Ok, Err}
+use Rattle.std.specs.Prelude.{◌≡◌, ◌⊎◌, ℕ, ◌+◌, ◌^◌, ◌&&◌, Bool, true, false, not, ◌||◌, nat_lt, nat_le, ◌==◌, List, [], ◌∷◌, ◌++◌, length, Option, Some, None, is_some, unwrap_or, codes, Result, Ok, Err, if◌then◌else◌}
 use Rattle.std.specs.Option.{option_map_or}
 use Rattle.amqp_link_payloads.specs.Position.{position}
 use Rattle.amqp_link_payloads.specs.declared.error.DecodeError.{DecodeError}
@@ -14,6 +14,7 @@ use Rattle.amqp_link_types.specs.declared.delivery.UnsettledMessage.{UnsettledMe
 use Rattle.amqp_link_types.specs.declared.frame.LinkFrame.{LinkFrame}
 use Rattle.amqp_link_types.specs.declared.frame.LinkFrame.TheVariants.{FirstTransfer}
 use Rattle.amqp_link_types.specs.declared.types.attach.Attach.{Attach}
+use Rattle.amqp_link_types.specs.declared.types.definitions.InputHandle.{InputHandle}
 use Rattle.amqp_link_types.specs.declared.types.definitions.OutputHandle.{OutputHandle}
 use Rattle.amqp_link_types.specs.declared.types.definitions.ReceiverSettleMode.TheVariants.{First}
 use Rattle.amqp_link_types.specs.declared.types.definitions.SenderSettleMode.TheVariants.{Mixed}
@@ -32,15 +33,16 @@ use Rattle.amqp_link_endpoint.specs.Attaching.{with_entries}
 use Rattle.amqp_link_core.specs.Held.{Held, held_bytes}
 use Rattle.amqp_link_endpoint.specs.Shown.{counted_attach}
 use Rattle.amqp_link_core.specs.declared.resumption.ResumingDelivery.{ResumingDelivery}
+use Rattle.amqp_link_core.specs.declared.resumption.ResumingDelivery.TheVariants.{Abort}
 use Rattle.amqp_link_exchange.specs.Exchanges.{deliveries_to_resume, outcomes_returned}
 use Rattle.amqp_link_split.specs.Room.{payload_limit}
 use Rattle.amqp_link_split.specs.Split.{IsFewestPieces}
 use Rattle.amqp_link_sender.specs.SenderAttaches.{sender_shown}
-use Rattle.amqp_link_sender.specs.Senders.{Sender, IsSent, next_tag, new_entry}
+use Rattle.amqp_link_sender.specs.Senders.{Sender, IsSent, next_tag, new_entry, abort_frame}
 use Rattle.amqp_link_receiver.specs.Completing.{IsDelivery, spent}
 use Rattle.amqp_link_receiver.specs.ReceiverAttaches.{receiver_shown}
 use Rattle.amqp_link_receiver.specs.Receivers.{Receiver}
-use Rattle.amqp_link_ledger.specs.Fates.{Enters, HandsOut, Resolves, after}
+use Rattle.amqp_link_ledger.specs.Fates.{Enters, HandsOut, Resolves, Withdraws, after}
 use Rattle.amqp_link_ledger.specs.Ledgers.{Ledger}
 use Rattle.amqp_link_worlds.specs.Resumptions.{entry_of, rest_of, resumes}
 use Rattle.amqp_link_worlds.specs.Wires.{OnWire, under, frames_of}
@@ -58,7 +60,7 @@ delivery_transfer tag resume =
 
 -- a delivery that was just sent, and of which nothing has arrived
 abbrev pub initial_progress : Progress
-initial_progress = record { held = None; whole = false; put_back = false; taken = false }
+initial_progress = record { held = None; whole = false; put_back = false; taken = false; withdrawn = false }
 
 -- the fields of a delivery after a transfer has arrived: a first transfer gives it this id
 abbrev pub fields_after : Transfer → ℕ → LinkFrame → Transfer
@@ -356,6 +358,7 @@ pub record Arrives (old : World) (id : ℕ) (tag : Tag) (place : ℕ × ℕ) (wh
   pub rest : List OnWire
   pub before : Progress
   pub taken : old.wire ≡ first ∷ rest
+  pub carries : (performative_of first.frame).aborted ≡ false
   pub tagged : tag ≡ first.tag
   pub known : entry_at old.deliveries tag ≡ Some before
   pub reported : place ≡ position (bytes_in before.held ++ payload_of first.frame)
@@ -366,6 +369,23 @@ pub record Arrives (old : World) (id : ℕ) (tag : Tag) (place : ℕ × ℕ) (wh
       more = (performative_of first.frame).more;
     };
     deliveries = with_entry old.deliveries tag (received before id first.frame);
+    wire = rest;
+  }
+
+-- The first transfer, which aborts its delivery, leaves the wire: what the receiver holds of the delivery is forgotten, and
+-- its entry too. The answer is the delivery's tag.
+pub record AbortArrives (old : World) (tag : Tag) (new : World) : Type 0 where
+  pub first : OnWire
+  pub rest : List OnWire
+  pub taken : old.wire ≡ first ∷ rest
+  pub aborts : (performative_of first.frame).aborted ≡ true
+  pub tagged : tag ≡ first.tag
+  pub world : new ≡ record old {
+    receiver = record old.receiver {
+      unsettled = without_entry old.receiver.unsettled tag;
+      more = (performative_of first.frame).more;
+    };
+    deliveries = without_entry old.deliveries tag;
     wire = rest;
   }
 
@@ -404,6 +424,20 @@ pub record Resumes (old : World) (tag : Tag) (count : ℕ) (resume : Bool) (new 
     resuming = others;
     wire = old.wire ++ under tag frames;
   }
+
+-- The transfer that aborts the next of the list is at the end of the wire, and nothing is registered.
+pub record SendsAbort (old : World) (tag : Tag) (new : World) : Type 0 where
+  pub others : Entries ResumingDelivery
+  pub handle : InputHandle
+  pub listed : old.resuming ≡ (tag, Abort 0 None) ∷ others
+  pub handle_is : old.ledger.link.input_handle ≡ Some handle
+  pub world : new ≡ record old { resuming = others; wire = old.wire ++ under tag (abort_frame zero_output handle tag 0 ∷ []) }
+
+-- The next of the list is an abort and leaves it, and nothing is registered or sent.
+pub record DropsAbort (old : World) (tag : Tag) (new : World) : Type 0 where
+  pub others : Entries ResumingDelivery
+  pub listed : old.resuming ≡ (tag, Abort 0 None) ∷ others
+  pub world : new ≡ record old { resuming = others }
 
 -- The entry of the next delivery is registered again, and nothing is sent.
 pub record PutsBack (old : World) (tag : Tag) (new : World) : Type 0 where
@@ -458,6 +492,24 @@ pub record Settles (old : World) (tag : Tag) (new : World) : Type 0 where
     deliveries = without_entry old.deliveries tag;
   }
 
+-- what is kept of a delivery that is withdrawn: nothing, unless the receiver holds something of it
+abbrev pub after_withdrawal : Entries Progress → Tag → Progress → Entries Progress
+after_withdrawal deliveries tag p =
+    if is_some p.held then with_entry deliveries tag (record p { withdrawn = true }) else without_entry deliveries tag
+
+-- The delivery leaves the sender's map, and its registration is withdrawn. What the receiver holds and
+-- reports of it stays.
+pub record WithdrawsDelivery (old : World) (tag : Tag) (new : World) : Type 0 where
+  pub before : Progress
+  pub known : entry_at old.deliveries tag ≡ Some before
+  pub world : new ≡ record old {
+    ledger = record {
+      link = record old.ledger.link { unsettled = without_entry old.ledger.link.unsettled tag };
+      records = after (Withdraws tag) old.ledger.records;
+    };
+    deliveries = after_withdrawal old.deliveries tag before;
+  }
+
 -- ---- refusals, in the order of the tests
 
 abbrev pub is_empty : {A : Type 0} → List A → Bool
@@ -473,7 +525,7 @@ send_tests w payload =
     ∷ (not (is_empty w.resuming), error.ResumeFirst)
     ∷ (nat_le (2 ^ 32) (length payload), error.PayloadTooLong)
     ∷ (w.ledger.link.flow_state.link_credit == 0, error.CreditMissing)
-    ∷ (is_some (entry_at w.ledger.link.unsettled (next_tag w.ledger.link)), error.TagPending)
+    ∷ (is_some (entry_at w.ledger.link.unsettled (next_tag w.ledger.link)) || is_some (held_at w (next_tag w.ledger.link)), error.TagPending)
     ∷ []
 
 abbrev pub arrive_tests : World → PairTests
@@ -490,6 +542,21 @@ next_tests w = (not (is_together w.phase), error.NotAttached) ∷ (is_empty w.re
 abbrev pub has_flag : (Progress → Bool) → World → Tag → Bool
 has_flag flag w tag = option_map_or flag (entry_at w.deliveries tag) false
 
+-- whether the receiver holds nothing of the tag, or what it holds was withdrawn
+abbrev pub is_unknown : World → Tag → Bool
+is_unknown w tag = not (is_some (held_at w tag)) || has_flag (λ p. p.withdrawn) w tag
+
+abbrev pub is_apart : Phase → Bool
+is_apart Apart = true
+is_apart _ = false
+
+abbrev pub withdraw_tests : World → Tag → PairTests
+withdraw_tests w tag =
+    (not (is_apart w.phase), error.AlreadyAttached)
+    ∷ (not (is_some (entry_at w.ledger.link.unsettled tag)), error.UnknownTag)
+    ∷ (has_flag (λ p. p.whole) w tag, error.AlreadyWhole)
+    ∷ []
+
 abbrev pub is_error : {A E : Type 0} → Result A E → Bool
 is_error (Ok a) = false
 is_error (Err e) = true
@@ -497,7 +564,7 @@ is_error (Err e) = true
 abbrev pub hand_out_tests : {B : Type 0} → (List ℕ → Result (Message B) DecodeError) → World → Tag → PairTests
 hand_out_tests decoded w tag =
     (not (is_together w.phase), error.NotAttached)
-    ∷ (not (is_some (held_at w tag)), error.UnknownTag)
+    ∷ (is_unknown w tag, error.UnknownTag)
     ∷ (not (has_flag (λ p. p.whole) w tag), error.NotWhole)
     ∷ (has_flag (λ p. p.taken) w tag, error.AlreadyHandedOut)
     ∷ (w.receiver.flow_state.link_credit == 0, error.TransferLimitExceeded)
@@ -507,7 +574,7 @@ hand_out_tests decoded w tag =
 abbrev pub settle_tests : World → Tag → PairTests
 settle_tests w tag =
     (not (is_together w.phase), error.NotAttached)
-    ∷ (not (is_some (held_at w tag)), error.UnknownTag)
+    ∷ (is_unknown w tag, error.UnknownTag)
     ∷ (not (has_flag (λ p. p.whole) w tag), error.NotWhole)
     ∷ (not (is_empty w.resuming), error.ResumeFirst)
     ∷ (not (is_empty (frames_of tag w.wire)), error.OnWire)

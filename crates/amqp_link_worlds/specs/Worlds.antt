@@ -16,7 +16,7 @@ use Rattle.amqp_link_receiver.specs.Receivers.{Receiver}
 use Rattle.amqp_link_ledger.specs.Fates.{fates_of, latest}
 use Rattle.amqp_link_ledger.specs.Ledgers.{Ledger}
 use Rattle.amqp_link_ledger.specs.declared.fate.Fate.{Fate}
-use Rattle.amqp_link_ledger.specs.declared.fate.Fate.TheVariants.{Pending, HandedOut}
+use Rattle.amqp_link_ledger.specs.declared.fate.Fate.TheVariants.{Pending, HandedOut, Withdrawn}
 use Rattle.amqp_link_worlds.specs.Resumptions.{entry_of, rest_of}
 use Rattle.amqp_link_worlds.specs.Wires.{OnWire, frames_of, payload_of_all}
 use Rattle.amqp_link_worlds.specs.declared.progress.Progress.{Progress}
@@ -139,9 +139,23 @@ abbrev pub IsGoodIn : Bool → Standing → Type 0
 IsGoodIn together s = IsSomeAnd (entry_in s) (λ entry. IsSomeAnd s.progress (λ p.
     IsGood entry.payload p (is_out together s.own p) s.reported s.frames (rest_in s)))
 
--- each delivery whose latest registration is pending or handed out is good
-abbrev pub Good : World → Type 0
-Good w = (tag : Tag) → IsOpen (latest (fates_of tag w.ledger.records)) → IsGoodIn (is_together w.phase) (standing w tag)
+-- at most one transfer is under way, and it aborts the delivery
+abbrev pub AreAborts : List LinkFrame → Type 0
+AreAborts [] = Unit {0}
+AreAborts (f ∷ []) = (performative_of f).aborted ≡ true
+AreAborts (f ∷ g ∷ frames) = ⊥
+
+-- Of a withdrawn delivery the receiver has an entry exactly if it holds something, received at the position of
+-- that, and at most one transfer is under way, which aborts it.
+pub record IsGivenUp (held : Option Held) (reported : Option (Option DeliveryState)) (frames : List LinkFrame) : Type 0 where
+  pub report : reported ≡ receiver_entry held
+  pub aborts : AreAborts frames
+
+-- each delivery whose latest registration is pending or handed out is good, and each withdrawn one given up
+pub record Good (w : World) : Type 0 where
+  pub deliveries : (tag : Tag) → IsOpen (latest (fates_of tag w.ledger.records)) → IsGoodIn (is_together w.phase) (standing w tag)
+  pub withdrawn : (tag : Tag) → latest (fates_of tag w.ledger.records) ≡ Some Withdrawn
+      → IsGivenUp (held_at w tag) (entry_at w.receiver.unsettled tag) (frames_of tag w.wire)
 
 -- the payload of a tag's entry at the sender
 abbrev pub registered_payload : World → Tag → Option (List ℕ)

@@ -47,6 +47,9 @@ pub enum PairError {
     /// The last transfer of the delivery has not arrived.
     #[error("the delivery is not complete")]
     NotWhole,
+    /// The last transfer of the delivery has arrived.
+    #[error("the last transfer of the delivery has arrived")]
+    AlreadyWhole,
     /// The delivery was handed out already.
     #[error("the delivery was handed out already")]
     AlreadyHandedOut,

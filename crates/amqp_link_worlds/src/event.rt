@@ -23,6 +23,8 @@ pub enum Event {
     HandOut(DeliveryTag),
     /// `settle`, of the delivery with this tag.
     Settle(DeliveryTag),
+    /// `withdraw`, of the delivery with this tag.
+    Withdraw(DeliveryTag),
 }
 
 /// What a call of a pair returns that was not refused, if messages have bodies of this type.
@@ -68,6 +70,10 @@ pub enum AnswerOf<B> {
     HandedOut(Delivery<B>),
     /// Both endpoints have settled the delivery.
     Settled,
+    /// The delivery was withdrawn.
+    Withdrawn,
+    /// The delivery with this tag is aborted: the transfer that aborts it was sent, or has arrived.
+    Aborted(DeliveryTag),
 }
 
 /// What a call of a pair returns, if the body of a message is all its bytes.

@@ -2,7 +2,7 @@
 //! lemmas.
 //!
 //! Each function here does nothing: its contract is the law.
-ghost use Rattle.std.specs.Prelude.{◌≡◌, ◌⊎◌, [], ◌∷◌, ℕ, Bool, true, false, not, List, None, Some, Option, Ok, Result, IsSomeAnd, slice_get};
+ghost use Rattle.std.specs.Prelude.{◌≡◌, ◌⊎◌, [], ◌∷◌, ℕ, Bool, true, false, not, List, None, Some, Option, Ok, Result, IsSomeAnd, slice_get, ◌++◌};
 ghost use Rattle.std.specs.Map.{keys_of};
 ghost use Rattle.amqp_link_payloads.specs.declared.error.DecodeError.{DecodeError};
 ghost use Rattle.amqp_link_payloads.specs.declared.message.Message.{Message as TheMessage};
@@ -14,16 +14,16 @@ ghost use Rattle.amqp_link_types.specs.declared.types.errors.LinkStateError.{Lin
 ghost use Rattle.amqp_link_state.specs.declared.state.LinkState.TheVariants.{Unattached, AttachReceived, Attached, Detached};
 ghost use Rattle.amqp_link_core.specs.Held.{Held};
 ghost use Rattle.amqp_link_core.specs.declared.resumption.ResumingDelivery.{ResumingDelivery};
-ghost use Rattle.amqp_link_exchange.specs.Exchanges.{outcomes_returned};
+ghost use Rattle.amqp_link_exchange.specs.Exchanges.{outcomes_returned, unknown_aborted};
 ghost use Rattle.amqp_link_sender.specs.Senders.{next_tag};
 ghost use Rattle.amqp_link_ledger.specs.Fates.{IsRecorded, MovesOnce, fates_of, latest};
 ghost use Rattle.amqp_link_ledger.specs.declared.fate.Fate.TheVariants.{Pending, Resolved};
 ghost use Rattle.amqp_link_worlds.specs.Attachable.{CanAsk, CanTakeAsked, CanAnswer, CanTakeAnswered};
-ghost use Rattle.amqp_link_worlds.specs.Callable.{CanSend, IsFree, CanGrant, CanCut, CanResume, CanComplete, CanSettle};
+ghost use Rattle.amqp_link_worlds.specs.Callable.{CanSend, IsFree, CanGrant, CanCut, CanResume, CanComplete, CanSettle, CanAbort};
 ghost use Rattle.amqp_link_worlds.specs.Invariants.{IsWorld};
 ghost use Rattle.amqp_link_worlds.specs.Receiving.{CanReceive};
-ghost use Rattle.amqp_link_worlds.specs.PairRuns.{Does, FatesMoveOnce, HoldsWhatArrived, HoldsWhatWasSent, IsRun, Moment, RunsEvents, Step, is_out_after, is_send_of, tests_of};
-ghost use Rattle.amqp_link_worlds.specs.Steps.{new_world, list_to_resume, later, sender_asking, receiver_at_limit, receiver_half_attached, receiver_together, Attaches, AttachStop, StopsAt, Grants, Sends, Arrives, Cuts, Resumes, PutsBack, HandsOutDelivery, Settles, after_hand_out, has_flag, attach_tests, send_tests, arrive_tests, cut_tests, next_tests, hand_out_tests, settle_tests};
+ghost use Rattle.amqp_link_worlds.specs.PairRuns.{Does, FatesMoveOnce, HoldsWhatArrived, HoldsWhatWasSent, IsRun, Moment, RunsEvents, Step, is_out_after, is_send_of, tests_of, changes_held};
+ghost use Rattle.amqp_link_worlds.specs.Steps.{new_world, list_to_resume, later, sender_asking, receiver_at_limit, receiver_half_attached, receiver_together, Attaches, AttachStop, StopsAt, Grants, Sends, Arrives, Cuts, Resumes, PutsBack, HandsOutDelivery, Settles, after_hand_out, has_flag, attach_tests, send_tests, arrive_tests, cut_tests, next_tests, hand_out_tests, settle_tests, withdraw_tests, WithdrawsDelivery, SendsAbort, DropsAbort, AbortArrives};
 ghost use Rattle.amqp_link_worlds.specs.Wires.{OnWire, does_begin};
 ghost use Rattle.amqp_link_worlds.specs.Worlds.{World, is_out_at, Apart, Halfway, Good, IsOpen, IsRegistered, is_together, standing, entry_in, held_at, bytes_in, receiver_entry};
 ghost use Rattle.amqp_link_worlds.specs.declared.error.PairError.{PairError as Refusal};
@@ -31,6 +31,10 @@ ghost use Rattle.amqp_link_worlds.specs.declared.event.AnswerOf.{AnswerOf};
 ghost use Rattle.amqp_link_worlds.specs.declared.event.Event.{Event};
 ghost use Rattle.amqp_link_worlds.specs.declared.event.Event.TheVariants.{Settle};
 ghost use Rattle.amqp_link_worlds.specs.declared.progress.Progress.{Progress as TheProgress};
+ghost use Rattle.amqp_link_worlds.specs.Resumptions.{entry_of};
+ghost use Rattle.amqp_link_core.specs.declared.resumption.ResumingDelivery.TheVariants.{Abort};
+ghost use Rattle.amqp_link_types.specs.Frames.{performative_of};
+ghost use Rattle.amqp_link_types.specs.declared.delivery.UnsettledMessage.{UnsettledMessage as Entry};
 
 /// A new pair has the invariant (`IsWorld`).
 pub fn a_new_pair_is_kept()
@@ -63,6 +67,14 @@ pub fn each_call_keeps_a_pair()
         → entry_at old.deliveries tag ≡ Some p → new ≡ after_hand_out old tag p → IsWorld new }
     ensures settle { (old new : World) (tag : Tag) → IsWorld old → refusal (settle_tests old tag) ≡ None
         → Settles old tag new → IsWorld new }
+    ensures withdraw { (old new : World) (tag : Tag) → IsWorld old → refusal (withdraw_tests old tag) ≡ None
+        → WithdrawsDelivery old tag new → IsWorld new }
+    ensures resume_next_abort { (old new : World) (tag : Tag) → IsWorld old → refusal (next_tests old) ≡ None
+        → SendsAbort old tag new → IsWorld new }
+    ensures put_back_next_abort { (old new : World) (tag : Tag) → IsWorld old → refusal (next_tests old) ≡ None
+        → DropsAbort old tag new → IsWorld new }
+    ensures arrive_abort { (old new : World) (tag : Tag) → IsWorld old → refusal (arrive_tests old) ≡ None
+        → AbortArrives old tag new → IsWorld new }
 {}
 
 /// If no test of a call holds, the endpoints below refuse it only if they are out of memory. The receiver
@@ -75,13 +87,17 @@ pub fn endpoints_refuse_only_for_memory()
     ensures grant { (w : World) → IsWorld w → is_together w.phase ≡ true → CanGrant w.ledger.link w.receiver }
     ensures cut { (w : World) → IsWorld w → is_together w.phase ≡ true → CanCut w.ledger.link w.receiver }
     ensures arrive { (w : World) (next : OnWire) (rest : List OnWire) (id : ℕ) → IsWorld w → w.wire ≡ next ∷ rest
-        → IsSomeAnd (entry_at w.deliveries next.tag) (λ p. CanReceive p.held id next.frame) }
+        → (performative_of next.frame).aborted ≡ false → IsSomeAnd (entry_at w.deliveries next.tag) (λ p. CanReceive p.held id next.frame) }
     ensures turn { (w : World) (next : OnWire) (rest : List OnWire) → IsWorld w → w.wire ≡ next ∷ rest
         → does_begin next.frame ≡ not w.receiver.more }
     ensures report { (w : World) (tag : Tag) (held : Held) → IsWorld w → held_at w tag ≡ Some held
         → entry_at w.receiver.unsettled tag ≡ receiver_entry (Some held) }
-    ensures resume_next { (w : World) (tag : Tag) (next : ResumingDelivery) (others : Entries ResumingDelivery) → IsWorld w
-        → is_together w.phase ≡ true → w.resuming ≡ (tag, next) ∷ others → CanResume w tag next }
+    ensures listed { (w : World) (tag : Tag) (next : ResumingDelivery) (others : Entries ResumingDelivery) → IsWorld w
+        → w.resuming ≡ (tag, next) ∷ others → ((entry : Entry) × (entry_of next ≡ Some entry)) ⊎ (next ≡ Abort 0 None) }
+    ensures resume_next { (w : World) (tag : Tag) (next : ResumingDelivery) (others : Entries ResumingDelivery) (entry : Entry) → IsWorld w
+        → is_together w.phase ≡ true → w.resuming ≡ (tag, next) ∷ others → entry_of next ≡ Some entry → CanResume w tag next }
+    ensures resume_next_abort { (w : World) (tag : Tag) (others : Entries ResumingDelivery) → IsWorld w
+        → is_together w.phase ≡ true → w.resuming ≡ (tag, Abort 0 None) ∷ others → CanAbort w tag }
     ensures hand_out { (w : World) (tag : Tag) (held : Held) → IsWorld w → is_together w.phase ≡ true
         → held_at w tag ≡ Some held → CanComplete w.receiver held }
     ensures settle { (w : World) (tag : Tag) → IsWorld w → refusal (settle_tests w tag) ≡ None
@@ -119,7 +135,8 @@ pub fn an_attach_hands_out_each_delivery_once()
     ensures outcomes { (w : World) → IsWorld w → is_together w.phase ≡ false
         → outcomes_returned w.ledger.link.unsettled w.receiver.unsettled ≡ [] }
     ensures tags { (w : World) → IsWorld w → is_together w.phase ≡ false
-        → keys_of (list_to_resume w) ≡ keys_of w.ledger.link.unsettled }
+        → keys_of (list_to_resume w)
+        ≡ keys_of w.ledger.link.unsettled ++ keys_of (unknown_aborted w.ledger.link.unsettled w.receiver.unsettled) }
 {}
 
 /// Each step and each run keeps the invariant.
@@ -182,6 +199,16 @@ pub fn held_is_what_arrived<B>()
     ensures { (decoded : List ℕ → Result (TheMessage B) DecodeError) (old new : World)
         (moments : List (Moment decoded)) → IsWorld old → IsRun decoded old moments new
         → HoldsWhatArrived decoded old moments new }
+{}
+
+/// Only an arrival of a tag and its settlement change what the receiver holds of the tag. Of a withdrawn delivery no
+/// other transfer arrives than one that aborts it, so what is held of it stays until then.
+pub fn only_arrivals_and_settlements_change_what_is_held<B>()
+    ensures answered { (decoded : List ℕ → Result (TheMessage B) DecodeError) (tag : Tag) (old new : World) (e : Event)
+        (answer : AnswerOf B) → IsWorld old → refusal (tests_of decoded old e) ≡ None → Does decoded old e answer new
+        → changes_held tag e answer ≡ false → held_at new tag ≡ held_at old tag }
+    ensures refused { (decoded : List ℕ → Result (TheMessage B) DecodeError) (tag : Tag) (old new : World) (e : Event)
+        (error : Refusal) → Step decoded old e (Err error) new → held_at new tag ≡ held_at old tag }
 {}
 
 /// A delivery is out from its send or its resumption until a cut, an attach or its settlement: no other call

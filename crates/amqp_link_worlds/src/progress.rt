@@ -16,4 +16,6 @@ pub struct Progress {
     pub put_back: bool,
     /// Whether the receiver has handed it out.
     pub taken: bool,
+    /// Whether it was withdrawn. The receiver still holds something of it then, until it is aborted.
+    pub withdrawn: bool,
 }

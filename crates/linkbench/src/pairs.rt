@@ -3,8 +3,8 @@ use crate::measured::Work;
 use crate::payloads::message_of;
 use crate::refused::{Refused, done};
 use crate::unread::Unread;
-use amqp_link::Pair;
 use amqp_link::types::{DeliveryTag, Payload};
+use amqp_link::{OrAborted, Pair};
 use std::alloc::Global;
 
 /// A delivery is sent, cut off after its first transfer, resumed, handed out and settled.
@@ -78,16 +78,34 @@ fn send(pair: &mut Pair, payload: &Payload) -> Result<DeliveryTag, Refused> {
 fn resume(pair: &mut Pair, limit: u32) -> Result<u64, Refused> {
     done(pair.cut())?;
     done(pair.attach(limit))?;
-    let resumed = done(pair.resume_next())?;
-    let frames = resumed.frames;
-    drop(resumed);
+    let frames = send_rest(pair)?;
     let mut offset = 0u64;
     for _ in 0..frames {
-        let arrived = done(pair.arrive(0))?;
-        offset = arrived.section_offset;
-        drop(arrived);
+        offset = arrive(pair)?;
     }
     Ok(offset)
+}
+
+// Sends the rest of the delivery; how many transfers carry it.
+fn send_rest(pair: &mut Pair) -> Result<usize, Refused> {
+    let next = done(pair.resume_next())?;
+    let frames = match &next {
+        OrAborted::Answer(resumed) => Ok(resumed.frames),
+        OrAborted::Aborted(_) => Err(Refused),
+    };
+    drop(next);
+    frames
+}
+
+// The next transfer arrives; the offset that is reached.
+fn arrive(pair: &mut Pair) -> Result<u64, Refused> {
+    let came = done(pair.arrive(0))?;
+    let offset = match &came {
+        OrAborted::Answer(arrived) => Ok(arrived.section_offset),
+        OrAborted::Aborted(_) => Err(Refused),
+    };
+    drop(came);
+    offset
 }
 
 // Hands the delivery out and settles it, and cuts the link.

@@ -59,7 +59,8 @@ no_event line words numbers bytes (Call call.ResumeNext) = words.1
 no_event line words numbers bytes (Call call.PutBackNext) = words.2
 no_event line words numbers bytes (Call (call.HandOut tag)) = (bytes tag).1
 no_event line words numbers bytes (Call (call.Settle tag)) = (bytes tag).2
-no_event line words numbers bytes (Show tag) = (bytes tag).3
+no_event line words numbers bytes (Call (call.Withdraw tag)) = (bytes tag).3
+no_event line words numbers bytes (Show tag) = (bytes tag).4
 no_event line words numbers bytes (Fate number) = (numbers number).3
 
 -- the event that is read last, with its bytes

@@ -32,6 +32,7 @@ Denotes line (Call call.ResumeNext) = line ≡ codes "resume"
 Denotes line (Call call.PutBackNext) = line ≡ codes "putback"
 Denotes line (Call (call.HandOut tag)) = Begins (codes "handout ") (λ text. IsBytes text tag) line
 Denotes line (Call (call.Settle tag)) = Begins (codes "settle ") (λ text. IsBytes text tag) line
+Denotes line (Call (call.Withdraw tag)) = Begins (codes "withdraw ") (λ text. IsBytes text tag) line
 Denotes line (Show tag) = Begins (codes "show ") (λ text. IsBytes text tag) line
 Denotes line (Fate number) = Begins (codes "fate ") (λ text. IsNumber text number) line
 
@@ -45,4 +46,4 @@ DenotesNoNumber line = (n : ℕ) → (¬ (Denotes line (Call (call.Attach n)))) 
 
 -- the line states no event with bytes
 abbrev pub DenotesNoBytes : List ℕ → Type 0
-DenotesNoBytes line = (bytes : List ℕ) → (¬ (Denotes line (Call (call.Send bytes)))) × (¬ (Denotes line (Call (call.HandOut bytes)))) × (¬ (Denotes line (Call (call.Settle bytes)))) × (¬ (Denotes line (Show bytes)))
+DenotesNoBytes line = (bytes : List ℕ) → (¬ (Denotes line (Call (call.Send bytes)))) × (¬ (Denotes line (Call (call.HandOut bytes)))) × (¬ (Denotes line (Call (call.Settle bytes)))) × (¬ (Denotes line (Call (call.Withdraw bytes)))) × (¬ (Denotes line (Show bytes)))

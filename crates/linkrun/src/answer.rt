@@ -14,6 +14,8 @@ pub enum Answer<'a> {
     Called(Returned),
     /// The tag of the delivery that was settled.
     Settled(&'a DeliveryTag),
+    /// The tag of the delivery that was withdrawn.
+    Withdrawn(&'a DeliveryTag),
     /// The pieces that the receiver holds, in order.
     Joined(&'a [Payload]),
     /// What became of the registration.
@@ -29,6 +31,7 @@ pub fn perform<'a>(pair: &'a mut Pair, event: &'a Event) -> Result<Answer<'a>, P
             let returned = run_one(pair, call)?;
             match call {
                 Call::Settle(tag) => Answer::Settled(tag),
+                Call::Withdraw(tag) => Answer::Withdrawn(tag),
                 _ => Answer::Called(returned),
             }
         }
@@ -54,6 +57,7 @@ impl fmt::Display for Answer<'_> {
         match self {
             Answer::Called(returned) => write_returned(f, returned),
             Answer::Settled(tag) => write_tagged(f, "settled", tag),
+            Answer::Withdrawn(tag) => write_tagged(f, "withdrawn", tag),
             Answer::Joined(pieces) => {
                 let bytes = HexPieces(pieces);
                 write!(f, "joined {bytes}")
@@ -64,7 +68,7 @@ impl fmt::Display for Answer<'_> {
     }
 }
 
-// The answer of a call. A settlement's has no tag.
+// The answer of a call. A settlement's and a withdrawal's have no tag.
 fn write_returned<W: fmt::Write>(f: &mut fmt::Formatter<W>, returned: &Returned) -> fmt::Result {
     match returned {
         Returned::Attached(count) => write!(f, "attached {count}"),
@@ -91,7 +95,9 @@ fn write_returned<W: fmt::Write>(f: &mut fmt::Formatter<W>, returned: &Returned)
         }
         Returned::PutBack(tag) => write_tagged(f, "back", tag),
         Returned::HandedOut(delivery) => write_delivery(f, delivery),
+        Returned::Aborted(tag) => write_tagged(f, "aborted", tag),
         Returned::Settled => f.write_str("settled"),
+        Returned::Withdrawn => f.write_str("withdrawn"),
     }
 }
 

@@ -11,8 +11,8 @@ use std::alloc::{AllocError, Global};
 /// What a line asks of the pair.
 #[derive(Drop)]
 pub enum Event {
-    /// A call: `attach LIMIT`, `grant N`, `send HEX`, `arrive ID`, `cut`, `resume`, `putback`, `handout TAG` or
-    /// `settle TAG`.
+    /// A call: `attach LIMIT`, `grant N`, `send HEX`, `arrive ID`, `cut`, `resume`, `putback`, `handout TAG`,
+    /// `settle TAG` or `withdraw TAG`.
     Call(Call),
     /// `show TAG`: what the receiver holds of the delivery of this tag.
     Show(DeliveryTag),
@@ -80,6 +80,9 @@ fn event_with_bytes(alloc: Global, line: &[u8]) -> Result<Option<Event>, AllocEr
     }
     if let Some(bytes) = bytes_after(alloc, b"settle ", line)? {
         return Ok(Some(Event::Call(Call::Settle(DeliveryTag::from(bytes)))));
+    }
+    if let Some(bytes) = bytes_after(alloc, b"withdraw ", line)? {
+        return Ok(Some(Event::Call(Call::Withdraw(DeliveryTag::from(bytes)))));
     }
     if let Some(bytes) = bytes_after(alloc, b"show ", line)? {
         return Ok(Some(Event::Show(DeliveryTag::from(bytes))));

@@ -67,6 +67,9 @@ impl Kept {
         let Some(held) = &self.progress.held else {
             return Err(PairError::UnknownTag);
         };
+        if self.progress.withdrawn {
+            return Err(PairError::UnknownTag);
+        }
         if !self.progress.whole {
             return Err(PairError::NotWhole);
         }

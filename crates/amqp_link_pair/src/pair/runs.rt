@@ -6,14 +6,16 @@ ghost use Rattle.amqp_link_worlds.specs.Invariants.{IsWorld};
 ghost use Rattle.amqp_link_worlds.specs.PairRuns.{FatesMoveOnce, HoldsWhatArrived, HoldsWhatWasSent, RunsEvents, Step};
 ghost use Rattle.amqp_link_worlds.specs.PairRuns;
 ghost use Rattle.amqp_link_worlds.specs.Worlds.{Good};
+ghost use Rattle.amqp_link_pair.specs.Aborting.{arrival_answer, resumption_answer};
 ghost use Rattle.amqp_link_worlds.specs.declared.event.Event.TheVariants as event;
 
-use crate::pair::Pair;
+use crate::pair::{Arrived, OrAborted, Pair, Resumed};
 use amqp_link_types::types::{DeliveryNumber, DeliveryTag, Payload, Whole};
 use amqp_link_worlds::error::PairError;
 use amqp_link_worlds::event::{Answer, Event};
 use std::alloc::Global;
 
+#[tactic(auto, using(crate::proofs::StepLemmas::good_world))]
 impl Pair {
     /// Makes these calls in order. Returns the answer of each, and whether all were made.
     ///
@@ -82,6 +84,7 @@ impl Pair {
             Event::PutBackNext => self.answer_put_back_next(),
             Event::HandOut(tag) => self.answer_hand_out(tag),
             Event::Settle(tag) => self.answer_settle(tag),
+            Event::Withdraw(tag) => self.answer_withdraw(tag),
         }
     }
 
@@ -114,13 +117,7 @@ impl Pair {
         ensures step { Step whole_message self.old (event.Arrive id) result self.new }
         ensures kept { IsWorld self.new }
     {
-        let arrived = self.arrive(id)?;
-        Ok(Answer::Arrived {
-            tag: arrived.tag,
-            section_number: arrived.section_number,
-            section_offset: arrived.section_offset,
-            whole: arrived.whole,
-        })
+        Ok(answer_of_arrival(self.arrive(id)?))
     }
 
     fn answer_cut(&mut self) -> Result<Answer, PairError>
@@ -135,12 +132,7 @@ impl Pair {
         ensures step { Step whole_message self.old event.ResumeNext result self.new }
         ensures kept { IsWorld self.new }
     {
-        let resumed = self.resume_next()?;
-        Ok(Answer::Resumed {
-            tag: resumed.tag,
-            frames: resumed.frames,
-            resume: resumed.resume,
-        })
+        Ok(answer_of_resumption(self.resume_next()?))
     }
 
     fn answer_put_back_next(&mut self) -> Result<Answer, PairError>
@@ -163,6 +155,43 @@ impl Pair {
     {
         self.settle(tag)?;
         Ok(Answer::Settled)
+    }
+
+    fn answer_withdraw(&mut self, tag: &DeliveryTag) -> Result<Answer, PairError>
+        ensures step { Step whole_message self.old (event.Withdraw tag.now) result self.new }
+        ensures kept { IsWorld self.new }
+    {
+        self.withdraw(tag)?;
+        Ok(Answer::Withdrawn)
+    }
+}
+
+// The answer that states what an arrival returned.
+fn answer_of_arrival(came: OrAborted<Arrived>) -> Answer
+    ensures { result ≡ arrival_answer came }
+{
+    match came {
+        OrAborted::Answer(arrived) => Answer::Arrived {
+            tag: arrived.tag,
+            section_number: arrived.section_number,
+            section_offset: arrived.section_offset,
+            whole: arrived.whole,
+        },
+        OrAborted::Aborted(tag) => Answer::Aborted(tag),
+    }
+}
+
+// The answer that states what a resumption returned.
+fn answer_of_resumption(resumed: OrAborted<Resumed>) -> Answer
+    ensures { result ≡ resumption_answer resumed }
+{
+    match resumed {
+        OrAborted::Answer(resumed) => Answer::Resumed {
+            tag: resumed.tag,
+            frames: resumed.frames,
+            resume: resumed.resume,
+        },
+        OrAborted::Aborted(tag) => Answer::Aborted(tag),
     }
 }
 

@@ -8,6 +8,7 @@ use std::io::{BufRead, ErrorKind, Read, Write};
 use std::process::Abort;
 
 mod interruptions;
+mod withdrawn;
 
 const NOT_AN_EVENT: &[u8] = b"line 1: not an event\n";
 

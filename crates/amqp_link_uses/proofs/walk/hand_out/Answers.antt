@@ -1,9 +1,8 @@
 use Rattle.std.proofs.Common.{◌≡◌, refl, Bool, true, false, not, ℕ, List, ◌∷◌, drop, Some, None}
-use Rattle.std.specs.Prelude.{is_some}
 use Rattle.amqp_link.specs.Bodies.{whole_message}
 use Rattle.amqp_link.specs.Refusals.{refusal}
-use Rattle.amqp_link.specs.Steps.{has_flag, hand_out_tests}
-use Rattle.amqp_link.specs.Worlds.{World, held_at, is_together}
+use Rattle.amqp_link.specs.Steps.{has_flag, hand_out_tests, is_unknown}
+use Rattle.amqp_link.specs.Worlds.{World, is_together}
 use Rattle.amqp_link.specs.declared.PairError.TheVariants as error
 use Rattle.amqp_link_uses.proofs.walk.hand_out.Goals as goal
 
@@ -19,7 +18,7 @@ third_holds false false false x y z rest h = absurd (some_is_not_none h)
 
 whole_handed_out : (w : World) (tag : List ℕ) → refusal (hand_out_tests whole_message w tag) ≡ None → has_flag (λ p. p.whole) w tag ≡ true
 whole_handed_out w tag h =
-    third_holds (not (is_together w.phase)) (not (is_some (held_at w tag))) (has_flag (λ p. p.whole) w tag)
+    third_holds (not (is_together w.phase)) (is_unknown w tag) (has_flag (λ p. p.whole) w tag)
     error.NotAttached error.UnknownTag error.NotWhole (drop 3 (hand_out_tests whole_message w tag)) h
 
 pub returns-clause-whole : goal.returns-clause-whole

@@ -1,4 +1,4 @@
-use Rattle.amqp_link_worlds.proofs.WorldLemmas.{IsWorld-attaches, IsWorld-stops, IsWorld-grants, IsWorld-sends, IsWorld-arrives, IsWorld-cuts, IsWorld-resumes, IsWorld-puts_back, IsWorld-hands_out, IsWorld-settles}
+use Rattle.amqp_link_worlds.proofs.WorldLemmas.{IsWorld-attaches, IsWorld-stops, IsWorld-grants, IsWorld-sends, IsWorld-arrives, IsWorld-cuts, IsWorld-resumes, IsWorld-puts_back, IsWorld-hands_out, IsWorld-settles, IsWorld-withdraws, IsWorld-sends_abort, IsWorld-drops_abort, IsWorld-abort_arrives}
 use Rattle.amqp_link_worlds.proofs.laws.each_call_keeps_a_pair.Goals as goal
 
 pub returns-clause-attach : goal.returns-clause-attach
@@ -30,3 +30,15 @@ returns-clause-hand_out c = IsWorld-hands_out
 
 pub returns-clause-settle : goal.returns-clause-settle
 returns-clause-settle c = IsWorld-settles
+
+pub returns-clause-withdraw : goal.returns-clause-withdraw
+returns-clause-withdraw c = IsWorld-withdraws
+
+pub returns-clause-resume_next_abort : goal.returns-clause-resume_next_abort
+returns-clause-resume_next_abort c = IsWorld-sends_abort
+
+pub returns-clause-put_back_next_abort : goal.returns-clause-put_back_next_abort
+returns-clause-put_back_next_abort c = IsWorld-drops_abort
+
+pub returns-clause-arrive_abort : goal.returns-clause-arrive_abort
+returns-clause-arrive_abort c = IsWorld-abort_arrives

@@ -1,4 +1,4 @@
-use Rattle.amqp_link_worlds.proofs.CallLemmas.{can_send, next_is_free, can_grant, can_cut, can_resume, held_is_reported, can_complete, can_settle}
+use Rattle.amqp_link_worlds.proofs.CallLemmas.{can_send, next_is_free, can_grant, can_cut, can_resume, held_is_reported, can_complete, can_settle, can_abort, entry_or_abort}
 use Rattle.amqp_link_worlds.proofs.WorldLemmas.{IsWorld-receives, IsWorld-turn}
 use Rattle.amqp_link_worlds.proofs.laws.endpoints_refuse_only_for_memory.Goals as goal
 
@@ -31,3 +31,9 @@ returns-clause-hand_out c = can_complete
 
 pub returns-clause-settle : goal.returns-clause-settle
 returns-clause-settle c = can_settle
+
+pub returns-clause-listed : goal.returns-clause-listed
+returns-clause-listed c = entry_or_abort
+
+pub returns-clause-resume_next_abort : goal.returns-clause-resume_next_abort
+returns-clause-resume_next_abort c = can_abort

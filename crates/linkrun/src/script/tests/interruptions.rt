@@ -137,7 +137,6 @@ fn assert_text(rt: &(impl Abort + AllocGlobal), fate: &Fate, text: &str) {
 
 #[test]
 fn fates_that_no_script_reaches_have_a_text(rt: HostRuntime) {
-    assert_text(&rt, &Fate::Withdrawn, "withdrawn");
     assert_text(&rt, &Fate::Resolved(Ok(None)), "resolved");
     let released = Some(DeliveryState::Released);
     assert_text(&rt, &Fate::Resolved(Ok(released)), "resolved");

@@ -8,10 +8,10 @@ use Rattle.amqp_link_split.specs.Split.{IsFewestPieces}
 use Rattle.amqp_link_worlds.specs.Invariants.{IsWorld}
 use Rattle.amqp_link_worlds.specs.Steps.{Sends, after_one_credit, after_registration, delivery_transfer, send_tests}
 use Rattle.amqp_link_worlds.specs.Wires.{frames_of, under}
-use Rattle.amqp_link_worlds.specs.Worlds.{World, is_together}
+use Rattle.amqp_link_worlds.specs.Worlds.{World, held_at, is_together}
 use Rattle.amqp_link_worlds.specs.declared.error.PairError.TheVariants as error
 use Rattle.amqp_link_worlds.proofs.CallLemmas.{can_send}
-use Rattle.amqp_link_worlds.proofs.WorldLemmas.{IsWorld-sends, Good-from_world, nothing_listed, nothing_there, none_hold, not_is_false}
+use Rattle.amqp_link_worlds.proofs.WorldLemmas.{IsWorld-sends, Good-from_world, nothing_listed, nothing_there, none_hold, not_is_false, tag_is_free}
 use Rattle.amqp_link_worlds.specs.Before.{before_tag}
 use Rattle.amqp_link_pair.specs.Keeping.{just_sent}
 use Rattle.amqp_link_pair.specs.PairViews.{AreMarked, world_of}
@@ -99,7 +99,8 @@ invariant_of-self-2 c =
     let none : entry_at w.ledger.link.unsettled c.in-Ok.sent ≡ None =
     ap (entry_at w.ledger.link.unsettled) (sym (same c)) ∙ free w c.self.inside.deliveries c.args.payload.now c.in_ok-tag.tag c.self.invariant.world refl (may_before c) (tagged c) (gone c) in
     let quiet : frames_of c.in-Ok.sent w.wire ≡ [] =
-    let there = nothing_there w c.in-Ok.sent c.self.invariant.world none (nothing_listed w.resuming c.in-Ok.sent (none_resuming w c.args.payload.now (may_before c))) in there.2 in
+    let unheld : held_at w c.in-Ok.sent ≡ None = ap (held_at w) (sent_tag c) ∙ (tag_is_free w c.args.payload.now (may c)).1 in
+    let there = nothing_there w c.in-Ok.sent c.self.invariant.world none (nothing_listed w.resuming c.in-Ok.sent (none_resuming w c.args.payload.now (may_before c))) unheld in there.2 in
     record {
       ends = IsEnds-together c.self.inside.ends (registered_ends c.send_unsettled.new.ledger c.self.inside.ends) c.self.invariant.ends (on c) refl refl (ap (λ l. l.link.max_frame_size) (registered c));
       world = kept c;

@@ -1,4 +1,4 @@
-use Rattle.std.proofs.Common.{◌≡◌, ◌∙◌, ap, subst, rules, refl, true, None}
+use Rattle.std.proofs.Common.{◌≡◌, ◌∙◌, ap, sym, subst, rules, refl, true, false, None}
 use Rattle.std.specs.Prelude.{is_some}
 use Rattle.amqp_link_types.specs.Refusals.{refusal}
 use Rattle.amqp_link_worlds.specs.Callable.{CanResume}
@@ -9,33 +9,38 @@ use Rattle.amqp_link_worlds.proofs.CallLemmas.{can_resume}
 use Rattle.amqp_link_worlds.proofs.WorldLemmas.{IsWorld-puts_back, Good-from_world, listed_quiet}
 use Rattle.amqp_link_pair.specs.PairViews.{world_of}
 use Rattle.amqp_link_pair.proofs.MarkLemmas.{marks_put_back}
+use Rattle.amqp_link_pair.proofs.ResumeLemmas.{it_has_entry, next_by, together_by}
 use Rattle.amqp_link_pair.proofs.StepLemmas.{IsEnds-together, is_kept, puts_back, registered_ends, with_parts}
-use Rattle.amqp_link_pair.proofs.pair.Pair.put_back_next.Goals as goal
+use Rattle.amqp_link_pair.proofs.pair.Pair.put_back_listed.Goals as goal
 
 pub put_back-requires-clause-entry : goal.put_back-requires-clause-entry
 put_back-requires-clause-entry c =
-    let on : is_together (world_of c.self.inside).phase ≡ true = search rules in
-    let can = can_resume (world_of c.self.inside) c.take_first-tag.result.0 c.take_first-tag.result.1 c.take_first-tag.new.self.list c.self.invariant.world on c.take_first-tag.ensures.taken in
-    ap is_some can.kept
+    let w = world_of c.self.inside in
+    let has = it_has_entry w c.take_first-tag.result.0 c.take_first-tag.result.1 c.take_first-tag.new.self.list c.self.invariant.world c.take_first-tag.ensures.taken (next_by w _ false c.self.view_is c.requires.resumes) in
+    ap is_some has.1
 
 pub mark-requires : goal.mark-requires
 mark-requires c =
-    let on : is_together (world_of c.self.inside).phase ≡ true = search rules in
-    let can = can_resume (world_of c.self.inside) c.take_first-tag.result.0 c.take_first-tag.result.1 c.take_first-tag.new.self.list c.self.invariant.world on c.take_first-tag.ensures.taken in
+    let w = world_of c.self.inside in
+    let on = together_by w _ c.self.view_is c.requires.may in
+    let has = it_has_entry w c.take_first-tag.result.0 c.take_first-tag.result.1 c.take_first-tag.new.self.list c.self.invariant.world c.take_first-tag.ensures.taken (next_by w _ false c.self.view_is c.requires.resumes) in
+    let can = can_resume w c.take_first-tag.result.0 c.take_first-tag.result.1 c.take_first-tag.new.self.list has.0 c.self.invariant.world on c.take_first-tag.ensures.taken has.1 in
     is_kept c.self.inside.deliveries c.take_first-tag.result.0 can.before can.known
 
 -- the world after it
 abbrev new : goal.After-mark → World
 new c = record (with_parts (world_of c.self.inside) (registered_ends c.put_back.new.ledger c.self.inside.ends) c.mark.new.self) { resuming = c.take_first-tag.new.self.list }
 
-on : (c : goal.After-mark) → is_together (world_of c.self.inside).phase ≡ true
-on c = search rules
-
 may : (c : goal.After-mark) → refusal (next_tests (world_of c.self.inside)) ≡ None
-may c = search rules
+may c = subst (λ w. refusal (next_tests w) ≡ None) (sym c.self.view_is) c.requires.may
+
+on : (c : goal.After-mark) → is_together (world_of c.self.inside).phase ≡ true
+on c = together_by (world_of c.self.inside) _ c.self.view_is c.requires.may
 
 can : (c : goal.After-mark) → CanResume (world_of c.self.inside) c.take_first-tag.result.0 c.take_first-tag.result.1
-can c = can_resume (world_of c.self.inside) c.take_first-tag.result.0 c.take_first-tag.result.1 c.take_first-tag.new.self.list c.self.invariant.world (on c) c.take_first-tag.ensures.taken
+can c =
+    let has = it_has_entry (world_of c.self.inside) c.take_first-tag.result.0 c.take_first-tag.result.1 c.take_first-tag.new.self.list c.self.invariant.world c.take_first-tag.ensures.taken (next_by (world_of c.self.inside) _ false c.self.view_is c.requires.resumes) in
+    can_resume (world_of c.self.inside) c.take_first-tag.result.0 c.take_first-tag.result.1 c.take_first-tag.new.self.list has.0 c.self.invariant.world (on c) c.take_first-tag.ensures.taken has.1
 
 registered : (c : goal.After-mark) → let k = can c in c.put_back.new.ledger ≡ after_registration c.self.inside.ends.ledger c.take_first-tag.result.0 k.entry
 registered c =

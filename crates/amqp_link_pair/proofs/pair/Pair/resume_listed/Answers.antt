@@ -12,39 +12,49 @@ use Rattle.amqp_link_pair.specs.PairViews.{world_of}
 use Rattle.amqp_link_pair.specs.Queues.{IsMadeOf}
 use Rattle.amqp_link_pair.proofs.ArriveLemmas.{first_and_rest}
 use Rattle.amqp_link_pair.proofs.MarkLemmas.{marks_noted, not_empty}
-use Rattle.amqp_link_pair.proofs.ResumeLemmas.{may_resume, rest_there, resumes_next}
+use Rattle.amqp_link_pair.proofs.ResumeLemmas.{it_has_entry, may_resume, next_by, rest_there, resumes_next, together_by}
 use Rattle.amqp_link_pair.proofs.StepLemmas.{IsEnds-together, is_kept, registered_ends, with_parts}
-use Rattle.amqp_link_pair.proofs.pair.Pair.resume_next.Goals as goal
+use Rattle.amqp_link_pair.proofs.pair.Pair.resume_listed.Goals as goal
 
 pub resumption_of-requires-clause-rest : goal.resumption_of-requires-clause-rest
 resumption_of-requires-clause-rest c =
-    let on : is_together (world_of c.self.inside).phase ≡ true = search rules in
-    rest_there (world_of c.self.inside) c.in-Some.tag.now c.in-Some.next.now _ c.self.invariant.world on (first_and_rest c.self.inside.resuming.list (c.in-Some.tag.now, c.in-Some.next.now) (sym c.in-Some.ensures))
+    let w = world_of c.self.inside in
+    let on = together_by w _ c.self.view_is c.requires.may in
+    let listed = first_and_rest c.self.inside.resuming.list (c.in-Some.tag.now, c.in-Some.next.now) (sym c.in-Some.ensures) in
+    let has = it_has_entry w c.in-Some.tag.now c.in-Some.next.now _ c.self.invariant.world listed (next_by w _ false c.self.view_is c.requires.resumes) in
+    rest_there w c.in-Some.tag.now c.in-Some.next.now _ has.0 c.self.invariant.world on listed has.1
 
 pub resume-requires-clause-can : goal.resume-requires-clause-can
 resume-requires-clause-can c =
-    let on : is_together (world_of c.self.inside).phase ≡ true = search rules in
-    may_resume (world_of c.self.inside) c.in-Some.tag.now c.in-Some.next.now _ c.self.invariant.world on (first_and_rest c.self.inside.resuming.list (c.in-Some.tag.now, c.in-Some.next.now) (sym c.in-Some.ensures))
+    let w = world_of c.self.inside in
+    let on = together_by w _ c.self.view_is c.requires.may in
+    let listed = first_and_rest c.self.inside.resuming.list (c.in-Some.tag.now, c.in-Some.next.now) (sym c.in-Some.ensures) in
+    let has = it_has_entry w c.in-Some.tag.now c.in-Some.next.now _ c.self.invariant.world listed (next_by w _ false c.self.view_is c.requires.resumes) in
+    may_resume w c.in-Some.tag.now c.in-Some.next.now _ has.0 c.self.invariant.world on listed has.1
     c.in_ok-resumption.resumption c.in_ok-resumption.ensures
 
 pub mark-requires : goal.mark-requires
 mark-requires c =
-    let on : is_together (world_of c.self.inside).phase ≡ true = search rules in
-    let can = can_resume (world_of c.self.inside) c.take_first-tag.result.0 c.take_first-tag.result.1 c.take_first-tag.new.self.list c.self.invariant.world on c.take_first-tag.ensures.taken in
+    let w = world_of c.self.inside in
+    let on = together_by w _ c.self.view_is c.requires.may in
+    let has = it_has_entry w c.take_first-tag.result.0 c.take_first-tag.result.1 c.take_first-tag.new.self.list c.self.invariant.world c.take_first-tag.ensures.taken (next_by w _ false c.self.view_is c.requires.resumes) in
+    let can = can_resume w c.take_first-tag.result.0 c.take_first-tag.result.1 c.take_first-tag.new.self.list has.0 c.self.invariant.world on c.take_first-tag.ensures.taken has.1 in
     is_kept c.self.inside.deliveries c.take_first-tag.result.0 can.before can.known
 
 -- the world after it
 abbrev new : goal.After-push → World
 new c = record (with_parts (world_of c.self.inside) (registered_ends c.resume.new.ledger c.self.inside.ends) c.mark.new.self) { resuming = c.take_first-tag.new.self.list; wire = c.push.new.self.transfers }
 
-on : (c : goal.After-push) → is_together (world_of c.self.inside).phase ≡ true
-on c = search rules
-
 may : (c : goal.After-push) → refusal (next_tests (world_of c.self.inside)) ≡ None
-may c = search rules
+may c = subst (λ w. refusal (next_tests w) ≡ None) (sym c.self.view_is) c.requires.may
+
+on : (c : goal.After-push) → is_together (world_of c.self.inside).phase ≡ true
+on c = together_by (world_of c.self.inside) _ c.self.view_is c.requires.may
 
 can : (c : goal.After-push) → CanResume (world_of c.self.inside) c.take_first-tag.result.0 c.take_first-tag.result.1
-can c = can_resume (world_of c.self.inside) c.take_first-tag.result.0 c.take_first-tag.result.1 c.take_first-tag.new.self.list c.self.invariant.world (on c) c.take_first-tag.ensures.taken
+can c =
+    let has = it_has_entry (world_of c.self.inside) c.take_first-tag.result.0 c.take_first-tag.result.1 c.take_first-tag.new.self.list c.self.invariant.world c.take_first-tag.ensures.taken (next_by (world_of c.self.inside) _ false c.self.view_is c.requires.resumes) in
+    can_resume (world_of c.self.inside) c.take_first-tag.result.0 c.take_first-tag.result.1 c.take_first-tag.new.self.list has.0 c.self.invariant.world (on c) c.take_first-tag.ensures.taken has.1
 
 made : (c : goal.After-push) → IsMadeOf c.in_ok-resumption.resumption c.take_first-tag.result.0 c.take_first-tag.result.1
 made c =
