@@ -1,18 +1,16 @@
 -- An attach of both endpoints is a step of the pair's world, and so is one that stops on the way.
-use Rattle.std.proofs.Common.{◌≡◌, ◌∙◌, ◌++◌, sym, ap, subst, ℕ, false, inl, inr}
-use Rattle.std.specs.Map.{keys_of}
+use Rattle.std.proofs.Common.{◌≡◌, ◌∙◌, sym, ap, subst, ℕ, false, inl, inr}
 use Rattle.std.specs.Prelude.{None, Result, Err}
 use Rattle.amqp_link_types.specs.Entries.{Entries}
 use Rattle.amqp_link_types.specs.Refusals.{refusal}
-use Rattle.amqp_link_exchange.specs.Exchanges.{unknown_aborted}
 use Rattle.amqp_link_ledger.specs.Fates.{HandsOut, Resolves, after}
 use Rattle.amqp_link_ledger.proofs.RecordLemmas.{resolves-none}
 use Rattle.amqp_link_worlds.specs.Invariants.{IsWorld}
-use Rattle.amqp_link_worlds.specs.Steps.{Attaches, LeftByAttach, StaysOrStops, attach_tests, list_to_resume}
+use Rattle.amqp_link_worlds.specs.Steps.{Attaches, LeftByAttach, StaysOrStops, attach_tests, items_to_resume, list_to_resume}
 use Rattle.amqp_link_worlds.specs.Worlds.{World, is_together}
 use Rattle.amqp_link_worlds.specs.declared.error.PairError.{PairError}
 use Rattle.amqp_link_worlds.specs.declared.error.PairError.TheVariants as error
-use Rattle.amqp_link_worlds.proofs.WorldLemmas.{IsWorld-stops, attach_returns_none, attach_tags_are, none_hold}
+use Rattle.amqp_link_worlds.proofs.WorldLemmas.{IsWorld-stops, attach_returns_none, attach_list_is, none_hold}
 use Rattle.amqp_link_pair.specs.Endpoints.{HasStopped, with_ends}
 use Rattle.amqp_link_pair.specs.PairViews.{AreMarked}
 use Rattle.amqp_link_pair.specs.declared.deliveries.Kept.{Kept}
@@ -51,8 +49,8 @@ module _ (old new : World) (limit count : ℕ) (k : IsWorld old) (may : refusal 
   off : is_together old.phase ≡ false
   off = (none_hold (attach_tests old limit) may).0
 
-  pub all_listed : keys_of new.resuming ≡ keys_of old.ledger.link.unsettled ++ keys_of (unknown_aborted old.ledger.link.unsettled old.receiver.unsettled)
-  all_listed = ap (λ (w : World). keys_of w.resuming) a.world ∙ attach_tags_are old k off
+  pub all_listed : new.resuming ≡ items_to_resume old
+  all_listed = ap (λ (w : World). w.resuming) a.world ∙ attach_list_is old k off
 
   pub only_handed_out : new.ledger.records ≡ after (HandsOut new.resuming) old.ledger.records
   only_handed_out =

@@ -4,20 +4,18 @@
 //! delivery exactly the bytes that arrived. A cut loses what is on the wire; when both endpoints are attached
 //! again, each delivery is resumed from the position that the receiver reports. All deliveries are unsettled
 //! and of format 0.
-ghost use Rattle.std.specs.Prelude.{◌≡◌, ◌≢◌, ◌⊎◌, ◌++◌, ◌<◌, ◌≤◌, ◌^◌, [], true, false, length, None, Some, IfErr, IfOk, IfSome, IsErrOf, IsSome, OnOk, OnErr, is_some, option_copied, if◌then◌else◌};
+ghost use Rattle.std.specs.Prelude.{◌≡◌, ◌≢◌, ◌⊎◌, ◌<◌, ◌≤◌, ◌^◌, [], true, false, length, None, Some, IfErr, IfOk, IfSome, IsErrOf, IsSome, OnOk, OnErr, is_some, option_copied, if◌then◌else◌};
 ghost use Rattle.amqp_link_types.specs.Entries.{entry_at};
 ghost use Rattle.amqp_link_types.specs.Refusals.{AnswersExactly, AnswersOrOutOfMemory, AnswersThenOutOfMemory, refusal};
-ghost use Rattle.std.specs.Map.{keys_of};
 ghost use Rattle.amqp_link_sender.specs.Senders;
 ghost use Rattle.amqp_link_ledger.specs.Fates.{HandsOut, IsRecorded, after};
 ghost use Rattle.amqp_link_worlds.specs.Invariants.{IsWorld};
 ghost use Rattle.amqp_link_worlds.specs.Worlds.{Good, held_at, is_together};
 ghost use Rattle.amqp_link_worlds.specs.Steps.{Attaches, LeftByAttach, Grants, Sends, Arrives, AbortArrives, Cuts, Resumes, SendsAbort, PutsBack, DropsAbort, HandsOutDelivery, LeftByHandOut, Settles, WithdrawsDelivery};
-ghost use Rattle.amqp_link_worlds.specs.Steps.{new_world, is_halfway_at_other, attach_tests, grant_tests, send_tests, arrive_tests, cut_tests, next_tests, hand_out_tests, settle_tests, withdraw_tests};
+ghost use Rattle.amqp_link_worlds.specs.Steps.{new_world, items_to_resume, is_halfway_at_other, attach_tests, grant_tests, send_tests, arrive_tests, cut_tests, next_tests, hand_out_tests, settle_tests, withdraw_tests};
 ghost use Rattle.amqp_link_worlds.specs.Before.{before_decoding, before_tag};
 ghost use Rattle.amqp_link_worlds.specs.PairRuns.{aborts_next};
 ghost use Rattle.amqp_link_worlds.specs.Resumptions.{is_abort};
-ghost use Rattle.amqp_link_exchange.specs.Exchanges.{unknown_aborted};
 ghost use Rattle.amqp_link_pair.specs.Queues.{first_element};
 
 mod runs;
@@ -154,8 +152,7 @@ impl Pair {
     /// position that the receiver reports is looked for.
     pub fn attach(&mut self, limit: u32) -> Result<usize, PairError>
         ensures done { IfOk result (λ count. Attaches self.old limit count self.new) }
-        ensures listed { OnOk result (keys_of self.new.resuming ≡ keys_of self.old.ledger.link.unsettled
-            ++ keys_of (unknown_aborted self.old.ledger.link.unsettled self.old.receiver.unsettled)) }
+        ensures listed { OnOk result (self.new.resuming ≡ items_to_resume self.old) }
         ensures handed_out { OnOk result (self.new.ledger.records
             ≡ after (HandsOut self.new.resuming) self.old.ledger.records) }
         ensures refused { AnswersOrOutOfMemory PairError.OutOfMemory result (attach_tests self.old limit) }

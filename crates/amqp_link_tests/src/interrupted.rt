@@ -138,13 +138,23 @@ fn expect_seen(
     }
 }
 
+// A new pair after these calls.
+fn pair_after(
+    rt: &(impl Abort + AllocGlobal),
+    sample: &Sample,
+    calls: &[(Call, Result<Seen, PairError>)],
+) -> Pair {
+    let pair = Pair::new(rt.alloc(), 0).or_else(|_| Pair::new(rt.alloc(), 0));
+    let mut pair = pair.expect(rt, "memory");
+    expect_seen(rt, &mut pair, sample, calls);
+    pair
+}
+
 // With one growth refused, whichever it is, the answers are those of a run where none is.
 #[test]
 fn refused_growth_interrupts_nothing(rt: HostRuntime) {
     let sample = new_sample(&rt);
-    let pair = Pair::new(rt.alloc(), 0).or_else(|_| Pair::new(rt.alloc(), 0));
-    let mut pair = pair.expect(&rt, "memory");
-    expect_seen(&rt, &mut pair, &sample, CUT_OFF.as_slice());
+    let mut pair = pair_after(&rt, &sample, CUT_OFF.as_slice());
     expect_seen(&rt, &mut pair, &sample, SENT_AGAIN.as_slice());
     let left = standing_of(&pair, &sample.tag);
     drop(pair);
@@ -168,9 +178,7 @@ fn refused_growth_interrupts_nothing(rt: HostRuntime) {
 #[test]
 fn refused_growth_resumes_all_the_same(rt: HostRuntime) {
     let sample = new_sample(&rt);
-    let pair = Pair::new(rt.alloc(), 0).or_else(|_| Pair::new(rt.alloc(), 0));
-    let mut pair = pair.expect(&rt, "memory");
-    expect_seen(&rt, &mut pair, &sample, RESUMED.as_slice());
+    let pair = pair_after(&rt, &sample, RESUMED.as_slice());
     let left = standing_of(&pair, &sample.tag);
     let held = pair.held(&sample.tag).expect(&rt, "it has arrived");
     let id = held.performative().delivery_id;
@@ -190,9 +198,7 @@ fn refused_growth_resumes_all_the_same(rt: HostRuntime) {
 #[test]
 fn refused_growth_aborts_all_the_same(rt: HostRuntime) {
     let sample = new_sample(&rt);
-    let pair = Pair::new(rt.alloc(), 0).or_else(|_| Pair::new(rt.alloc(), 0));
-    let mut pair = pair.expect(&rt, "memory");
-    expect_seen(&rt, &mut pair, &sample, WITHDRAWN.as_slice());
+    let pair = pair_after(&rt, &sample, WITHDRAWN.as_slice());
     let left = standing_of(&pair, &sample.tag);
     drop(pair);
     drop(sample);

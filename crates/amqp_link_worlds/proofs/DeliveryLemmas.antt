@@ -529,24 +529,25 @@ way_cut b tag entry p reported frames k = record {
   stays = k.stays;
 }
 
-withdrawn_cut : (b : Bool) (tag : Tag) (p : Progress) (reported : Option (Option DeliveryState)) (frames : List LinkFrame) (fates : List Fate)
-    → IsWithdrawn b tag p reported frames fates → IsWithdrawn false tag p reported [] fates
-withdrawn_cut b tag p reported frames fates k = record {
+-- a withdrawn delivery with these transfers under way
+withdrawn_with : (b b' : Bool) (tag : Tag) (p : Progress) (reported : Option (Option DeliveryState)) (frames frames' : List LinkFrame) (fates : List Fate)
+    → IsWithdrawn b tag p reported frames fates → AreAborts frames' → (b' ≡ false → frames' ≡ []) → IsWithdrawn b' tag p reported frames' fates
+withdrawn_with b b' tag p reported frames frames' fates k aborts quiet = record {
   flag = k.flag;
   unfinished = k.unfinished;
   tag_is = k.tag_is;
   holds = k.holds;
   held = k.held;
   report = k.report;
-  aborts = tt;
-  quiet = λ _. refl;
+  aborts = aborts;
+  quiet = quiet;
   last = k.last;
 }
 
 pub kept_cut : (b : Bool) (tag : Tag) (own : Option UnsettledMessage) (q : Option Progress) (reported : Option (Option DeliveryState)) (frames : List LinkFrame) (fates : List Fate)
     → IsKeptAs b tag own None q reported frames fates → IsKeptAs false tag own None q reported [] fates
 kept_cut b tag None None reported frames fates k = (k.0, refl, k.2)
-kept_cut b tag None (Some p) reported frames fates k = withdrawn_cut b tag p reported frames fates k
+kept_cut b tag None (Some p) reported frames fates k = withdrawn_with b false tag p reported frames [] fates k tt (λ _. refl)
 kept_cut b tag (Some entry) None reported frames fates k = absurd k
 kept_cut b tag (Some entry) (Some p) reported frames fates k = (way_cut (b && not p.put_back) tag entry p reported frames k.0, k.1)
 
@@ -683,31 +684,12 @@ way_withdrawn tag entry p (Some held) reported frames fates is unfinished k l = 
 -- a withdrawn delivery of which nothing is under way, once the endpoints are attached
 pub withdrawn_waits : (b : Bool) (tag : Tag) (p : Progress) (reported : Option (Option DeliveryState)) (frames : List LinkFrame) (fates : List Fate)
     → IsWithdrawn false tag p reported frames fates → IsWithdrawn b tag p reported frames fates
-withdrawn_waits b tag p reported frames fates k = record {
-  flag = k.flag;
-  unfinished = k.unfinished;
-  tag_is = k.tag_is;
-  holds = k.holds;
-  held = k.held;
-  report = k.report;
-  aborts = k.aborts;
-  quiet = λ _. k.quiet refl;
-  last = k.last;
-}
+withdrawn_waits b tag p reported frames fates k = withdrawn_with false b tag p reported frames frames fates k k.aborts (λ _. k.quiet refl)
 
 pub withdrawn_sent : (handle : InputHandle) (tag : Tag) (p : Progress) (reported : Option (Option DeliveryState)) (frames : List LinkFrame) (fates : List Fate)
     → IsWithdrawn false tag p reported frames fates → IsWithdrawn true tag p reported (abort_frame zero_output handle tag 0 ∷ []) fates
-withdrawn_sent handle tag p reported frames fates k = record {
-  flag = k.flag;
-  unfinished = k.unfinished;
-  tag_is = k.tag_is;
-  holds = k.holds;
-  held = k.held;
-  report = k.report;
-  aborts = refl;
-  quiet = λ off. absurd (false_is_not_true (sym off));
-  last = k.last;
-}
+withdrawn_sent handle tag p reported frames fates k =
+    withdrawn_with false true tag p reported frames (abort_frame zero_output handle tag 0 ∷ []) fates k refl (λ off. absurd (false_is_not_true (sym off)))
 
 none_is_some : {A : Type 0} {x : A} → None ≡ Some x → ⊥
 none_is_some h = cc

@@ -13,21 +13,16 @@ use Rattle.amqp_link_types.specs.declared.types.delivery_state.DeliveryState.{De
 use Rattle.amqp_link_core.specs.declared.resumption.Resolution.{Resolution}
 use Rattle.amqp_link_core.specs.declared.resumption.Resolution.TheVariants.{Resuming, Outcome}
 use Rattle.amqp_link_core.specs.declared.resumption.ResumingDelivery.{ResumingDelivery}
-use Rattle.amqp_link_core.specs.declared.resumption.ResumingDelivery.TheVariants.{Abort, Resend, Resume}
+use Rattle.amqp_link_core.specs.declared.resumption.ResumingDelivery.TheVariants.{Abort, Resume}
 use Rattle.amqp_link_ledger.specs.declared.fate.Fate.TheVariants.{HandedOut}
 use Rattle.amqp_link_exchange.specs.Exchanges.{resolutions, to_resume, to_return, unknown_aborted, deliveries_to_resume, outcomes_returned}
-use Rattle.amqp_link_worlds.specs.Resumptions.{entry_of, rest_of, resumes}
+use Rattle.amqp_link_worlds.specs.Resumptions.{entry_of, next_of, rest_of, resumes}
 use Rattle.amqp_link_worlds.specs.Worlds.{IsFront, bytes_in, receiver_entry}
 use Rattle.amqp_link_worlds.proofs.EntriesOf.{entry_at-map, entry_at-append, entry_at-passing, entry_at-failing, passing, IsMap-map, IsMap-append, IsMap-passing, take-front}
 use Rattle.amqp_link_ledger.proofs.ListSteps.{some_is_none}
 use Rattle.std.specs.Option.{option_or}
 
 -- ---- the answer to one delivery
-
--- what is not held is sent: all of it where nothing is
-abbrev pub goes_on_from : UnsettledMessage → Option Held → ResumingDelivery
-goes_on_from entry None = Resend entry
-goes_on_from entry (Some held) = Resume entry (drop (length (held_bytes held)) entry.payload)
 
 place_found : (payload bytes : List ℕ) → IsFront bytes payload → place payload (position bytes).0 (position bytes).1 ≡ Some (length bytes)
 place_found payload bytes front =
@@ -39,22 +34,23 @@ rest_found : (payload bytes : List ℕ) → IsFront bytes payload → rest_from 
 rest_found payload bytes front = ap (λ o. unwrap_or (option_map (λ i. drop i payload) o) payload) (place_found payload bytes front)
 
 pub answer_is : (tag : Tag) (entry : UnsettledMessage) (h : Option Held) (remote : Option (Option DeliveryState)) → entry.state ≡ None → remote ≡ receiver_entry h
-    → IsFront (bytes_in h) entry.payload → resolution tag entry remote ≡ Resuming (goes_on_from entry h)
+    → IsFront (bytes_in h) entry.payload → resolution tag entry remote ≡ Resuming (next_of entry h)
 answer_is tag entry None remote own is front =
     ap (λ s. row tag entry (sender_report s) (receiver_report remote)) own ∙ ap (λ r. row tag entry nothing (receiver_report r)) is
 answer_is tag entry (Some held) remote own is front =
     ap (λ s. row tag entry (sender_report s) (receiver_report remote)) own ∙ ap (λ r. row tag entry nothing (receiver_report r)) is
     ∙ ap (λ rest. Resuming (Resume entry rest)) (rest_found entry.payload (held_bytes held) front)
 
-pub entry_goes_on : (entry : UnsettledMessage) (h : Option Held) → entry_of (goes_on_from entry h) ≡ Some entry
+-- its parts
+pub entry_goes_on : (entry : UnsettledMessage) (h : Option Held) → entry_of (next_of entry h) ≡ Some entry
 entry_goes_on entry None = refl
 entry_goes_on entry (Some held) = refl
 
-pub rest_goes_on : (entry : UnsettledMessage) (h : Option Held) → rest_of (goes_on_from entry h) ≡ Some (drop (length (bytes_in h)) entry.payload)
+pub rest_goes_on : (entry : UnsettledMessage) (h : Option Held) → rest_of (next_of entry h) ≡ Some (drop (length (bytes_in h)) entry.payload)
 rest_goes_on entry None = refl
 rest_goes_on entry (Some held) = refl
 
-pub flag_goes_on : (entry : UnsettledMessage) (h : Option Held) → resumes (goes_on_from entry h) ≡ is_some h
+pub flag_goes_on : (entry : UnsettledMessage) (h : Option Held) → resumes (next_of entry h) ≡ is_some h
 flag_goes_on entry None = refl
 flag_goes_on entry (Some held) = refl
 

@@ -23,7 +23,7 @@ use Rattle.amqp_link_worlds.specs.PairRuns.{Moment, last_payload, last_sent}
 use Rattle.amqp_link_worlds.specs.declared.event.AnswerOf.TheVariants as answer
 use Rattle.amqp_link_worlds.specs.declared.event.Event.TheVariants as event
 use Rattle.amqp_link_worlds.specs.Resumptions.{entry_of, rest_of, resumes}
-use Rattle.amqp_link_worlds.specs.Steps.{delivery_transfer, initial_progress, received, new_sender, new_receiver, new_world, attaches_fit, is_halfway_at_other, attach_tests, grant_tests, send_tests, arrive_tests, cut_tests, next_tests, settle_tests, withdraw_tests, after_attach, list_to_resume, Attaches, WithdrawsDelivery, SendsAbort, AbortArrives, zero_output}
+use Rattle.amqp_link_worlds.specs.Steps.{delivery_transfer, initial_progress, received, new_sender, new_receiver, new_world, attaches_fit, is_halfway_at_other, attach_tests, grant_tests, send_tests, arrive_tests, cut_tests, next_tests, settle_tests, withdraw_tests, after_attach, items_to_resume, list_to_resume, Attaches, WithdrawsDelivery, SendsAbort, AbortArrives, zero_output}
 use Rattle.amqp_link_worlds.specs.Wires.{OnWire, under, frames_of, payload_of_all, IsInTurn}
 use Rattle.amqp_link_worlds.specs.Worlds.{World, Apart, Halfway, Together, IsGood, is_out, bytes_in, receiver_entry, registered_payload, held_at}
 use Rattle.amqp_link_worlds.specs.declared.error.PairError.TheVariants as error
@@ -286,6 +286,12 @@ fits_at_46 = (refl, refl)
 
 one_abort : list_to_resume given_up ≡ (zero_tag, Abort 0 None) ∷ []
 one_abort = refl
+
+-- the same item by item; and of the delivery before it was withdrawn, of which five bytes are held, or none
+items_listed : (items_to_resume given_up ≡ (zero_tag, Abort 0 None) ∷ [])
+    × (items_to_resume cut_off ≡ (zero_tag, Resume twelve (6 ∷ 7 ∷ 8 ∷ 9 ∷ 10 ∷ 11 ∷ 12 ∷ [])) ∷ [])
+    × (items_to_resume (record cut_off { deliveries = [] }) ≡ (zero_tag, Resend twelve) ∷ [])
+items_listed = (refl, refl, refl)
 
 attaches : Attaches given_up 46 1 (after_attach 46 given_up)
 attaches = record { counted = refl; world = refl }

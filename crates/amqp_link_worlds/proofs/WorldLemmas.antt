@@ -23,6 +23,7 @@ use Rattle.amqp_link_types.specs.declared.types.delivery_state.DeliveryState.The
 use Rattle.amqp_link_types.specs.declared.delivery.UnsettledMessage.{UnsettledMessage}
 use Rattle.amqp_link_types.specs.declared.frame.LinkFrame.{LinkFrame}
 use Rattle.amqp_link_core.specs.declared.resumption.ResumingDelivery.{ResumingDelivery}
+use Rattle.amqp_link_core.specs.declared.resumption.Resolution.{Resolution}
 use Rattle.amqp_link_core.specs.declared.resumption.Resolution.TheVariants.{Resuming}
 use Rattle.amqp_link_types.proofs.MapLemmas.{same_tag, other_tag, false_is_not_true, entry_at-put, entry_at-put_other, IsMap-removed}
 use Rattle.amqp_link_types.proofs.EntriesLemmas.{IsMap-none}
@@ -33,20 +34,19 @@ use Rattle.amqp_link_ledger.proofs.ListSteps.{some_is, some_is_none, entry_at-fi
 use Rattle.amqp_link_ledger.proofs.CountLemmas.{fates_registered, fates_registered_other, fates_given, none_given}
 use Rattle.amqp_link_ledger.proofs.FateLemmas.{with_fates-none}
 use Rattle.amqp_link_exchange.specs.Exchanges.{outcomes_returned, unknown_aborted}
-use Rattle.amqp_link_worlds.specs.Resumptions.{entry_of, rest_of, resumes}
+use Rattle.amqp_link_worlds.specs.Resumptions.{entry_of, next_of, rest_of, resumes}
 use Rattle.amqp_link_types.specs.Frames.{performative_of}
 use Rattle.amqp_link_worlds.specs.Wires.{OnWire, under, frames_of, IsInTurn, does_begin}
 use Rattle.amqp_link_worlds.specs.Worlds.{World, Phase, Apart, Halfway, Together, is_together, Standing, standing, entry_in, Good, IsOpen, bytes_in, held_at, received_at, receiver_entry, AreAborts}
 use Rattle.amqp_link_worlds.specs.declared.error.PairError.{PairError}
 use Rattle.amqp_link_worlds.specs.declared.progress.Progress.{Progress}
-use Rattle.amqp_link_worlds.specs.Steps.{Attaches, StopsAt, AttachStop, Asked, Taken, Answered, receiver_at, Grants, with_credit, Sends, Arrives, Cuts, Resumes, PutsBack, after_hand_out, Settles, received, initial_progress, after_registration, after_one_credit, list_to_resume, ledger_together, sender_together, sender_asking, receiver_together, receiver_half_attached, receiver_at_limit, new_world, attach_tests, send_tests, arrive_tests, cut_tests, next_tests, settle_tests, is_empty, attaches_fit, has_flag, is_unknown, is_apart, withdraw_tests, AbortArrives, SendsAbort, DropsAbort, WithdrawsDelivery, after_withdrawal, zero_output}
+use Rattle.amqp_link_worlds.specs.Steps.{Attaches, StopsAt, AttachStop, Asked, Taken, Answered, receiver_at, Grants, with_credit, Sends, Arrives, Cuts, Resumes, PutsBack, after_hand_out, Settles, received, initial_progress, after_registration, after_one_credit, items_to_resume, list_to_resume, ledger_together, sender_together, sender_asking, receiver_together, receiver_half_attached, receiver_at_limit, new_world, attach_tests, send_tests, arrive_tests, cut_tests, next_tests, settle_tests, is_empty, attaches_fit, has_flag, is_unknown, is_apart, withdraw_tests, AbortArrives, SendsAbort, DropsAbort, WithdrawsDelivery, after_withdrawal, zero_output}
 use Rattle.amqp_link_worlds.specs.Receiving.{CanReceive}
 use Rattle.amqp_link_worlds.specs.Invariants.{IsWorld, IsTagKept, IsKeptAs, IsUnderWay, IsListed, IsLatest, AreOver, HaveMoved, IsPlainReceiver, AreEnds, AreTogether, AreHalfway, IsOnWay, IsWithdrawn, IsAborting, AreApart}
-use Rattle.std.specs.Map.{keys_of}
-use Rattle.amqp_link_worlds.proofs.EntriesOf.{keys-map, by_tag, IsMap-put, entry_at-behind, first_alone, others_are_map, each_pair, removed_here, removed_there}
+use Rattle.amqp_link_worlds.proofs.EntriesOf.{map_same, by_tag, IsMap-put, entry_at-behind, first_alone, others_are_map, each_pair, removed_here, removed_there}
 use Rattle.amqp_link_worlds.proofs.FateLemmas.{latest_is, have_moved, latest_entered, latest_moved, latest_over, none_pending, one_pending, all-kept}
 use Rattle.amqp_link_worlds.proofs.DeliveryLemmas.{aborted_tag, kept_received, kept_receives, kept_cut, kept_taken, taken_out, good_kept, no_items, are_sent, AreSent, turn_sent, way_sent, way_resumed, way_put_back, aborts_first, kept_aborted, aborting_kept, withdrawn_waits, withdrawn_sent, way_withdrawn, given_up_kept, closed_when_withdrawn}
-use Rattle.amqp_link_worlds.proofs.ExchangeLemmas.{goes_on_from, IsResuming, answer_is, entry_goes_on, rest_goes_on, flag_goes_on, next_in, answer_to, list_is, outcomes_are, listed_at, IsMap-listed, given_at, next_for}
+use Rattle.amqp_link_worlds.proofs.ExchangeLemmas.{IsResuming, answer_is, entry_goes_on, rest_goes_on, flag_goes_on, next_in, answer_to, list_is, outcomes_are, listed_at, IsMap-listed, given_at, next_for}
 use Rattle.amqp_link_core.specs.declared.resumption.ResumingDelivery.TheVariants.{Abort}
 
 -- ---- how a delivery stands
@@ -989,15 +989,15 @@ module _ (old new : World) (tag : Tag) (k : IsWorld old) (may : refusal (withdra
 
 -- a registered delivery of ends that are not attached goes on, from what is held
 answer_kept : (b : Bool) (tag : Tag) (entry : UnsettledMessage) (p : Progress) (reported : Option (Option DeliveryState)) (frames : List LinkFrame)
-    → IsUnderWay b tag entry p reported frames → resolution tag entry reported ≡ Resuming (goes_on_from entry p.held)
+    → IsUnderWay b tag entry p reported frames → resolution tag entry reported ≡ Resuming (next_of entry p.held)
 answer_kept b tag entry p reported frames k = answer_is tag entry p.held reported k.own.state k.good.report k.good.front
 
-resuming_kept : (b : Bool) (tag : Tag) (own : Option UnsettledMessage) (q : Option Progress) (reported : Option (Option DeliveryState)) (frames : List LinkFrame) (fates : List Fate) (entry : UnsettledMessage)
-    → own ≡ Some entry → IsKeptAs b tag own None q reported frames fates → IsResuming (resolution tag entry reported)
-resuming_kept b tag None q reported frames fates entry is k = absurd (some_is_none (sym is))
-resuming_kept b tag (Some own) None reported frames fates entry is k = absurd k
-resuming_kept b tag (Some own) (Some p) reported frames fates entry is k =
-    subst (λ e. IsResuming (resolution tag e reported)) (some_is is) (goes_on_from own p.held, answer_kept (b && not p.put_back) tag own p reported frames k.0)
+answered_kept : (b : Bool) (tag : Tag) (own : Option UnsettledMessage) (q : Option Progress) (reported : Option (Option DeliveryState)) (frames : List LinkFrame) (fates : List Fate) (entry : UnsettledMessage)
+    → own ≡ Some entry → IsKeptAs b tag own None q reported frames fates → resolution tag entry reported ≡ Resuming (next_of entry (option_and_then (λ p. p.held) q))
+answered_kept b tag None q reported frames fates entry is k = absurd (some_is_none (sym is))
+answered_kept b tag (Some own) None reported frames fates entry is k = absurd k
+answered_kept b tag (Some own) (Some p) reported frames fates entry is k =
+    subst (λ e. resolution tag e reported ≡ Resuming (next_of e p.held)) (some_is is) (answer_kept (b && not p.put_back) tag own p reported frames k.0)
 
 -- what is reported of a withdrawn delivery is to be aborted
 next_withdrawn : (tag : Tag) (h : Option Held) (reported : Option (Option DeliveryState)) → reported ≡ receiver_entry h → IsSome h → next_for tag None reported ≡ Some (Abort 0 None)
@@ -1019,7 +1019,7 @@ attached_kept tag None (Some p) reported frames fates k =
 attached_kept tag (Some entry) None reported frames fates k = absurd k
 attached_kept tag (Some entry) (Some p) reported frames fates k =
     let way = k.0 in
-    let next : next_in (resolution tag entry reported) ≡ goes_on_from entry p.held = ap next_in (answer_kept false tag entry p reported frames way) in
+    let next : next_in (resolution tag entry reported) ≡ next_of entry p.held = ap next_in (answer_kept false tag entry p reported frames way) in
     inl (
       record {
         entry = entry;
@@ -1052,22 +1052,32 @@ module _ (old : World) (k : IsWorld old) (off : is_together old.phase ≡ false)
       (subst (IsTagKept (is_together old.phase) tag) (stands refl (unlisted_before tag) refl refl refl refl) (k.each tag))
 
   all_go_on : AllByRecursion (λ e. IsResuming (answer_to remote_map e.0 e.1)) own_map
-  all_go_on = each_pair (λ e. IsResuming (answer_to remote_map e.0 e.1)) own_map k.unsettled (λ tag entry found. resuming_kept false tag _ _ _ _ _ entry found (before_attach tag))
+  all_go_on =
+      each_pair (λ e. IsResuming (answer_to remote_map e.0 e.1)) own_map k.unsettled (λ tag entry found. (next_of entry (held_at old tag), answered_kept false tag _ _ _ _ _ entry found (before_attach tag)))
+
+  -- how the exchange lists a delivery of the sender's map, and what it lists by what is held
+  abbrev exchanged_item : Tag × UnsettledMessage → Tag × ResumingDelivery
+  exchanged_item e = (e.0, next_in (answer_to remote_map e.0 e.1))
+
+  abbrev held_item : Tag × UnsettledMessage → Tag × ResumingDelivery
+  held_item e = (e.0, next_of e.1 (held_at old e.0))
+
+  each_item : AllByRecursion (λ e. exchanged_item e ≡ held_item e) own_map
+  each_item =
+      each_pair (λ e. exchanged_item e ≡ held_item e) own_map k.unsettled
+      (λ tag entry found.
+      let with_tag : Resolution → Tag × ResumingDelivery = λ r. (tag, next_in r) in
+      ap with_tag (answered_kept false tag _ _ _ _ _ entry found (before_attach tag)))
 
   -- no outcome is returned, and the list is that of the sender's map in order, and then that of the deliveries
   -- that only the receiver names
   pub attach_returns_none : outcomes_returned own_map remote_map ≡ []
   attach_returns_none = outcomes_are remote_map own_map all_go_on
 
-  pub attach_list_is : list_to_resume old ≡ map (λ e. (e.0, next_in (answer_to remote_map e.0 e.1))) own_map ++ unknown_aborted own_map remote_map
-  attach_list_is = list_is remote_map own_map all_go_on
-
-  -- of the same tags
-  pub attach_tags_are : keys_of (list_to_resume old) ≡ keys_of own_map ++ keys_of (unknown_aborted own_map remote_map)
-  attach_tags_are =
-      ap keys_of attach_list_is
-      ∙ map-append (λ (e : Tag × ResumingDelivery). e.0) (map (λ e. (e.0, next_in (answer_to remote_map e.0 e.1))) own_map) (unknown_aborted own_map remote_map)
-      ∙ ap (λ l. l ++ keys_of (unknown_aborted own_map remote_map)) (keys-map (λ tag entry. next_in (answer_to remote_map tag entry)) own_map)
+  pub attach_list_is : list_to_resume old ≡ items_to_resume old
+  attach_list_is =
+      list_is remote_map own_map all_go_on
+      ∙ ap (λ l. l ++ unknown_aborted own_map remote_map) (map_same exchanged_item held_item own_map each_item)
 
 module _ (old new : World) (limit count : ℕ) (k : IsWorld old) (may : refusal (attach_tests old limit) ≡ None) (a : Attaches old limit count new) where
   attaching : AllByRecursion (λ t. t.0 ≡ false) (attach_tests old limit)

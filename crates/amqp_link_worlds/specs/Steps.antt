@@ -1,5 +1,5 @@
 -- What each call of a pair returns, and the world after it.
-use Rattle.std.specs.Prelude.{◌≡◌, ◌⊎◌, ℕ, ◌+◌, ◌^◌, ◌&&◌, Bool, true, false, not, ◌||◌, nat_lt, nat_le, ◌==◌, List, [], ◌∷◌, ◌++◌, length, Option, Some, None, is_some, unwrap_or, codes, Result, Ok, Err, if◌then◌else◌}
+use Rattle.std.specs.Prelude.{◌≡◌, ◌⊎◌, ℕ, ◌+◌, ◌^◌, ◌&&◌, Bool, true, false, not, ◌||◌, nat_lt, nat_le, ◌==◌, List, [], ◌∷◌, ◌++◌, length, map, Option, Some, None, is_some, unwrap_or, codes, Result, Ok, Err, if◌then◌else◌}
 use Rattle.std.specs.Option.{option_map_or}
 use Rattle.amqp_link_payloads.specs.Position.{position}
 use Rattle.amqp_link_payloads.specs.declared.error.DecodeError.{DecodeError}
@@ -34,7 +34,7 @@ use Rattle.amqp_link_core.specs.Held.{Held, held_bytes}
 use Rattle.amqp_link_endpoint.specs.Shown.{counted_attach}
 use Rattle.amqp_link_core.specs.declared.resumption.ResumingDelivery.{ResumingDelivery}
 use Rattle.amqp_link_core.specs.declared.resumption.ResumingDelivery.TheVariants.{Abort}
-use Rattle.amqp_link_exchange.specs.Exchanges.{deliveries_to_resume, outcomes_returned}
+use Rattle.amqp_link_exchange.specs.Exchanges.{deliveries_to_resume, outcomes_returned, unknown_aborted}
 use Rattle.amqp_link_split.specs.Room.{payload_limit}
 use Rattle.amqp_link_split.specs.Split.{IsFewestPieces}
 use Rattle.amqp_link_sender.specs.SenderAttaches.{sender_shown}
@@ -44,7 +44,7 @@ use Rattle.amqp_link_receiver.specs.ReceiverAttaches.{receiver_shown}
 use Rattle.amqp_link_receiver.specs.Receivers.{Receiver}
 use Rattle.amqp_link_ledger.specs.Fates.{Enters, HandsOut, Resolves, Withdraws, after}
 use Rattle.amqp_link_ledger.specs.Ledgers.{Ledger}
-use Rattle.amqp_link_worlds.specs.Resumptions.{entry_of, rest_of, resumes}
+use Rattle.amqp_link_worlds.specs.Resumptions.{entry_of, next_of, rest_of, resumes}
 use Rattle.amqp_link_worlds.specs.Wires.{OnWire, under, frames_of}
 use Rattle.amqp_link_worlds.specs.Worlds.{World, Phase, Apart, Halfway, Together, is_together, bytes_in, received_at, held_at}
 use Rattle.amqp_link_worlds.specs.declared.error.PairError.{PairError}
@@ -241,6 +241,13 @@ attach_tests w limit =
 -- the deliveries that an attach leaves to resume, by the unsettled maps of both endpoints
 abbrev pub list_to_resume : World → Entries ResumingDelivery
 list_to_resume w = deliveries_to_resume w.ledger.link.unsettled w.receiver.unsettled
+
+-- The same list, item by item: each delivery of the sender's map, by what the receiver holds of it, and then each that
+-- the receiver alone names, to be aborted.
+abbrev pub items_to_resume : World → Entries ResumingDelivery
+items_to_resume w =
+    map (λ e. (e.0, next_of e.1 (held_at w e.0))) w.ledger.link.unsettled
+    ++ unknown_aborted w.ledger.link.unsettled w.receiver.unsettled
 
 -- The ledger after an exchange: the outcomes that it returns are resolved, and then its list is handed out.
 abbrev pub ledger_together : ℕ → World → Ledger Target

@@ -2,8 +2,7 @@
 //! lemmas.
 //!
 //! Each function here does nothing: its contract is the law.
-ghost use Rattle.std.specs.Prelude.{◌≡◌, ◌⊎◌, [], ◌∷◌, ℕ, Bool, true, false, not, List, None, Some, Option, Ok, Result, IsSomeAnd, slice_get, ◌++◌};
-ghost use Rattle.std.specs.Map.{keys_of};
+ghost use Rattle.std.specs.Prelude.{◌≡◌, ◌⊎◌, [], ◌∷◌, ℕ, Bool, true, false, not, List, None, Some, Option, Ok, Result, IsSomeAnd, slice_get};
 ghost use Rattle.amqp_link_payloads.specs.declared.error.DecodeError.{DecodeError};
 ghost use Rattle.amqp_link_payloads.specs.declared.message.Message.{Message as TheMessage};
 ghost use Rattle.amqp_link_types.specs.Entries.{Tag, Entries, entry_at};
@@ -14,7 +13,7 @@ ghost use Rattle.amqp_link_types.specs.declared.types.errors.LinkStateError.{Lin
 ghost use Rattle.amqp_link_state.specs.declared.state.LinkState.TheVariants.{Unattached, AttachReceived, Attached, Detached};
 ghost use Rattle.amqp_link_core.specs.Held.{Held};
 ghost use Rattle.amqp_link_core.specs.declared.resumption.ResumingDelivery.{ResumingDelivery};
-ghost use Rattle.amqp_link_exchange.specs.Exchanges.{outcomes_returned, unknown_aborted};
+ghost use Rattle.amqp_link_exchange.specs.Exchanges.{outcomes_returned};
 ghost use Rattle.amqp_link_sender.specs.Senders.{next_tag};
 ghost use Rattle.amqp_link_ledger.specs.Fates.{IsRecorded, MovesOnce, fates_of, latest};
 ghost use Rattle.amqp_link_ledger.specs.declared.fate.Fate.TheVariants.{Pending, Resolved};
@@ -23,7 +22,7 @@ ghost use Rattle.amqp_link_worlds.specs.Callable.{CanSend, IsFree, CanGrant, Can
 ghost use Rattle.amqp_link_worlds.specs.Invariants.{IsWorld};
 ghost use Rattle.amqp_link_worlds.specs.Receiving.{CanReceive};
 ghost use Rattle.amqp_link_worlds.specs.PairRuns.{Does, FatesMoveOnce, HoldsWhatArrived, HoldsWhatWasSent, IsRun, Moment, RunsEvents, Step, is_out_after, is_send_of, tests_of, changes_held};
-ghost use Rattle.amqp_link_worlds.specs.Steps.{new_world, list_to_resume, later, sender_asking, receiver_at_limit, receiver_half_attached, receiver_together, Attaches, AttachStop, StopsAt, Grants, Sends, Arrives, Cuts, Resumes, PutsBack, HandsOutDelivery, Settles, after_hand_out, has_flag, attach_tests, send_tests, arrive_tests, cut_tests, next_tests, hand_out_tests, settle_tests, withdraw_tests, WithdrawsDelivery, SendsAbort, DropsAbort, AbortArrives};
+ghost use Rattle.amqp_link_worlds.specs.Steps.{new_world, items_to_resume, list_to_resume, later, sender_asking, receiver_at_limit, receiver_half_attached, receiver_together, Attaches, AttachStop, StopsAt, Grants, Sends, Arrives, Cuts, Resumes, PutsBack, HandsOutDelivery, Settles, after_hand_out, has_flag, attach_tests, send_tests, arrive_tests, cut_tests, next_tests, hand_out_tests, settle_tests, withdraw_tests, WithdrawsDelivery, SendsAbort, DropsAbort, AbortArrives};
 ghost use Rattle.amqp_link_worlds.specs.Wires.{OnWire, does_begin};
 ghost use Rattle.amqp_link_worlds.specs.Worlds.{World, is_out_at, Apart, Halfway, Good, IsOpen, IsRegistered, is_together, standing, entry_in, held_at, bytes_in, receiver_entry};
 ghost use Rattle.amqp_link_worlds.specs.declared.error.PairError.{PairError as Refusal};
@@ -130,13 +129,12 @@ pub fn an_attach_goes_in_four_steps()
 {}
 
 /// An attach resolves no delivery, and hands out each pending delivery once, in the order of the sender's
-/// map.
+/// map: to be sent again where the receiver holds nothing of it, otherwise to be resumed with what follows the bytes that
+/// are held. What the receiver alone names is to be aborted.
 pub fn an_attach_hands_out_each_delivery_once()
     ensures outcomes { (w : World) → IsWorld w → is_together w.phase ≡ false
         → outcomes_returned w.ledger.link.unsettled w.receiver.unsettled ≡ [] }
-    ensures tags { (w : World) → IsWorld w → is_together w.phase ≡ false
-        → keys_of (list_to_resume w)
-        ≡ keys_of w.ledger.link.unsettled ++ keys_of (unknown_aborted w.ledger.link.unsettled w.receiver.unsettled) }
+    ensures listed { (w : World) → IsWorld w → is_together w.phase ≡ false → list_to_resume w ≡ items_to_resume w }
 {}
 
 /// Each step and each run keeps the invariant.

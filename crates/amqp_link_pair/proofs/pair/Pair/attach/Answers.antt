@@ -1,10 +1,8 @@
-use Rattle.std.specs.Map.{keys_of}
-use Rattle.amqp_link_exchange.specs.Exchanges.{unknown_aborted}
 use Rattle.amqp_link_ledger.specs.Fates.{HandsOut, after}
-use Rattle.std.proofs.Common.{◌≡◌, ◌++◌, ap, sym, subst, rules, length, None, Err}
+use Rattle.std.proofs.Common.{◌≡◌, ap, sym, subst, rules, length, None, Err}
 use Rattle.amqp_link_types.specs.Refusals.{refusal}
 use Rattle.amqp_link_worlds.specs.Invariants.{IsWorld}
-use Rattle.amqp_link_worlds.specs.Steps.{Attaches, LeftByAttach, attach_tests}
+use Rattle.amqp_link_worlds.specs.Steps.{Attaches, LeftByAttach, attach_tests, items_to_resume}
 use Rattle.amqp_link_worlds.specs.Worlds.{World}
 use Rattle.amqp_link_worlds.specs.declared.error.PairError.TheVariants.{OutOfMemory}
 use Rattle.amqp_link_worlds.proofs.WorldLemmas.{IsWorld-attaches, Good-from_world}
@@ -80,7 +78,7 @@ returns-clause-done c =
 
 pub returns-clause-listed : goal.returns-clause-listed
 returns-clause-listed c =
-    subst (λ (v : World). keys_of (new c).resuming ≡ keys_of v.ledger.link.unsettled ++ keys_of (unknown_aborted v.ledger.link.unsettled v.receiver.unsettled)) c.self.view_is
+    subst (λ (v : World). (new c).resuming ≡ items_to_resume v) c.self.view_is
     (all_listed (world_of c.self.inside) (new c) c.args.limit (length c.in_ok-resuming.resuming.list) c.self.invariant.world (allowed c) (attached c).attaches)
 
 pub returns-clause-handed_out : goal.returns-clause-handed_out
