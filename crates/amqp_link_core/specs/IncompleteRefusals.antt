@@ -1,11 +1,12 @@
 -- Why a transfer of a delivery is refused (OASIS AMQP 1.0 core, 2.7.5).
-use Rattle.std.specs.Prelude.{ℕ, Bool, true, false, not, ◌||◌, List, [], ◌∷◌, ◌++◌, nat_eq, Option, Some, is_none}
+use Rattle.std.specs.Prelude.{◌≡◌, ℕ, Bool, true, false, not, ◌||◌, List, [], ◌∷◌, ◌++◌, nat_eq, Option, Some, is_none, Result, Ok, Err}
 use Rattle.std.specs.Str.{bytes_eq}
 use Rattle.amqp_link_types.specs.declared.types.transfer.Transfer.{Transfer}
 use Rattle.amqp_link_types.specs.declared.types.errors.ReceiverTransferError.{ReceiverTransferError}
 use Rattle.amqp_link_types.specs.declared.types.errors.ReceiverTransferError.TheVariants.{DeliveryIdIsNone, DeliveryTagIsNone, InconsistentFieldInMultiFrameDelivery, PayloadTooLong}
 use Rattle.amqp_link_payloads.specs.Sections.{is_too_long}
 use Rattle.amqp_link_core.specs.Held.{Held, held_bytes}
+use Rattle.amqp_link_core.specs.declared.incomplete_transfer.refused.RefusedTransfer.{RefusedTransfer}
 
 -- both are there, and not the same
 abbrev pub differs : {A : Type 0} → (A → A → Bool) → Option A → Option A → Bool
@@ -58,3 +59,18 @@ resume_tests held t payload =
 abbrev pub add_tests : Bool → Held → Transfer → List ℕ → List Test
 add_tests true held t payload = resume_tests held t payload
 add_tests false held t payload = append_tests held t payload
+
+-- the result of a call that hands a refused payload back, without the payload
+abbrev pub first_error : {A P : Type 0} → Result A (ReceiverTransferError × P) → Result A ReceiverTransferError
+first_error (Ok a) = Ok a
+first_error (Err (error, payload)) = Err error
+
+-- the result of a call that hands a refused transfer back, without the transfer
+abbrev pub with_error : {A : Type 0} → Result A RefusedTransfer → Result A ReceiverTransferError
+with_error (Ok a) = Ok a
+with_error (Err refused) = Err refused.error
+
+-- what is handed back is what was passed
+pub record AreReturned (t : Transfer) (bytes : List ℕ) (refused : RefusedTransfer) : Type 0 where
+  pub transfer : refused.transfer ≡ t
+  pub payload : refused.payload ≡ bytes

@@ -4,7 +4,7 @@
 //! arrived. The first transfer carries the id, tag and format of the delivery; a continuation may leave them
 //! out, and is refused if it carries others.
 ghost use Rattle.std.specs.Prelude.{◌≡◌, ◌++◌, [], ◌∷◌};
-ghost use Rattle.std.specs.Prelude.{List, Some, not, nat_eq, length, IfOk, OnOk, OnErr};
+ghost use Rattle.std.specs.Prelude.{List, Some, not, nat_eq, length, IfOk, IfErr, OnOk, OnErr};
 ghost use Rattle.std.specs.Str.{bytes_eq};
 ghost use Rattle.std.specs.Option.{option_or};
 ghost use Rattle.amqp_link_payloads.specs.Position.{position};
@@ -12,15 +12,17 @@ ghost use Rattle.amqp_link_core.specs.Merging.{Came, Merged, IsSilent, opening, 
 ghost use Rattle.amqp_link_core.specs.Held.{held_bytes};
 ghost use Rattle.amqp_link_types.specs.Refusals.{AnswersThenOutOfMemory};
 ghost use Rattle.amqp_link_core.specs.IncompleteRefusals.{start_tests, append_tests, long_test};
-ghost use Rattle.amqp_link_core.specs.IncompleteRefusals.{is_inconsistent};
+ghost use Rattle.amqp_link_core.specs.IncompleteRefusals.{AreReturned, is_inconsistent, with_error};
 ghost use Rattle.amqp_link_core.specs.IncompleteRefusals;
 
 mod merging;
 mod pieces;
+mod refused;
 mod resuming;
 
 use crate::incomplete_transfer::merging::merge;
 use crate::incomplete_transfer::pieces::push_piece;
+pub use crate::incomplete_transfer::refused::RefusedTransfer;
 use crate::position_carry::PositionCarry;
 use amqp_link_types::types::{DeliveryTag, Payload, ReceiverTransferError, Transfer};
 use std::alloc::{AllocError, Global};
@@ -56,7 +58,8 @@ impl Model for IncompleteTransfer {
 }
 
 impl IncompleteTransfer {
-    /// Begins a delivery with its first transfer, which it keeps as it is.
+    /// Begins a delivery with its first transfer, which it keeps as it is. A refused one is dropped with its payload;
+    /// `start_or_return` hands it back.
     ///
     /// Refused in this order: `DeliveryIdIsNone`, `DeliveryTagIsNone`, `PayloadTooLong`, and only
     /// then `OutOfMemory`. Reads the payload once, for its position.
@@ -72,13 +75,32 @@ impl IncompleteTransfer {
         ensures refused { AnswersThenOutOfMemory ReceiverTransferError.OutOfMemory
             result (start_tests transfer payload) }
     {
+        match IncompleteTransfer::start_or_return(alloc, transfer, payload) {
+            Ok(held) => Ok(held),
+            Err(refused) => Err(refused.into_error()),
+        }
+    }
+
+    /// The same, except that a refused transfer is handed back with its payload.
+    pub fn start_or_return(
+        alloc: Global,
+        transfer: Transfer,
+        payload: Payload,
+    ) -> Result<IncompleteTransfer, RefusedTransfer>
+        ensures ok { IfOk result (λ held.
+            held ≡ record { performative = transfer; pieces = payload ∷ [] }) }
+        ensures merged { IfOk result (λ held. Merged (opening transfer ∷ []) held.performative) }
+        ensures refused { AnswersThenOutOfMemory ReceiverTransferError.OutOfMemory
+            (with_error result) (start_tests transfer payload) }
+        ensures back { IfErr result (λ refused. AreReturned transfer payload refused) }
+    {
         if transfer.delivery_id.is_none() {
-            drop((transfer, payload));
-            return Err(ReceiverTransferError::DeliveryIdIsNone); // asked of a first transfer (2.7.5)
+            let error = ReceiverTransferError::DeliveryIdIsNone; // asked of a first transfer (2.7.5)
+            return Err(RefusedTransfer::new(error, transfer, payload));
         }
         if transfer.delivery_tag.is_none() {
-            drop((transfer, payload));
-            return Err(ReceiverTransferError::DeliveryTagIsNone);
+            let error = ReceiverTransferError::DeliveryTagIsNone;
+            return Err(RefusedTransfer::new(error, transfer, payload));
         }
         let mut pieces = Vec::new(alloc);
         match push_piece(&mut pieces, PositionCarry::new(), payload) {
@@ -87,9 +109,9 @@ impl IncompleteTransfer {
                 pieces,
                 carry,
             }),
-            Err(refused) => {
-                drop((transfer, pieces));
-                Err(refused)
+            Err((error, payload)) => {
+                drop(pieces);
+                Err(RefusedTransfer::new(error, transfer, payload))
             }
         }
     }
@@ -123,9 +145,29 @@ impl IncompleteTransfer {
             result (append_tests self.old transfer payload) }
         ensures err { OnErr result (self.new ≡ self.old) }
     {
+        match self.append(transfer, payload) {
+            Ok(()) => Ok(()),
+            Err(refused) => Err(refused.into_error()),
+        }
+    }
+
+    // The same, except that a refused transfer is handed back with its payload.
+    pub(crate) fn append(
+        &mut self,
+        transfer: Transfer,
+        payload: Payload,
+    ) -> Result<(), RefusedTransfer>
+        ensures merged { OnOk result ((came : List Came) → Merged came self.old.performative
+            → Merged (came ++ following transfer ∷ []) self.new.performative) }
+        ensures pieces { OnOk result (self.new.pieces ≡ self.old.pieces ++ payload ∷ []) }
+        ensures refused { AnswersThenOutOfMemory ReceiverTransferError.OutOfMemory
+            (with_error result) (append_tests self.old transfer payload) }
+        ensures back { IfErr result (λ refused. AreReturned transfer payload refused) }
+        ensures err { OnErr result (self.new ≡ self.old) }
+    {
         if self.is_inconsistent_with(&transfer) {
-            drop((transfer, payload));
-            return Err(ReceiverTransferError::InconsistentFieldInMultiFrameDelivery); // (2.7.5)
+            let error = ReceiverTransferError::InconsistentFieldInMultiFrameDelivery; // (2.7.5)
+            return Err(RefusedTransfer::new(error, transfer, payload));
         }
         self.add(transfer, payload, false)
     }
@@ -137,13 +179,14 @@ impl IncompleteTransfer {
         transfer: Transfer,
         payload: Payload,
         opens: bool,
-    ) -> Result<(), ReceiverTransferError>
+    ) -> Result<(), RefusedTransfer>
         ensures merged { OnOk result ((came : List Came) → Merged came self.old.performative
             → Merged (came ++ record { opens = opens; transfer = transfer } ∷ [])
             self.new.performative) }
         ensures pieces { OnOk result (self.new.pieces ≡ self.old.pieces ++ payload ∷ []) }
         ensures refused { AnswersThenOutOfMemory ReceiverTransferError.OutOfMemory
-            result (long_test (held_bytes self.old ++ payload)) }
+            (with_error result) (long_test (held_bytes self.old ++ payload)) }
+        ensures back { IfErr result (λ refused. AreReturned transfer payload refused) }
         ensures err { OnErr result (self.new ≡ self.old) }
     {
         match push_piece(&mut self.pieces, self.carry, payload) {
@@ -152,10 +195,7 @@ impl IncompleteTransfer {
                 merge(&mut self.performative, transfer, opens);
                 Ok(())
             }
-            Err(refused) => {
-                drop(transfer);
-                Err(refused)
-            }
+            Err((error, payload)) => Err(RefusedTransfer::new(error, transfer, payload)),
         }
     }
 

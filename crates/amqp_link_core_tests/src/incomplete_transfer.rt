@@ -8,6 +8,7 @@ use bytes::Bytes;
 use std::process::Abort;
 
 mod resuming;
+mod returning;
 
 // The state that a transfer carries.
 #[derive(Clone, Copy, Debug, PartialEq, Eq)]
@@ -86,8 +87,9 @@ fn shown_by(state: &Option<DeliveryState>) -> Shown {
 
 fn tag_of(rt: &(impl Abort + AllocGlobal), tag: Option<u8>) -> Option<DeliveryTag> {
     let byte = tag?;
-    let bytes = vec![in rt.alloc(); byte].expect(rt, "memory");
-    Some(DeliveryTag::from(bytes))
+    let alloc = rt.alloc();
+    let bytes = vec![in alloc; byte].or_else(|_| vec![in alloc; byte]);
+    Some(DeliveryTag::from(bytes.expect(rt, "memory")))
 }
 
 fn transfer_of(rt: &(impl Abort + AllocGlobal), row: Row) -> Transfer {

@@ -173,6 +173,64 @@ fn session_gets_transfers_that_begin_deliveries_in_mode_second(rt: HostRuntime) 
     assert_equal(&rt, &shown, &Some((Some((6, 6, 2)), Some((6, Some(4))))));
 }
 
+// What the session gets of a transfer with this id and tag, before the link notes that more of it is to come.
+fn noted(
+    rt: &(impl Abort + AllocGlobal),
+    link: &mut ReceiverLink<Target>,
+    (id, byte): (u32, u8),
+) -> Option<(u32, Option<u8>)> {
+    let transfer = Transfer {
+        delivery_id: Some(id),
+        delivery_tag: Some(tag_of(rt, byte)),
+        ..Transfer::default()
+    };
+    let name = link.copy_session_record(&transfer).expect(rt, "memory");
+    let shown = name_shown(&name);
+    link.note_transfer(true);
+    drop((transfer, name));
+    shown
+}
+
+// A caller that keeps the transfer gets the same of it.
+#[test]
+fn transfers_are_noted_apart(rt: HostRuntime) {
+    let mut link = second(&rt);
+    let first = noted(&rt, &mut link, (3, 1));
+    let begins = link.begins_delivery();
+    let next = noted(&rt, &mut link, (3, 1));
+    drop(link);
+    assert_equal(&rt, &first, &Some((3, Some(1))));
+    assert_equal(&rt, &begins, &false);
+    assert_equal(&rt, &next, &None);
+}
+
+// A link at count 5 and credit 4 whose sender has begun three deliveries, of which none is complete: the flow that is
+// sent.
+#[test]
+fn credit_is_what_is_left_up_to_the_limit(rt: HostRuntime) {
+    let mut link = link_with(
+        &rt,
+        LinkFlowStateInner {
+            delivery_count: 5,
+            link_credit: 4,
+            ..LinkFlowStateInner::default()
+        },
+    );
+    link.move_delivery_count(8);
+    let sent = flow_sent(&mut link, false, false);
+    drop(link);
+    let wanted = FlowFields {
+        handle: 7,
+        count: Some(8),
+        credit: Some(1),
+        available: None,
+        drain: false,
+        echo: false,
+        has_properties: false,
+    };
+    assert_equal(&rt, &sent, &Ok(Some(wanted)));
+}
+
 // The entry of a delivery, if it has one: its position, if its state is received.
 pub(crate) type Kept = Option<Option<(u32, u64)>>;
 

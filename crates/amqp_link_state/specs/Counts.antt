@@ -30,6 +30,14 @@ after_consuming n flow = record flow {
   link_credit = flow.link_credit - n;
 }
 
+-- A receiver at this count of its sender's: delivery-count + link-credit, up to which the sender may send, stays, so
+-- that the credit is what is left of it, and none if the sender is past it.
+abbrev pub moved_to : ℕ → LinkFlowStateInner → LinkFlowStateInner
+moved_to count own = record own {
+  delivery_count = count;
+  link_credit = granted own.delivery_count own.link_credit count;
+}
+
 -- ---- flows
 
 -- the flow state as a flow with this handle, without properties

@@ -1,37 +1,39 @@
 //! The pieces of a payload, and whether they can be counted.
 ghost use Rattle.std.specs.Prelude.{◌≡◌, ◌+◌, ◌^◌, ◌<◌, ◌≤◌, ◌++◌, ◌∷◌, []};
-ghost use Rattle.std.specs.Prelude.{false, length, take, slice_get, OnOk, OnErr, IfOk, IsSomeAnd};
+ghost use Rattle.std.specs.Prelude.{false, length, take, slice_get, OnOk, OnErr, IfOk, IfErr, IsSomeAnd};
 ghost use Rattle.std.specs.List.{concat};
 ghost use Rattle.amqp_link_core.specs.Carries.{HasPushed, IsKept};
 ghost use Rattle.amqp_link_types.specs.Refusals.{AnswersThenOutOfMemory};
-ghost use Rattle.amqp_link_core.specs.IncompleteRefusals.{long_test};
+ghost use Rattle.amqp_link_core.specs.IncompleteRefusals.{first_error, long_test};
 ghost use Rattle.amqp_link_payloads.specs.Sections.{is_too_long};
 
 use crate::position_carry::PositionCarry;
 use amqp_link_types::types::{Payload, ReceiverTransferError};
 use std::alloc::AllocError;
 
-// Adds a piece to pieces with this position, and returns the new position. If it is refused the pieces stay
-// as they are. Reads the new piece alone.
+// Adds a piece to pieces with this position, and returns the new position. If it is refused it is handed back, and the
+// pieces stay as they are. Reads the new piece alone.
 pub(crate) fn push_piece(
     pieces: &mut Vec<Payload>,
     carry: PositionCarry,
     piece: Payload,
-) -> Result<PositionCarry, ReceiverTransferError>
+) -> Result<PositionCarry, (ReceiverTransferError, Payload)>
     requires { HasPushed carry (concat pieces.old.items) }
     ensures pushed { OnOk result (pieces.new.items ≡ pieces.old.items ++ piece ∷ []) }
     ensures kept { IfOk result (λ next. IsKept next (concat pieces.new.items)) }
     ensures refused { AnswersThenOutOfMemory ReceiverTransferError.OutOfMemory
-        result (long_test (concat pieces.old.items ++ piece)) }
+        (first_error result) (long_test (concat pieces.old.items ++ piece)) }
+    ensures back { IfErr result (λ refused. refused.1 ≡ piece) }
     ensures err { OnErr result (pieces.new.items ≡ pieces.old.items) }
 {
     let mut next = carry;
     if let Err(refused) = next.push(&piece) {
-        drop(piece);
-        return Err(refused);
+        return Err((refused, piece));
     }
-    pieces.push(piece)?;
-    Ok(next)
+    match pieces.push(piece) {
+        Ok(()) => Ok(next),
+        Err(refused) => Err((ReceiverTransferError::OutOfMemory, refused.value)),
+    }
 }
 
 // The position of the end of pieces that are not too long. Reads them all.

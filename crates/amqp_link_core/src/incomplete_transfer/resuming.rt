@@ -1,14 +1,14 @@
 //! A delivery that was cut off, when it is resumed (2.6.13).
-ghost use Rattle.std.specs.Prelude.{◌≡◌, ◌++◌, [], ◌∷◌, List, IsSome, OnOk, OnErr, MatchOption, if◌then◌else◌};
+ghost use Rattle.std.specs.Prelude.{◌≡◌, ◌++◌, [], ◌∷◌, List, IsSome, IfErr, OnOk, OnErr, MatchOption, if◌then◌else◌};
 ghost use Rattle.std.specs.Option.{option_or};
 ghost use Rattle.amqp_link_payloads.specs.Position.{place};
 ghost use Rattle.amqp_link_core.specs.Merging.{Came, Merged, IsSilent, opening, resumed};
 ghost use Rattle.amqp_link_core.specs.Held.{held_bytes, KeepsFront};
 ghost use Rattle.amqp_link_types.specs.Refusals.{AnswersThenOutOfMemory};
-ghost use Rattle.amqp_link_core.specs.IncompleteRefusals.{add_tests, resume_tests, is_of_another};
+ghost use Rattle.amqp_link_core.specs.IncompleteRefusals.{AreReturned, add_tests, resume_tests, is_of_another, with_error};
 
 use crate::incomplete_transfer::pieces::{carry_of, cut_pieces};
-use crate::incomplete_transfer::{IncompleteTransfer, differs};
+use crate::incomplete_transfer::{IncompleteTransfer, RefusedTransfer, differs};
 use amqp_link_payloads::position::place_in;
 use amqp_link_types::types::{Payload, ReceiverTransferError, Transfer};
 use std::alloc::AllocError;
@@ -45,20 +45,57 @@ impl IncompleteTransfer {
             result (resume_tests self.old transfer payload) }
         ensures err { OnErr result (self.new ≡ self.old) }
     {
+        match self.resume(transfer, payload) {
+            Ok(()) => Ok(()),
+            Err(refused) => Err(refused.into_error()),
+        }
+    }
+
+    // The same, except that a refused transfer is handed back with its payload.
+    fn resume(&mut self, transfer: Transfer, payload: Payload) -> Result<(), RefusedTransfer>
+        ensures merged { OnOk result ((came : List Came) → Merged came self.old.performative
+            → Merged (came ++ opening transfer ∷ []) self.new.performative) }
+        ensures pieces { OnOk result (self.new.pieces ≡ self.old.pieces ++ payload ∷ []) }
+        ensures refused { AnswersThenOutOfMemory ReceiverTransferError.OutOfMemory
+            (with_error result) (resume_tests self.old transfer payload) }
+        ensures back { IfErr result (λ refused. AreReturned transfer payload refused) }
+        ensures err { OnErr result (self.new ≡ self.old) }
+    {
         if transfer.delivery_id.is_none() {
-            drop((transfer, payload));
-            return Err(ReceiverTransferError::DeliveryIdIsNone); // asked of a first transfer (2.7.5)
+            let error = ReceiverTransferError::DeliveryIdIsNone; // asked of a first transfer (2.7.5)
+            return Err(RefusedTransfer::new(error, transfer, payload));
         }
         if transfer.delivery_tag.is_none() {
-            drop((transfer, payload));
-            return Err(ReceiverTransferError::DeliveryTagIsNone);
+            let error = ReceiverTransferError::DeliveryTagIsNone;
+            return Err(RefusedTransfer::new(error, transfer, payload));
         }
         if self.is_another_than_of(&transfer) {
-            drop((transfer, payload));
-            let refused = ReceiverTransferError::InconsistentFieldInMultiFrameDelivery;
-            return Err(refused);
+            let error = ReceiverTransferError::InconsistentFieldInMultiFrameDelivery;
+            return Err(RefusedTransfer::new(error, transfer, payload));
         }
         self.add(transfer, payload, true)
+    }
+
+    /// As `try_add`, except that a refused transfer is handed back with its payload.
+    pub fn add_or_return(
+        &mut self,
+        begins_delivery: bool,
+        transfer: Transfer,
+        payload: Payload,
+    ) -> Result<(), RefusedTransfer>
+        ensures merged { OnOk result ((came : List Came) → Merged came self.old.performative
+            → Merged (came ++ record { opens = begins_delivery; transfer = transfer } ∷ [])
+            self.new.performative) }
+        ensures pieces { OnOk result (self.new.pieces ≡ self.old.pieces ++ payload ∷ []) }
+        ensures refused { AnswersThenOutOfMemory ReceiverTransferError.OutOfMemory
+            (with_error result) (add_tests begins_delivery self.old transfer payload) }
+        ensures back { IfErr result (λ refused. AreReturned transfer payload refused) }
+        ensures err { OnErr result (self.new ≡ self.old) }
+    {
+        if !begins_delivery {
+            return self.append(transfer, payload);
+        }
+        self.resume(transfer, payload)
     }
 
     /// Adds any further transfer of the delivery, by whether it begins a delivery in this attachment: the one that does

@@ -50,12 +50,24 @@ impl<T: LinkTarget> ReceiverLink<T> {
             return Err(LinkRelayError::OutOfMemory);
         };
         // All allocations are done: from here on nothing can fail.
-        self.more = transfer.more;
+        self.note_transfer(transfer.more);
         Ok((frame_of(transfer, payload), session))
     }
 
-    // The delivery id and tag that the session gets with a transfer, if any.
-    fn copy_session_record(
+    /// Notes that a transfer has arrived, and whether more of its delivery is to come. `on_incoming_transfer` does so
+    /// itself; a caller that keeps the transfer until all that it needs is allocated calls this instead, and then
+    /// `copy_session_record` before it. Does not allocate.
+    pub fn note_transfer(&mut self, more: bool)
+        ensures { self.new ≡ record self.old { more = more } }
+    {
+        self.more = more;
+    }
+
+    /// The delivery id and the tag that the session has to keep of this transfer, if any: what `on_incoming_transfer`
+    /// returns beside the frame. Ask before that, or before `note_transfer`.
+    ///
+    /// Refused if it is out of memory, for the copy of the tag.
+    pub fn copy_session_record(
         &self,
         transfer: &Transfer,
     ) -> Result<Option<(DeliveryNumber, DeliveryTag)>, AllocError>

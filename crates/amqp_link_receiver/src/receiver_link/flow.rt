@@ -2,14 +2,25 @@
 ghost use Rattle.std.specs.Prelude.{◌≡◌, ◌↔◌, true, None, Ok, Err};
 ghost use Rattle.std.specs.Prelude.{IfOk, IsErrOf, IsSomeAnd, OnOk, OnErr, MatchOption, is_some};
 ghost use Rattle.amqp_link_state.specs.Counts.{receiver_after, receiver_reply};
-ghost use Rattle.amqp_link_state.specs.Counts.{with_stated, stated_flow};
+ghost use Rattle.amqp_link_state.specs.Counts.{moved_to, with_stated, stated_flow};
 
 use crate::receiver_link::ReceiverLink;
 use amqp_link_endpoint::endpoint::target::LinkTarget;
 use amqp_link_types::frame::LinkFrame;
-use amqp_link_types::types::{FlowError, LinkFlow, LinkRelayError};
+use amqp_link_types::types::{FlowError, LinkFlow, LinkRelayError, SequenceNo};
 
 impl<T: LinkTarget> ReceiverLink<T> {
+    /// Moves the delivery-count to the sender's, as the caller has seen it (2.6.7): the one of its attach or of its last
+    /// flow, and one for each delivery that it has begun since. `on_complete_transfer` counts what is delivered, which
+    /// differs from that by each resumed delivery, and by each one that was aborted after its first transfer. Up to where
+    /// the sender may send stays: the link-credit is what is left of it, and 0 if the sender is past it. Does not
+    /// allocate.
+    pub fn move_delivery_count(&mut self, count: SequenceNo)
+        ensures { self.new ≡ record self.old { flow_state = moved_to count self.old.flow_state } }
+    {
+        self.inner.flow_state.move_delivery_count(count);
+    }
+
     /// Sets the link-credit and the drain flag, each if one is passed, and returns the flow to send: the
     /// delivery-count, the link-credit and the drain flag as they are then, and the properties if they are to
     /// be included. `available` is left out, since only the sender knows it.

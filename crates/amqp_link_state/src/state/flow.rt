@@ -4,7 +4,7 @@
 ghost use Rattle.std.specs.Prelude.{◌≡◌, ◌↔◌, ◌+◌, ◌%◌, ◌^◌, ◌<◌, ◌≤◌, true, if◌then◌else◌, None};
 ghost use Rattle.std.specs.Prelude.{IfOk, IfErr, IsErr, OnErr, OnOk, is_some};
 ghost use Rattle.std.specs.Int.{w32, to_be_bytes};
-ghost use Rattle.amqp_link_state.specs.Counts.{sdiff, count_limit, after_consuming};
+ghost use Rattle.amqp_link_state.specs.Counts.{sdiff, count_limit, after_consuming, moved_to};
 ghost use Rattle.amqp_link_state.specs.Counts;
 ghost use Rattle.amqp_link_state.specs.Counts.{flow_of, credit_after, sender_after, sender_reply};
 ghost use Rattle.amqp_link_state.specs.Counts.{receiver_after, receiver_reply, with_stated, stated_flow};
@@ -167,6 +167,16 @@ impl LinkFlowState<ReceiverMarker> {
         }
         state.spend(n);
         Ok(())
+    }
+
+    /// Moves the delivery-count to the sender's, as the receiver has seen it. Up to where the sender may send stays: the
+    /// link-credit is what is left of delivery-count + link-credit, and 0 if the sender is past it. Does not allocate.
+    pub fn move_delivery_count(&mut self, count: SequenceNo)
+        ensures { self.new ≡ moved_to count self.old }
+    {
+        let state = &mut self.inner;
+        state.link_credit = granted(state.delivery_count, state.link_credit, count);
+        state.delivery_count = count;
     }
 
     /// Sets the link-credit and the drain flag, each if one is passed, and returns the flow state afterwards

@@ -5,11 +5,11 @@ use Rattle.amqp_link_core.specs.Carries.{IsKept}
 use Rattle.amqp_link_core.proofs.CountLemmas.{not_refused}
 use Rattle.amqp_link_core.proofs.incomplete_transfer.pieces.push_piece.Goals as goal
 
-pub returns-clause-kept : goal.returns-clause-kept
-returns-clause-kept c =
+pub returns-in-Ok-clause-kept : goal.returns-in-Ok-clause-kept
+returns-in-Ok-clause-kept c =
     let front = concat c.args.pieces.now.items in
     let all : concat c.push-2.new.self.items ≡ front ++ c.args.piece
-    = ap concat c.in_ok-push.ensures.items ∙ concat_push c.args.pieces.now.items c.args.piece in
+    = ap concat c.in-Ok.ensures.items ∙ concat_push c.args.pieces.now.items c.args.piece in
     subst (IsKept c.push.new.self) (sym all) (record {
       pushed = c.in_default.ensures.pushed front c.requires;
       counted = not_refused (front ++ c.args.piece) (c.in_default.ensures.refused front c.requires);
