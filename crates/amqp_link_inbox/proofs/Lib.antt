@@ -1,0 +1,9 @@
+pub mod HandledLemmas
+pub mod IdLemmas
+pub mod InfosLemmas
+pub mod KeptLemmas
+pub mod OtherLemmas
+pub mod RemovedLemmas
+pub mod StatedLemmas
+pub mod StoreLemmas
+pub mod Worked
