@@ -1,3 +1,4 @@
+pub mod BytesLemmas
 pub mod HandledLemmas
 pub mod IdLemmas
 pub mod InfosLemmas

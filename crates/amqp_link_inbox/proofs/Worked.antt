@@ -7,6 +7,7 @@ use Rattle.amqp_link_types.specs.Refusals.{refusal}
 use Rattle.amqp_link_state.specs.declared.state.LinkState.TheVariants.{Attached, Detached}
 use Rattle.amqp_link_types.specs.Entries.{Entries}
 use Rattle.amqp_link_inbox.specs.Attaching.{is_stated_in, leaves_all, without_ids}
+use Rattle.amqp_link_inbox.specs.Bytes.{bytes_at, bytes_before}
 use Rattle.amqp_link_inbox.specs.Disposing.{after_settling, info_to_dispose, infos_to_dispose, outcome_refusal_in, settled_at}
 use Rattle.amqp_link_inbox.specs.Keeping.{empty_test, finished}
 use Rattle.amqp_link_inbox.specs.Storing.{added_arrival, first_arrival, is_unsettled, stage_at, stored}
@@ -48,6 +49,15 @@ bytes_of_a_known_one = refl
 
 nothing_of_a_known_one : refusal (empty_test []) ≡ None
 nothing_of_a_known_one = refl
+
+nothing_held : bytes_at one (1 ∷ []) ≡ None
+nothing_held = refl
+
+new_one_stands_alone : bytes_before true (Some (7 ∷ [])) ≡ []
+new_one_stands_alone = refl
+
+old_bytes_first : bytes_before false (Some (7 ∷ [])) ≡ 7 ∷ []
+old_bytes_first = refl
 
 -- ---- what is kept
 

@@ -1,4 +1,5 @@
 pub mod Attaching
+pub mod Bytes
 pub mod Disposing
 pub mod Flows
 pub mod Inboxes
