@@ -1,16 +1,13 @@
 //! What an inbox keeps of all deliveries, with what its link states of them.
-ghost use Rattle.std.specs.Prelude.{◌≡◌, ◌++◌, ◌∷◌, ◌<◌, [], false, true, not, None, Some, length, is_some};
-ghost use Rattle.std.specs.Prelude.{IfErr, IfOk, IfSome, IsSome, OnErr, OnOk, option_copied};
-ghost use Rattle.amqp_link_types.specs.Entries.{entry_at, with_entry, without_entry};
-ghost use Rattle.amqp_link_types.specs.Refusals.{AnswersOrOutOfMemory};
-ghost use Rattle.amqp_link_core.specs.IncompleteRefusals.{AreReturned, start_tests, with_error};
+ghost use Rattle.std.specs.Prelude.{◌≡◌, ◌<◌, [], false, true, not, None, Some, length};
+ghost use Rattle.std.specs.Prelude.{IfOk, option_copied};
+ghost use Rattle.amqp_link_types.specs.Entries.{entry_at};
 ghost use Rattle.amqp_link_receiver.specs.ReceiverDeliveries.{forgotten};
 ghost use Rattle.amqp_link_types.specs.Entries.{without_entries};
 ghost use Rattle.amqp_link_inbox.specs.Attaching;
 ghost use Rattle.amqp_link_inbox.specs.Attaching.{kept_after, forgotten_tags, without_ids};
-ghost use Rattle.amqp_link_inbox.specs.Keeping.{addition_tests};
 ghost use Rattle.amqp_link_inbox.specs.Storing;
-ghost use Rattle.amqp_link_inbox.specs.Storing.{AddsTo, Begins, added_arrival, dropped, first_arrival, stage_at, stated, stored};
+ghost use Rattle.amqp_link_inbox.specs.Storing.{dropped, stage_at, stated};
 
 mod receiving;
 pub(crate) mod settling;

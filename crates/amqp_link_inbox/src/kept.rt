@@ -1,5 +1,5 @@
 //! What an inbox keeps of a delivery (2.6.12).
-ghost use Rattle.std.specs.Prelude.{◌≡◌, ◌||◌, [], not, true, IfErr, OnErr, OnOk};
+ghost use Rattle.std.specs.Prelude.{◌≡◌, ◌||◌, [], not, IfErr, OnErr, OnOk};
 ghost use Rattle.amqp_link_types.specs.Refusals.{AnswersExactly, AnswersThenOutOfMemory};
 ghost use Rattle.amqp_link_core.specs.IncompleteRefusals.{AreReturned, with_error};
 ghost use Rattle.amqp_link_receiver.specs.ReceiverDeliveries;

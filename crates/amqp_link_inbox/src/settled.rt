@@ -1,5 +1,5 @@
 //! Complete deliveries that their sender has settled, in the order in which they became so.
-ghost use Rattle.std.specs.Prelude.{◌≡◌, ◌++◌, ◌∷◌, ◌<◌, [], length, Some, OnOk, IfSome, IfNone, option_map};
+ghost use Rattle.std.specs.Prelude.{◌≡◌, ◌++◌, ◌∷◌, ◌<◌, [], length, OnOk, IfSome, IfNone};
 
 use amqp_link_core::incomplete_transfer::IncompleteTransfer;
 use std::alloc::{AllocError, Global};

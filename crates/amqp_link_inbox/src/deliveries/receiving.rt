@@ -1,5 +1,5 @@
 //! A transfer is added to what is kept of its delivery (2.7.5).
-ghost use Rattle.std.specs.Prelude.{◌≡◌, ◌++◌, ◌&&◌, ◌||◌, ◌<◌, [], false, true, not, None, Some};
+ghost use Rattle.std.specs.Prelude.{◌≡◌, ◌++◌, ◌&&◌, ◌||◌, ◌<◌, false, true, not, None, Some};
 ghost use Rattle.std.specs.Prelude.{ℕ, List, IfErr, IfOk, IfSome, IsSome, OnErr, OnOk, option_map, if◌then◌else◌};
 ghost use Rattle.amqp_link_types.specs.Entries.{entry_at, without_entry};
 ghost use Rattle.amqp_link_types.specs.Refusals.{AnswersOrOutOfMemory, AnswersThenOutOfMemory};
