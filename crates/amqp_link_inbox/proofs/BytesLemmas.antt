@@ -12,7 +12,7 @@ use Rattle.amqp_link_receiver.specs.ReceiverDeliveries.{is_settled}
 use Rattle.amqp_link_receiver.specs.Receivers.{Receiver}
 use Rattle.amqp_link_inbox.specs.Bytes.{IsHeld, Wait, bytes_at, bytes_before, bytes_in, bytes_kept, if_held}
 use Rattle.amqp_link_inbox.specs.Inboxes.{Arrives, Handles, InboxState, begins, is_new, store_of, tag_of}
-use Rattle.amqp_link_inbox.specs.Keeping.{Grows, IsAdded, finished, first_kept, has_begun}
+use Rattle.amqp_link_inbox.specs.KeptDeliveries.{Grows, IsAdded, finished, first_kept, has_begun}
 use Rattle.amqp_link_inbox.specs.Storing.{AddsTo, IsStated, Store, added_arrival, first_arrival, first_held, held_in, next_arrival, stored, stored_by}
 use Rattle.amqp_link_inbox.specs.declared.arrival.Arrival.{Arrival}
 use Rattle.amqp_link_inbox.specs.declared.arrival.Arrival.TheVariants as arrival

@@ -5,7 +5,7 @@ use Rattle.std.specs.Map.{values_of}
 use Rattle.std.specs.Prelude.{slice_get}
 use Rattle.indexmap.specs.IndexMap.{set_value_at}
 use Rattle.amqp_link_types.specs.Entries.{Entries}
-use Rattle.amqp_link_inbox.specs.Attaching.{without_ids}
+use Rattle.amqp_link_inbox.specs.InboxAttaches.{without_ids}
 use Rattle.amqp_link_inbox.specs.declared.kept.Kept.{Kept}
 
 same_some : {X : Type 0} (x y : X) → Some x ≡ Some y → x ≡ y

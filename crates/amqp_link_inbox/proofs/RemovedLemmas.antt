@@ -41,7 +41,7 @@ any_tag : (p : Tag → Bool) (infos : List Info) → list_any p (tags_of infos) 
 any_tag p [] = refl
 any_tag p (info ∷ infos) = ap (λ r. p info.delivery_tag || r) (any_tag p infos)
 
-eq_turned : (a b : Tag) → bytes_eq a b ≡ bytes_eq b a
+pub eq_turned : (a b : Tag) → bytes_eq a b ≡ bytes_eq b a
 eq_turned a b = by (bytes_eq a b) (bytes_eq b a) (bytes_eq-Decides a b) (bytes_eq-Decides b a)
   where
     by : (x y : Bool) → Decides x (a ≡ b) → Decides y (b ≡ a) → x ≡ y
@@ -104,7 +104,7 @@ module _ (f : Info → Bool) (state : DeliveryState) (infos : List Info) (entrie
       by true d = ap (λ h. h && (f info && true)) (ap (λ t. is_some (entry_at unsettled t)) (sym (d.0 refl)) ∙ here)
       by false d = ap (λ r. has info && r) (sym (and_false (f info))) ∙ sym (and_false (has info)) ∙ and_false (f info)
 
-  alike : (tag : Tag) → is_some (entry_at unsettled tag) ≡ true
+  pub alike : (tag : Tag) → is_some (entry_at unsettled tag) ≡ true
       → list_any (bytes_eq tag) (tags_of (filter f (kept_in_order unsettled infos))) ≡ list_any (bytes_eq tag) (tags_of (filter f infos))
   alike tag here =
       any_tag (bytes_eq tag) (filter f (kept_in_order unsettled infos))

@@ -15,10 +15,10 @@ use Rattle.amqp_link_dispositions.specs.Keeping.{after_one, map_after_sender_dis
 use Rattle.amqp_link_core.specs.Held.{Held}
 use Rattle.amqp_link_receiver.specs.ReceiverDeliveries.{is_settled}
 use Rattle.amqp_link_receiver.specs.Receivers.{Receiver}
-use Rattle.amqp_link_inbox.specs.Attaching.{kept_after, without_ids}
+use Rattle.amqp_link_inbox.specs.InboxAttaches.{kept_after, without_ids}
 use Rattle.amqp_link_inbox.specs.Disposing.{after_settling, settled_at, settled_in}
 use Rattle.amqp_link_inbox.specs.Inboxes.{Handles}
-use Rattle.amqp_link_inbox.specs.Keeping.{first_kept, has_begun}
+use Rattle.amqp_link_inbox.specs.KeptDeliveries.{first_kept, has_begun}
 use Rattle.amqp_link_inbox.specs.Storing.{AddsTo, IsStated, Store, dropped, first_held, is_unsettled, stated, stated_by, stored, stored_by}
 use Rattle.amqp_link_inbox.specs.Taking.{taken_from, with_taken}
 use Rattle.amqp_link_inbox.specs.declared.arrival.Arrival.{Arrival}

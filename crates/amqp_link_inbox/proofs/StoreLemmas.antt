@@ -9,7 +9,7 @@ use Rattle.amqp_link_types.specs.Entries.{Tag, Entries, entry_at, with_entry, wi
 use Rattle.amqp_link_types.proofs.MapLemmas.{false_is_not_true, put-same}
 use Rattle.amqp_link_core.specs.Held.{Held}
 use Rattle.amqp_link_inbox.specs.Disposing.{settled_at, settled_in}
-use Rattle.amqp_link_inbox.specs.Keeping.{IsAdded, has_begun}
+use Rattle.amqp_link_inbox.specs.KeptDeliveries.{IsAdded, has_begun}
 use Rattle.amqp_link_inbox.specs.Storing.{AddsTo, Store, added_arrival, held_in, stated, stored, stored_by}
 use Rattle.amqp_link_inbox.specs.Taking.{taken_from, with_taken}
 use Rattle.amqp_link_inbox.specs.declared.arrival.Arrival.{Arrival}

@@ -6,10 +6,10 @@ use Rattle.amqp_link_types.specs.declared.types.definitions.ReceiverSettleMode.T
 use Rattle.amqp_link_types.specs.Refusals.{refusal}
 use Rattle.amqp_link_state.specs.declared.state.LinkState.TheVariants.{Attached, Detached}
 use Rattle.amqp_link_types.specs.Entries.{Entries}
-use Rattle.amqp_link_inbox.specs.Attaching.{is_stated_in, leaves_all, without_ids}
+use Rattle.amqp_link_inbox.specs.InboxAttaches.{is_stated_in, leaves_all, without_ids}
 use Rattle.amqp_link_inbox.specs.Bytes.{bytes_at, bytes_before}
 use Rattle.amqp_link_inbox.specs.Disposing.{after_settling, info_to_dispose, infos_to_dispose, outcome_refusal_in, settled_at}
-use Rattle.amqp_link_inbox.specs.Keeping.{empty_test, finished}
+use Rattle.amqp_link_inbox.specs.KeptDeliveries.{empty_test, finished}
 use Rattle.amqp_link_inbox.specs.Storing.{added_arrival, first_arrival, is_unsettled, stage_at, stored}
 use Rattle.amqp_link_inbox.specs.Taking.{complete_of, settled_refusal, take_refusal}
 use Rattle.amqp_link_inbox.specs.declared.arrival.Arrival.TheVariants as arrival

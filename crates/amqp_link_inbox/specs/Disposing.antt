@@ -7,7 +7,7 @@ use Rattle.amqp_link_types.specs.Entries.{Tag, Entries, entry_at, without_entry}
 use Rattle.amqp_link_types.specs.declared.types.definitions.ReceiverSettleMode.{ReceiverSettleMode}
 use Rattle.amqp_link_dispositions.specs.Keeping.{is_settled_one, tags_of}
 use Rattle.amqp_link_receiver.specs.Completing.{may_receive}
-use Rattle.amqp_link_inbox.specs.Keeping.{has_begun}
+use Rattle.amqp_link_inbox.specs.KeptDeliveries.{has_begun}
 use Rattle.amqp_link_inbox.specs.Storing.{Store, stored}
 use Rattle.amqp_link_inbox.specs.declared.error.DisposeError.{DisposeError}
 use Rattle.amqp_link_inbox.specs.declared.error.DisposeError.TheVariants as error

@@ -1,9 +1,9 @@
-pub mod Attaching
 pub mod Bytes
 pub mod Disposing
 pub mod Flows
+pub mod InboxAttaches
 pub mod Inboxes
-pub mod Keeping
+pub mod KeptDeliveries
 pub mod Queues
 pub mod Storing
 pub mod Taking

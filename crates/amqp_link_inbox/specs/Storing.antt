@@ -9,7 +9,7 @@ use Rattle.amqp_link_core.specs.Held.{Held, held_bytes}
 use Rattle.amqp_link_core.specs.IncompleteRefusals.{Test}
 use Rattle.amqp_link_receiver.specs.ReceiverDeliveries.{forgotten, is_settled, with_kept_state}
 use Rattle.amqp_link_receiver.specs.Receivers.{Receiver}
-use Rattle.amqp_link_inbox.specs.Keeping.{IsAdded, addition_tests, first_kept, has_begun, stage_of}
+use Rattle.amqp_link_inbox.specs.KeptDeliveries.{IsAdded, addition_tests, first_kept, has_begun, stage_of}
 use Rattle.amqp_link_inbox.specs.declared.arrival.Arrival.{Arrival}
 use Rattle.amqp_link_inbox.specs.declared.arrival.Arrival.TheVariants as arrival
 use Rattle.amqp_link_inbox.specs.declared.kept.Contents.{Contents}

@@ -4,8 +4,8 @@ ghost use Rattle.std.specs.Prelude.{IfOk, option_copied};
 ghost use Rattle.amqp_link_types.specs.Entries.{entry_at};
 ghost use Rattle.amqp_link_receiver.specs.ReceiverDeliveries.{forgotten};
 ghost use Rattle.amqp_link_types.specs.Entries.{without_entries};
-ghost use Rattle.amqp_link_inbox.specs.Attaching;
-ghost use Rattle.amqp_link_inbox.specs.Attaching.{kept_after, forgotten_tags, without_ids};
+ghost use Rattle.amqp_link_inbox.specs.InboxAttaches;
+ghost use Rattle.amqp_link_inbox.specs.InboxAttaches.{kept_after, forgotten_tags, without_ids};
 ghost use Rattle.amqp_link_inbox.specs.Storing;
 ghost use Rattle.amqp_link_inbox.specs.Storing.{dropped, stage_at, stated};
 
@@ -142,7 +142,7 @@ impl Deliveries {
         alloc: Global,
         attach: &Attach,
     ) -> Result<Vec<Forgotten>, AllocError>
-        ensures { IfOk result (λ forgotten. forgotten.items ≡ Attaching.forgotten_by attach.now self.now.entries) }
+        ensures { IfOk result (λ forgotten. forgotten.items ≡ InboxAttaches.forgotten_by attach.now self.now.entries) }
     {
         let mut forgotten = Vec::new(alloc);
         for (tag, kept) in &self.entries {
@@ -159,7 +159,7 @@ impl Deliveries {
 
 // Whether an attach says that the sender does not know the delivery with this tag.
 fn does_forget(attach: &Attach, tag: &DeliveryTag) -> bool
-    ensures { result ≡ Attaching.forgets attach.now tag.now }
+    ensures { result ≡ InboxAttaches.forgets attach.now tag.now }
 {
     if attach.incomplete_unsettled {
         return false;

@@ -3,8 +3,8 @@ ghost use Rattle.std.specs.Prelude.{◌≡◌, ◌||◌, [], not, IfErr, OnErr, 
 ghost use Rattle.amqp_link_types.specs.Refusals.{AnswersExactly, AnswersThenOutOfMemory};
 ghost use Rattle.amqp_link_core.specs.IncompleteRefusals.{AreReturned, with_error};
 ghost use Rattle.amqp_link_receiver.specs.ReceiverDeliveries;
-ghost use Rattle.amqp_link_inbox.specs.Keeping;
-ghost use Rattle.amqp_link_inbox.specs.Keeping.{Grows, IsAdded, addition_tests, completed, empty_test, finished, first_kept, stage_of, tests_in};
+ghost use Rattle.amqp_link_inbox.specs.KeptDeliveries;
+ghost use Rattle.amqp_link_inbox.specs.KeptDeliveries.{Grows, IsAdded, addition_tests, completed, empty_test, finished, first_kept, stage_of, tests_in};
 
 use amqp_link_core::incomplete_transfer::{IncompleteTransfer, RefusedTransfer};
 use amqp_link_types::types::{
@@ -145,7 +145,7 @@ impl Kept {
 
     // Whether its last transfer has not arrived.
     pub(crate) fn has_begun(&self) -> bool
-        ensures { result ≡ Keeping.has_begun self.now.contents }
+        ensures { result ≡ KeptDeliveries.has_begun self.now.contents }
     {
         matches!(self.contents, Contents::Begun(_))
     }

@@ -6,7 +6,7 @@ use amqp_link_inbox::{Arrival, DisposeError};
 
 // The outcome that is kept while the link is not attached goes out with the attach: the peer settles the delivery, and
 // states it no more.
-const CUT_TWICE: [Row; 16] = [
+pub(crate) const CUT_TWICE: [Row; 16] = [
     (Attach(&[]), Seen::Forgotten(0), 0, 0),
     (Grant(1), Seen::Done, 1, 0),
     (
@@ -54,7 +54,7 @@ fn a_refused_growth_loses_nothing(rt: HostRuntime) {
 
 // Three deliveries, of which the third is disposed of with the others once it was taken: by one disposition for ids that follow
 // each other.
-const THREE: [Row; 12] = [
+pub(crate) const THREE: [Row; 12] = [
     (Attach(&[]), Seen::Forgotten(0), 0, 0),
     (Grant(3), Seen::Done, 3, 0),
     (

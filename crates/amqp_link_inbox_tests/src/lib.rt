@@ -9,4 +9,6 @@ mod faults;
 #[cfg(test)]
 mod interrupted;
 #[cfg(test)]
+mod lists;
+#[cfg(test)]
 mod script;

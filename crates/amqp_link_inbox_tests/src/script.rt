@@ -1,5 +1,6 @@
 //! Scripts of calls on an inbox, with what each returns.
 use crate::assertions::assert_equal_at;
+use amqp_link_core::incomplete_transfer::RefusedTransfer;
 use amqp_link_endpoint::endpoint::{LinkDetach, LinkExt};
 use amqp_link_inbox::{Arrival, Arrived, DisposeError, Inbox, Stage, TakeError};
 use amqp_link_tests_support::links::{attach_of, parts};
@@ -106,7 +107,7 @@ pub(crate) fn new_inbox(rt: &(impl Abort + AllocGlobal)) -> Inbox<Target> {
 }
 
 // The peer's attach.
-fn theirs(alloc: Global, stated: &[u8], incomplete: bool) -> Result<Attach, AllocError> {
+pub(crate) fn theirs(alloc: Global, stated: &[u8], incomplete: bool) -> Result<Attach, AllocError> {
     let mut map = UnsettledMap::new(alloc);
     for byte in stated {
         drop(map.put(tag_of(alloc, *byte)?, None)?);
@@ -188,7 +189,7 @@ fn names_of(frame: Frame) -> Option<(u32, u8)> {
     }
 }
 
-fn transfer_of(alloc: Global, frame: Frame, more: bool) -> Result<Transfer, AllocError> {
+pub(crate) fn transfer_of(alloc: Global, frame: Frame, more: bool) -> Result<Transfer, AllocError> {
     let names = names_of(frame);
     Ok(Transfer {
         delivery_id: names.map(|names| names.0),
@@ -229,7 +230,12 @@ fn arrive(
         drop(transfer);
         return Seen::OutOfMemory;
     };
-    match inbox.on_incoming_transfer(transfer, payload) {
+    arrived(inbox.on_incoming_transfer(transfer, payload))
+}
+
+// What the answer to a transfer shows.
+pub(crate) fn arrived(answer: Result<Arrived, RefusedTransfer>) -> Seen {
+    match answer {
         Ok(came) => {
             let seen = seen_of(&came);
             drop(came);
@@ -245,13 +251,13 @@ fn arrive(
     }
 }
 
-fn bytes_are(delivery: Delivery<Whole>, bytes: &[u8]) -> Seen {
+pub(crate) fn bytes_are(delivery: Delivery<Whole>, bytes: &[u8]) -> Seen {
     let are = delivery.body().0.as_slice() == bytes;
     drop(delivery);
     Seen::Taken(are)
 }
 
-fn why_not_taken(error: TakeError) -> Seen {
+pub(crate) fn why_not_taken(error: TakeError) -> Seen {
     let why = match &error {
         TakeError::UnknownTag => Untaken::Unknown,
         TakeError::NotComplete => Untaken::NotComplete,
@@ -283,14 +289,14 @@ fn take_settled(inbox: &mut Inbox<Target>, bytes: &[u8]) -> Seen {
     }
 }
 
-fn disposed(error: DisposeError) -> Seen {
+pub(crate) fn disposed(error: DisposeError) -> Seen {
     match error {
         DisposeError::OutOfMemory => Seen::OutOfMemory,
         error => Seen::NotDisposed(error),
     }
 }
 
-fn first_of(frame: &LinkFrame) -> Option<u32> {
+pub(crate) fn first_of(frame: &LinkFrame) -> Option<u32> {
     match frame {
         LinkFrame::Disposition(disposition) => Some(disposition.first),
         _ => None,
@@ -313,7 +319,7 @@ fn accept(alloc: Global, inbox: &mut Inbox<Target>, byte: u8) -> Seen {
     }
 }
 
-fn tags_of(alloc: Global, bytes: &[u8]) -> Result<Vec<DeliveryTag>, AllocError> {
+pub(crate) fn tags_of(alloc: Global, bytes: &[u8]) -> Result<Vec<DeliveryTag>, AllocError> {
     let mut tags = Vec::new(alloc);
     for byte in bytes {
         tags.push(tag_of(alloc, *byte)?)?;

@@ -8,8 +8,8 @@ ghost use Rattle.amqp_link_core.specs.IncompleteRefusals.{AreReturned, start_tes
 ghost use Rattle.amqp_link_receiver.specs.ReceiverDeliveries;
 ghost use Rattle.amqp_link_inbox.specs.Disposing.{settled_at};
 ghost use Rattle.amqp_link_inbox.specs.Inboxes.{Handles, content_tests, counted};
-ghost use Rattle.amqp_link_inbox.specs.Keeping;
-ghost use Rattle.amqp_link_inbox.specs.Keeping.{IsAdded, addition_tests, first_kept};
+ghost use Rattle.amqp_link_inbox.specs.KeptDeliveries;
+ghost use Rattle.amqp_link_inbox.specs.KeptDeliveries.{IsAdded, addition_tests, first_kept};
 ghost use Rattle.amqp_link_inbox.specs.Storing.{AddsTo, Begins, added_arrival, first_held, held_in, kept_tests, stated};
 
 use crate::arrival::Arrival;
@@ -66,7 +66,7 @@ fn count_delivery<T: LinkTarget>(link: &mut ReceiverLink<T>)
 
 // How far a delivery had come that was kept.
 fn stage_of(kept: Option<Kept>) -> Option<Stage>
-    ensures { result ≡ option_map Keeping.stage_of kept }
+    ensures { result ≡ option_map KeptDeliveries.stage_of kept }
 {
     let kept = kept?;
     let stage = kept.stage();
@@ -279,7 +279,7 @@ fn add_kept<T: LinkTarget>(
     ensures added { OnOk result (IsAdded begins transfer payload kept.old kept.new) }
     ensures link { OnOk result (link.new ≡ stated tag.now kept.new link.old) }
     ensures arrival { IfOk result (λ came.
-        came ≡ added_arrival (Keeping.has_begun kept.old.contents) transfer.more kept.new.settled) }
+        came ≡ added_arrival (KeptDeliveries.has_begun kept.old.contents) transfer.more kept.new.settled) }
     ensures refused { AnswersThenOutOfMemory ReceiverTransferError.OutOfMemory
         (with_error result) (addition_tests begins kept.old transfer payload) }
     ensures back { IfErr result (λ refused. AreReturned transfer payload refused) }

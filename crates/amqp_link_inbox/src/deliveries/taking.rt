@@ -5,7 +5,7 @@ ghost use Rattle.amqp_link_core.specs.Held.{held_bytes};
 ghost use Rattle.amqp_link_core.specs.Merging.{first};
 ghost use Rattle.amqp_link_receiver.specs.Completing;
 ghost use Rattle.amqp_link_receiver.specs.Completing.{IsDelivery};
-ghost use Rattle.amqp_link_inbox.specs.Keeping.{stage_in};
+ghost use Rattle.amqp_link_inbox.specs.KeptDeliveries.{stage_in};
 ghost use Rattle.amqp_link_inbox.specs.Storing.{held_in, stage_at};
 ghost use Rattle.amqp_link_inbox.specs.Taking.{AnswersTake, IsGivenBack, complete_in, complete_of, has_taken, settled_refusal, take_refusal, with_taken};
 ghost use Rattle.amqp_link_inbox.specs.declared.kept.Contents.TheVariants as contents;

@@ -4,8 +4,8 @@ ghost use Rattle.amqp_link_endpoint.specs.AttachFields.{remote_entries};
 ghost use Rattle.amqp_link_endpoint.specs.AttachSent.{IsTooLarge, SendsAttach};
 ghost use Rattle.amqp_link_endpoint.specs.LinkStates.{Call, next_state};
 ghost use Rattle.amqp_link_receiver.specs.ReceiverAttaches.{has_entries, receiver_attached, receiver_exchange_in, receiver_left, receiver_refusal, receiver_shown};
-ghost use Rattle.amqp_link_inbox.specs.Attaching;
-ghost use Rattle.amqp_link_inbox.specs.Attaching.{attached_by, forgotten_by, kept_after, refused_by, without_ids};
+ghost use Rattle.amqp_link_inbox.specs.InboxAttaches;
+ghost use Rattle.amqp_link_inbox.specs.InboxAttaches.{attached_by, forgotten_by, kept_after, refused_by, without_ids};
 
 use crate::inbox::Inbox;
 use crate::kept::Stage;
@@ -114,7 +114,7 @@ impl<T: LinkTarget> Inbox<T> {
 
 // Whether a refusal leaves the link as it was.
 fn leaves_all(refusal: &ReceiverAttachError) -> bool
-    ensures { result ≡ Attaching.leaves_all refusal.now }
+    ensures { result ≡ InboxAttaches.leaves_all refusal.now }
 {
     matches!(
         refusal,

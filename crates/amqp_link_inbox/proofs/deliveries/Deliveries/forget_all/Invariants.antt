@@ -1,6 +1,6 @@
 use Rattle.std.proofs.Common.{◌≡◌, drop}
 use Rattle.amqp_link_types.specs.Entries.{without_entries}
-use Rattle.amqp_link_inbox.specs.Attaching.{forgotten_tags}
+use Rattle.amqp_link_inbox.specs.InboxAttaches.{forgotten_tags}
 use Rattle.amqp_link_inbox.proofs.deliveries.Deliveries.forget_all.Given as goal
 
 -- what was dropped and what is left to be make the whole

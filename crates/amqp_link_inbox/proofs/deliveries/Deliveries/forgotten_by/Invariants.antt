@@ -1,5 +1,5 @@
 use Rattle.std.proofs.Common.{◌≡◌, ◌++◌}
-use Rattle.amqp_link_inbox.specs.Attaching.{forgotten_by}
+use Rattle.amqp_link_inbox.specs.InboxAttaches.{forgotten_by}
 use Rattle.amqp_link_inbox.proofs.deliveries.Deliveries.forgotten_by.Given as goal
 
 -- what was found and what is left make the whole

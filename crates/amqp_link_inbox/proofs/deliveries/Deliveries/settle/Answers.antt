@@ -2,7 +2,7 @@ use Rattle.std.proofs.Common.{◌≡◌, ◌∙◌, ◌++◌, IfSome, Some, ap, 
 use Rattle.amqp_link_types.specs.Entries.{entry_at, without_entry}
 use Rattle.amqp_link_inbox.proofs.KeptLemmas.{put_again, put_in_place}
 use Rattle.amqp_link_inbox.proofs.StoreLemmas.{on_any_err, settled_begun, settled_leaves, store_is}
-use Rattle.amqp_link_inbox.specs.Keeping.{has_begun}
+use Rattle.amqp_link_inbox.specs.KeptDeliveries.{has_begun}
 use Rattle.amqp_link_inbox.specs.Storing.{held_in}
 use Rattle.amqp_link_inbox.proofs.deliveries.Deliveries.settle.Goals as goal
 

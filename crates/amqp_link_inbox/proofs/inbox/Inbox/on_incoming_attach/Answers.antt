@@ -2,7 +2,7 @@ use Rattle.std.proofs.Common.{◌∙◌, ap, subst, sym}
 use Rattle.amqp_link_types.specs.Entries.{without_entries}
 use Rattle.amqp_link_endpoint.specs.AttachFields.{remote_entries}
 use Rattle.amqp_link_receiver.specs.ReceiverAttaches.{has_entries, receiver_exchange_in}
-use Rattle.amqp_link_inbox.specs.Attaching.{forgotten_tags}
+use Rattle.amqp_link_inbox.specs.InboxAttaches.{forgotten_tags}
 use Rattle.amqp_link_inbox.specs.Storing.{IsStated}
 use Rattle.amqp_link_inbox.proofs.StatedLemmas.{stated_dropped_all}
 use Rattle.amqp_link_inbox.proofs.inbox.Inbox.on_incoming_attach.Goals as goal

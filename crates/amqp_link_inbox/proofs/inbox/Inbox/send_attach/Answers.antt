@@ -1,5 +1,5 @@
 use Rattle.std.proofs.Common.{ap, subst, sym}
-use Rattle.amqp_link_inbox.specs.Attaching.{kept_after}
+use Rattle.amqp_link_inbox.specs.InboxAttaches.{kept_after}
 use Rattle.amqp_link_inbox.specs.Storing.{IsStated}
 use Rattle.amqp_link_inbox.proofs.StatedLemmas.{stated_attached}
 use Rattle.amqp_link_inbox.proofs.inbox.Inbox.send_attach.Goals as goal

@@ -8,7 +8,7 @@ use Rattle.amqp_link_types.specs.declared.types.errors.ReceiverAttachError.TheVa
 use Rattle.amqp_link_receiver.specs.ReceiverAttaches.{receiver_taken}
 use Rattle.amqp_link_receiver.specs.Receivers.{Receiver}
 use Rattle.amqp_link_inbox.specs.Inboxes.{InboxState}
-use Rattle.amqp_link_inbox.specs.Keeping.{stage_of}
+use Rattle.amqp_link_inbox.specs.KeptDeliveries.{stage_of}
 use Rattle.amqp_link_inbox.specs.declared.inbox.attach.Forgotten.{Forgotten}
 use Rattle.amqp_link_inbox.specs.declared.kept.Kept.{Kept}
 

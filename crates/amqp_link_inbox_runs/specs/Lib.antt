@@ -1,0 +1,2 @@
+pub mod InboxRuns
+pub mod InboxSteps
