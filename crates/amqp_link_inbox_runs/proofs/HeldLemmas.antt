@@ -150,7 +150,7 @@ module _ {T B : Type 0} (decoded : Decoder B) (tag : Tag) where
 
   -- ---- a list of calls
 
-  all_since : (moments : List (Moment T B)) → list_any (does_begin tag) moments ≡ false → since_begun tag moments ≡ moments
+  pub all_since : (moments : List (Moment T B)) → list_any (does_begin tag) moments ≡ false → since_begun tag moments ≡ moments
   all_since [] none = refl
   all_since (m ∷ moments) none = by (does_begin tag m) (list_any (does_begin tag) moments) none
     where

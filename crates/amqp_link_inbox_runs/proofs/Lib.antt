@@ -1,5 +1,6 @@
 pub mod EffectLemmas
 pub mod HeldLemmas
+pub mod LedgerLemmas
 pub mod MakingLemmas
 pub mod QueueLemmas
 pub mod RunLemmas

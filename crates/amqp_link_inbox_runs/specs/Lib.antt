@@ -1,2 +1,3 @@
+pub mod FromLedger
 pub mod InboxRuns
 pub mod InboxSteps

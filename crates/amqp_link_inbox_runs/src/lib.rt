@@ -3,6 +3,7 @@
 #![tactic(auto)]
 
 pub mod call;
+pub mod laws;
 pub mod lists;
 
 pub use call::{AnswerOf, Call};
