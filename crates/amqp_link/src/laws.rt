@@ -8,6 +8,10 @@ pub use amqp_link_dispositions::laws::{
     each_ends_once, frames_name_what_is_kept, frames_name_what_is_listed,
 };
 pub use amqp_link_exchange::laws::{each_tag_is_answered_once, front_and_rest_are_the_payload};
+pub use amqp_link_inbox::laws::{a_transfer_changes_its_own_delivery, bytes_are_those_that_came};
+pub use amqp_link_inbox_runs::laws::{
+    a_position_gives_the_rest, an_inbox_holds_what_a_ledger_sends,
+};
 pub use amqp_link_ledger::laws::{fates_move_once, outcomes_are_of_pending_records};
 pub use amqp_link_payloads::laws::{data_sections_are_read, positions_name_fronts};
 pub use amqp_link_runs::laws::sorted_is_sorted_stably;

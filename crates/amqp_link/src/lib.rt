@@ -8,7 +8,7 @@
 //! Where to look:
 //!
 //! - `sender_link` and `receiver_link`, the two link endpoints; `ledger`, a sender that records what became of
-//!   each delivery; `endpoint`, the traits of all three.
+//!   each delivery; `inbox`, a receiver that keeps what has arrived of each; `endpoint`, the traits of all four.
 //! - `pair`, two endpoints and the wire between them; `credit_run`, two endpoints with frames under way in both
 //!   directions.
 //! - `delivery`, what is sent and received, and its outcome; `incomplete_transfer`, a delivery whose last
@@ -25,6 +25,7 @@ pub mod delivery;
 pub mod endpoint;
 pub mod errors;
 pub mod frame;
+pub mod inbox;
 pub mod incomplete_transfer;
 pub mod laws;
 pub mod ledger;
@@ -41,6 +42,7 @@ pub use credit_run::{Arrival, CreditRun, CreditRunError};
 pub use delivery::{Delivery, DeliveryInfo, Sendable};
 pub use endpoint::{Link, LinkAttach, LinkDetach, LinkExt, LinkParts};
 pub use frame::{LinkFrame, LinkTransfer};
+pub use inbox::Inbox;
 pub use incomplete_transfer::IncompleteTransfer;
 pub use ledger::{Fate, OutcomeLedger};
 pub use pair::{Answer, Arrived, Event, OrAborted, Pair, PairError, Progress, Resumed, Sent};

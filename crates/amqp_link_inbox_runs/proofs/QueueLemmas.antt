@@ -86,7 +86,7 @@ module _ (s : Store) (tag : Tag) (is : IsMap s.entries) where
   module _ {T : Type 0} (before : Receiver T) (t : Transfer) (bytes : List ℕ) where
     -- the queue after a transfer that was added, or handled
     abbrev Joins : Arrival → List ℕ → Store → Type 0
-    Joins came whole new = waiting new ≡ waiting s ++ if_settled came whole (Left new)
+    Joins arrival bytes new = waiting new ≡ waiting s ++ if_settled arrival bytes (Left new)
 
     finished_list : (more : Bool) (held : Held) → bytes_list (finished more (Begun held)) ≡ held_bytes held ∷ []
     finished_list true held = refl

@@ -1,4 +1,5 @@
 pub mod BrokerLemmas
+pub mod ConsumerLemmas
 pub mod PeerLemmas
 pub mod RelayLemmas
 pub mod MapLemmas

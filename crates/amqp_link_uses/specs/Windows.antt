@@ -1,5 +1,5 @@
 -- When a receiver that keeps a window of credits open does not take the next frame (OASIS AMQP 1.0 core, 2.6.7).
-use Rattle.std.specs.Prelude.{ℕ, ◌/◌, ◌^◌, ◌-◌, ◌&&◌, Bool, not, nat_lt, List, [], ◌∷◌, ◌++◌}
+use Rattle.std.specs.Prelude.{ℕ, ◌/◌, ◌^◌, ◌-◌, ◌&&◌, Bool, not, nat_lt, [], ◌∷◌, ◌++◌}
 use Rattle.amqp_link.specs.CreditCalls.{RunTests, forward_tests, is_lowered}
 use Rattle.amqp_link.specs.CreditWorlds.{CreditWorld}
 use Rattle.amqp_link.specs.declared.CreditRunError.TheVariants as error

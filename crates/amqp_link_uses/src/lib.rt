@@ -2,6 +2,7 @@
 //!
 //! - `short`: the two shortest callers, one that sends and one that receives.
 //! - `client`: sends a request, and gets its outcome once.
+//! - `consumer`: hands out each message that arrives once, and accepts it, through lost sessions.
 //! - `broker`: receives deliveries, sends each on along another link, and settles it by the outcome that it
 //!   gets there.
 //! - `peer`: drives a link endpoint by frames, and names the first one that the table of link states refuses.
@@ -13,6 +14,7 @@
 
 pub mod broker;
 pub mod client;
+pub mod consumer;
 pub mod peer;
 pub mod relay;
 pub mod short;

@@ -10,6 +10,8 @@ mod broker;
 #[cfg(test)]
 mod client;
 #[cfg(test)]
+mod consumer;
+#[cfg(test)]
 mod peer;
 #[cfg(test)]
 mod reattached;

@@ -23,8 +23,8 @@ pub fn attached(alloc: Global, limit: u32) -> Result<Endpoints, Refused> {
     completed(ends, answer)
 }
 
-// A link without a name, for which nothing is allocated.
-fn parts(alloc: Global, limit: u32) -> LinkParts<Target> {
+/// A link without a name, for which nothing is allocated.
+pub fn parts(alloc: Global, limit: u32) -> LinkParts<Target> {
     let name = Text::from(String::new(alloc));
     LinkParts::new(
         name,

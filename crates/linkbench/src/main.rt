@@ -7,6 +7,7 @@
 
 mod endpoints;
 mod exchanging;
+mod inboxes;
 mod measured;
 mod merging;
 mod pairs;

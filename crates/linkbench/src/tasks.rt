@@ -1,5 +1,6 @@
 //! The works that are measured, each at several sizes.
 use crate::exchanging::{Attaching, Exchanging};
+use crate::inboxes::{Keeping, Reattaching};
 use crate::measured::{Measured, measure};
 use crate::merging::Merging;
 use crate::pairs::Walking;
@@ -40,6 +41,10 @@ pub enum Task {
     Attach,
     /// A sender takes an attach with so many unsettled deliveries.
     Exchange,
+    /// Deliveries of 64 bytes arrive at an inbox, are taken and settled, while so many are kept.
+    Keep,
+    /// An inbox is attached again with so many deliveries.
+    Reattach,
     /// A pair sends, is cut, resumes, hands out and settles.
     Pair,
 }
@@ -74,6 +79,8 @@ impl Task {
             Task::DisposeAll => "dispose_all",
             Task::Attach => "send_attach, both",
             Task::Exchange => "on_incoming_attach",
+            Task::Keep => "inbox: take, settle",
+            Task::Reattach => "inbox: both attaches",
             Task::Pair => "pair through a cut",
         }
     }
@@ -84,8 +91,9 @@ impl Task {
             Task::Split | Task::Merge | Task::Receive | Task::Pair => "bytes",
             Task::Scan(_) | Task::Position => "bytes",
             Task::Deliver => "pending",
+            Task::Keep => "kept",
             Task::Resolve | Task::BatchDispose | Task::DisposeAll => "deliveries",
-            Task::Attach | Task::Exchange => "deliveries",
+            Task::Attach | Task::Exchange | Task::Reattach => "deliveries",
         }
     }
 
@@ -94,9 +102,9 @@ impl Task {
         match self {
             Task::Split | Task::Merge | Task::Receive | Task::Pair => of(10_000, 1),
             Task::Scan(_) | Task::Position => of(1_000, 1),
-            Task::Deliver => of(1, 1),
+            Task::Deliver | Task::Keep => of(1, 1),
             Task::Resolve | Task::BatchDispose | Task::DisposeAll => of(10, 1),
-            Task::Attach | Task::Exchange => of(10, 1),
+            Task::Attach | Task::Exchange | Task::Reattach => of(10, 1),
         }
     }
 
@@ -109,11 +117,13 @@ impl Task {
             Task::Scan(_) | Task::Position => {
                 [of(64, 100_000), of(65_536, 100), of(1_048_576, 10)]
             }
-            Task::Deliver => [of(1, 10_000), of(100, 10_000), of(10_000, 1_000)],
+            Task::Deliver | Task::Keep => [of(1, 10_000), of(100, 10_000), of(10_000, 1_000)],
             Task::Resolve | Task::BatchDispose | Task::DisposeAll => {
                 [of(10, 1), of(1_000, 1), of(10_000, 1)]
             }
-            Task::Attach | Task::Exchange => [of(10, 1), of(1_000, 1), of(10_000, 1)],
+            Task::Attach | Task::Exchange | Task::Reattach => {
+                [of(10, 1), of(1_000, 1), of(10_000, 1)]
+            }
         }
     }
 
@@ -121,7 +131,7 @@ impl Task {
     pub fn operations(self, amount: Amount) -> u32 {
         match self {
             Task::Resolve | Task::BatchDispose | Task::DisposeAll => amount.size,
-            Task::Attach | Task::Exchange => amount.size,
+            Task::Attach | Task::Exchange | Task::Reattach => amount.size,
             _ => amount.count,
         }
     }
@@ -147,13 +157,15 @@ impl Task {
             Task::DisposeAll => measure(clock, Disposing::ready(alloc, size)?),
             Task::Attach => measure(clock, Attaching::ready(alloc, size)?),
             Task::Exchange => measure(clock, Exchanging::ready(alloc, size)?),
+            Task::Keep => measure(clock, Keeping::ready(alloc, size, count)?),
+            Task::Reattach => measure(clock, Reattaching::ready(alloc, size)?),
             Task::Pair => measure(clock, Walking::ready(alloc, length, LIMIT, count)?),
         }
     }
 }
 
 /// All works, in the order in which they are printed.
-pub fn all() -> [Task; 16] {
+pub fn all() -> [Task; 18] {
     [
         Task::Split,
         Task::Merge,
@@ -170,6 +182,8 @@ pub fn all() -> [Task; 16] {
         Task::DisposeAll,
         Task::Attach,
         Task::Exchange,
+        Task::Keep,
+        Task::Reattach,
         Task::Pair,
     ]
 }
