@@ -19,7 +19,7 @@ use amqp_link_types::types::FromBody;
 
 /// An `OutcomeLedger` that has heard no outcome of a delivery answers the position that an inbox states of it by exactly the
 /// rest: what is held and what is then to be sent, joined, are the payload. (`OutcomeLedger::on_incoming_attach` lists it so, and
-/// `resume_delivery` sends it.)
+/// `send_unsettled_transfer` sends it.)
 pub fn a_position_gives_the_rest()
     ensures { (tag : Tag) → (entry : Entry) → (held rest : List ℕ) → entry.state ≡ None → held ++ rest ≡ entry.payload
         → resolution tag entry (Some (received held)) ≡ Resuming (Resume entry rest) }
