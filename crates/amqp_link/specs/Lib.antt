@@ -37,6 +37,7 @@ pub use Rattle.amqp_link_inbox.specs.Queues
 pub use Rattle.amqp_link_inbox.specs.Storing
 pub use Rattle.amqp_link_inbox.specs.Taking
 pub use Rattle.amqp_link_inbox_runs.specs.FromLedger
+pub use Rattle.amqp_link_inbox_runs.specs.InboxAnswers
 pub use Rattle.amqp_link_inbox_runs.specs.InboxRuns
 pub use Rattle.amqp_link_inbox_runs.specs.InboxSteps
 pub use Rattle.amqp_link_ledger.specs.Exchanging

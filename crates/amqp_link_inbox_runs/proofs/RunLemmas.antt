@@ -3,6 +3,7 @@ use Rattle.std.proofs.Common.{◌≡◌, ◌∙◌, ◌++◌, ap, append_assoc, 
 use Rattle.std.proofs.lemmas.List.{append-nil, map-append}
 use Rattle.amqp_link_inbox.specs.Inboxes.{InboxState}
 use Rattle.amqp_link_inbox.specs.Storing.{IsStated}
+use Rattle.amqp_link_inbox_runs.specs.InboxAnswers.{Answers}
 use Rattle.amqp_link_inbox_runs.specs.InboxRuns.{IsRun, Moment, RunsCalls}
 use Rattle.amqp_link_inbox_runs.specs.InboxSteps.{Decoder, Step}
 use Rattle.amqp_link_inbox_runs.specs.declared.call.AnswerOf.{AnswerOf}
@@ -24,14 +25,15 @@ module _ {T B : Type 0} (decoded : Decoder B) where
 
   steps_and : (old w new : InboxState T) (moments : List (Moment T B)) (m : Moment T B) → m.before ≡ w → m.after ≡ new
       → IsRun decoded old moments w → Step decoded m.before m.call m.answer m.after → IsStated m.after.deliveries m.after.link.unsettled
-      → IsRun decoded old (moments ++ m ∷ []) new
-  steps_and old w new [] m before after run step is = (before ∙ run, step, is, sym after)
-  steps_and old w new (n ∷ moments) m before after run step is = (run.0, run.1, run.2, steps_and n.after w new moments m before after run.3 step is)
+      → Answers m.before m.call m.answer m.after → IsRun decoded old (moments ++ m ∷ []) new
+  steps_and old w new [] m before after run step is answers = (before ∙ run, step, is, sym after, answers)
+  steps_and old w new (n ∷ moments) m before after run step is answers =
+      (run.0, run.1, run.2, steps_and n.after w new moments m before after run.3 step is answers, run.4)
 
   pub one_more : (old w new : InboxState T) (calls left rest : List Call) (answers all : List (AnswerOf B)) (c : Call) (a : AnswerOf B)
-      → HasRun old calls left answers w → left ≡ c ∷ rest → all ≡ answers ++ a ∷ [] → Step decoded w c a new → IsStated new.deliveries new.link.unsettled
+      → HasRun old calls left answers w → left ≡ c ∷ rest → all ≡ answers ++ a ∷ [] → Step decoded w c a new → IsStated new.deliveries new.link.unsettled → Answers w c a new
       → HasRun old calls rest all new
-  one_more old w new calls left rest answers all c a h next answered step is =
+  one_more old w new calls left rest answers all c a h next answered step is whole =
       let m : Moment T B = record { before = w; call = c; answer = a; after = new } in
       let moments = h.run.moments in
       record {
@@ -39,7 +41,7 @@ module _ {T B : Type 0} (decoded : Decoder B) where
         calls_are = h.calls_are ∙ ap (λ l. h.done ++ l) next ∙ sym (append_assoc h.done (c ∷ []) rest);
         run = record {
           moments = moments ++ m ∷ [];
-          steps = steps_and old w new moments m refl refl h.run.steps step is;
+          steps = steps_and old w new moments m refl refl h.run.steps step is whole;
           calls_are = ap (λ l. l ++ c ∷ []) h.run.calls_are ∙ sym (map-append (λ (m : Moment T B). m.call) moments (m ∷ []));
           answers_are = answered ∙ ap (λ l. l ++ a ∷ []) h.run.answers_are ∙ sym (map-append (λ (m : Moment T B). m.answer) moments (m ∷ []));
         };

@@ -200,7 +200,7 @@ module _ {T B : Type 0} (decoded : Decoder B) where
   up_to : (old new : InboxState T) (before after : List (Moment T B)) (m : Moment T B) → IsRun decoded old (before ++ m ∷ after) new
       → IsRun decoded old before m.before × Step decoded m.before m.call m.answer m.after
   up_to old new [] after m run = (run.0, run.1)
-  up_to old new (b ∷ before) after m run = let rest = up_to b.after new before after m run.3 in ((run.0, run.1, run.2, rest.0), rest.1)
+  up_to old new (b ∷ before) after m run = let rest = up_to b.after new before after m run.3 in ((run.0, run.1, run.2, rest.0, run.4), rest.1)
 
   pub run_takes_what_came : (old new : InboxState T) (moments : List (Moment T B)) → IsStated old.deliveries old.link.unsettled → IsRun decoded old moments new
       → TakesWhatCame decoded old moments

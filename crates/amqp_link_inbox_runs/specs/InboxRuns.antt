@@ -16,6 +16,7 @@ use Rattle.amqp_link_inbox.specs.Taking.{has_taken}
 use Rattle.amqp_link_inbox.specs.declared.arrival.Arrival.{Arrival}
 use Rattle.amqp_link_inbox.specs.declared.arrival.Arrival.TheVariants as arrival
 use Rattle.amqp_link_inbox.specs.declared.error.TakeError.TheVariants as error
+use Rattle.amqp_link_inbox_runs.specs.InboxAnswers.{Answers}
 use Rattle.amqp_link_inbox_runs.specs.InboxSteps.{Decoder, Step}
 use Rattle.amqp_link_inbox_runs.specs.declared.call.AnswerOf.{AnswerOf}
 use Rattle.amqp_link_inbox_runs.specs.declared.call.AnswerOf.TheVariants as answer
@@ -182,12 +183,13 @@ module _ {T B : Type 0} where
 -- ---- lists of calls
 
 module _ {T B : Type 0} (decoded : Decoder B) where
-  -- Each call is a step from the inbox that the one before has left; after it the link has an entry exactly for each
-  -- delivery that is kept and not settled.
+  -- Each call is a step from the inbox that the one before has left, and answers what it answers alone; after it the link has an
+  -- entry exactly for each delivery that is kept and not settled.
   abbrev pub IsRun : InboxState T → List (Moment T B) → InboxState T → Type 0
   IsRun old [] new = new ≡ old
   IsRun old (m ∷ moments) new =
       (m.before ≡ old) × Step decoded m.before m.call m.answer m.after × IsStated m.after.deliveries m.after.link.unsettled × IsRun m.after moments new
+      × Answers m.before m.call m.answer m.after
 
   -- the calls were made in order, one for each answer
   pub record RunsCalls (old : InboxState T) (calls : List Call) (answers : List (AnswerOf B)) (new : InboxState T) : Type 0 where

@@ -1,3 +1,4 @@
 pub mod FromLedger
+pub mod InboxAnswers
 pub mod InboxRuns
 pub mod InboxSteps

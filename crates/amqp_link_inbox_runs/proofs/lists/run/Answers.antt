@@ -28,7 +28,7 @@ loop-call-preserved g c =
       run =
           one_more g.B.FromBody.decoded c.args.inbox.now c.loop-call.inbox c.answer_to.new.inbox c.args.calls.items left (into_iter_items c.next.new.self)
           c.loop-call.answers.items c.push_reserved.new.self.items c.in-Some.call c.answer_to.result c.loop-call.invariant.run next.0 c.push_reserved.ensures.items
-          c.answer_to.ensures c.is_stated-in-loop-call.ensures;
+          c.answer_to.ensures.step c.is_stated-in-loop-call.ensures c.answer_to.ensures.answers;
       stated = c.is_stated-in-loop-call.ensures;
       room = omega (arith, c.loop-call.invariant.room, next.1, c.push_reserved.ensures.len, c.push_reserved.ensures.capacity);
     }

@@ -3,8 +3,8 @@ use Rattle.amqp_link_inbox.specs.Inboxes.{Arrives}
 use Rattle.amqp_link_inbox_runs.proofs.MakingLemmas.{is_as}
 use Rattle.amqp_link_inbox_runs.proofs.lists.making.arrive.Goals as goal
 
-pub returns : goal.returns
-returns g c =
+pub returns-clause-step : goal.returns-clause-step
+returns-clause-step g c =
     let old = c.args.inbox.now in
     let call = c.on_incoming_transfer in
     arrives (λ came. Arrives old c.args.transfer c.args.payload came call.new.self) call.result call.ensures.arrives call.ensures.left (λ is. is_as old is)

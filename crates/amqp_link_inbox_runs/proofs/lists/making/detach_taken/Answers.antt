@@ -2,6 +2,6 @@ use Rattle.std.proofs.Common.{refl}
 use Rattle.amqp_link_inbox_runs.proofs.MakingLemmas.{keeps_if_moved}
 use Rattle.amqp_link_inbox_runs.proofs.lists.making.detach_taken.Goals as goal
 
-pub returns : goal.returns
-returns g c =
+pub returns-clause-step : goal.returns-clause-step
+returns-clause-step g c =
     keeps_if_moved c.args.inbox.now _ _ (λ _. refl) (λ _. refl) c.apply_remote_detach_outcome.ensures.after
