@@ -1,10 +1,10 @@
 -- What is held of a delivery after a transfer are the bytes that have come of it.
-use Rattle.std.proofs.Common.{◌≡◌, ◌⊎◌, ◌∙◌, ◌++◌, ap, refl, subst, sym, inl, inr, Bool, true, false, cond, map, not, List, [], ◌∷◌, Option, Some, None, ℕ}
-use Rattle.std.specs.Prelude.{◌||◌, bytes_eq, if◌then◌else◌, unwrap_or}
+use Rattle.std.proofs.Common.{◌≡◌, ◌∙◌, ◌++◌, ap, refl, subst, sym, inl, inr, Bool, true, false, cond, map, List, [], ◌∷◌, Option, Some, None, ℕ}
+use Rattle.std.specs.Prelude.{if◌then◌else◌}
 use Rattle.std.specs.List.{concat}
 use Rattle.std.proofs.lemmas.List.{append-nil, map-append}
 use Rattle.std.proofs.lemmas.List.Folds.{concat-append}
-use Rattle.amqp_link_types.specs.Entries.{Tag, Entries, IsMap, entry_at, with_entry, without_entry}
+use Rattle.amqp_link_types.specs.Entries.{Tag, IsMap, entry_at, without_entry}
 use Rattle.amqp_link_types.specs.declared.types.transfer.Transfer.{Transfer}
 use Rattle.amqp_link_types.proofs.MapLemmas.{entry_at-put, entry_at-removed, same_tag}
 use Rattle.amqp_link_core.specs.Held.{Held, held_bytes}

@@ -1,8 +1,9 @@
 -- The link has an entry exactly for each delivery that is kept and not settled, whatever a call changes of one of them.
 use Rattle.std.proofs.Common.{◌≡◌, ◌≢◌, ◌∙◌, sym, ap, subst, Bool, true, false, cond, refl, Option, Some, None, List, [], ◌∷◌, ℕ}
-use Rattle.std.specs.Prelude.{bytes_eq, Decides, IsSome, is_some, not, ◌||◌, if◌then◌else◌}
+use Rattle.std.specs.Prelude.{bytes_eq, Decides, IsSome, is_some, not, if◌then◌else◌}
 use Rattle.std.specs.List.{IsDistinct, list_any}
 use Rattle.std.specs.Map.{keys_of}
+use Rattle.std.proofs.lemmas.Bool.{or_parts}
 use Rattle.std.proofs.lemmas.Map.{keys-set_value}
 use Rattle.std.proofs.lemmas.Map.Made.{is_some-lookup}
 use Rattle.std.proofs.lemmas.Slice.Eq.{bytes_eq-Decides}
@@ -32,7 +33,7 @@ none_from None h = refl
 none_from (Some v) h = absurd (false_is_not_true (sym h))
 
 -- by whether it is that tag
-by_tag : (P : Tag → Type 0) (tag : Tag) → P tag → ((other : Tag) → other ≢ tag → P other) → (other : Tag) → P other
+pub by_tag : (P : Tag → Type 0) (tag : Tag) → P tag → ((other : Tag) → other ≢ tag → P other) → (other : Tag) → P other
 by_tag P tag here there other =
     elim (bytes_eq other tag) as (λ b. Decides b (other ≡ tag) → P other) [
       | true ↦ λ d. subst P (sym (d.0 refl)) here
@@ -224,13 +225,9 @@ stated_sent false state s link is tag = stated_changed (λ _. state) (tag ∷ []
 
 -- ---- a transfer
 
-begun_not_taken : (more : Bool) (held : Held) → (if more then Begun held else Complete held) ≡ Taken → ⊥
+pub begun_not_taken : (more : Bool) (held : Held) → (if more then Begun held else Complete held) ≡ Taken → ⊥
 begun_not_taken true held h = cc
 begun_not_taken false held h = cc
-
-or_false : (a b : Bool) → (a || b) ≡ false → a ≡ false
-or_false true b h = absurd (false_is_not_true (sym h))
-or_false false b h = refl
 
 module _ {T : Type 0} (old : Store) (before : Receiver T) (is : IsStated old.entries before.unsettled) (tag : Tag) (t : Transfer) (bytes : List ℕ) where
   added_stated : (begins : Bool) (found : Option Kept) (came : Arrival) (new : Store) (after : Receiver T) → entry_at old.entries tag ≡ found
@@ -240,7 +237,7 @@ module _ {T : Type 0} (old : Store) (before : Receiver T) (is : IsStated old.ent
   added_stated begins (Some kept) came new after known a =
       let next : Kept = a.0 in
       let had : next.settled ≡ false → IsSome (entry_at before.unsettled tag) = λ unsettled_yet.
-      is.each tag ∙ ap is_unsettled known ∙ ap not (or_false kept.settled (is_settled t) (sym a.1.settled ∙ unsettled_yet)) in
+      is.each tag ∙ ap is_unsettled known ∙ ap not (or_parts kept.settled (is_settled t) (sym a.1.settled ∙ unsettled_yet)).0 in
       subst (λ (s : Store). IsStated s.entries after.unsettled) (sym a.2)
       (subst (λ (r : Receiver T). IsStated (stored t.more tag next old).entries r.unsettled) (sym a.3)
       (stated_stored old before is tag next t.more (λ taken. had)))

@@ -2,13 +2,15 @@
 use Rattle.std.proofs.Common.{◌≡◌, [], ◌∷◌, refl, true, false, Some, None, Ok, Err}
 use Rattle.amqp_link_types.specs.declared.types.errors.ReceiverTransferError.TheVariants.{InconsistentFieldInMultiFrameDelivery}
 use Rattle.amqp_link_types.specs.declared.types.errors.ReceiverAttachError.TheVariants as attach
+use Rattle.amqp_link_types.specs.declared.types.delivery_state.DeliveryState.TheVariants.{Accepted}
 use Rattle.amqp_link_types.specs.declared.types.definitions.ReceiverSettleMode.TheVariants.{First}
 use Rattle.amqp_link_types.specs.Refusals.{refusal}
 use Rattle.amqp_link_state.specs.declared.state.LinkState.TheVariants.{Attached, Detached}
 use Rattle.amqp_link_types.specs.Entries.{Entries}
 use Rattle.amqp_link_inbox.specs.InboxAttaches.{is_stated_in, leaves_all, without_ids}
 use Rattle.amqp_link_inbox.specs.Bytes.{bytes_at, bytes_before}
-use Rattle.amqp_link_inbox.specs.Disposing.{after_settling, info_to_dispose, infos_to_dispose, outcome_refusal_in, settled_at}
+use Rattle.amqp_link_inbox.specs.Disposing.{after_settling, disposed, info_to_dispose, infos_to_dispose, outcome_refusal_in, settled_at}
+use Rattle.amqp_link_inbox.specs.Inboxes.{InboxState}
 use Rattle.amqp_link_inbox.specs.KeptDeliveries.{empty_test, finished}
 use Rattle.amqp_link_inbox.specs.Storing.{added_arrival, first_arrival, is_unsettled, stage_at, stored}
 use Rattle.amqp_link_inbox.specs.Taking.{complete_of, settled_refusal, take_refusal}
@@ -112,6 +114,11 @@ settled_one = refl
 
 settled_by_its_sender : settled_at (1 ∷ []) (record { entries = one; settled = [] }) ≡ record { entries = []; settled = [] }
 settled_by_its_sender = refl
+
+settled_by_its_receiver : {T : Type 0} (w : InboxState T)
+    → disposed true Accepted (1 ∷ []) (record w { link = record w.link { unsettled = (1 ∷ [], None) ∷ [] }; deliveries = one })
+    ≡ record w { link = record w.link { unsettled = [] }; deliveries = [] }
+settled_by_its_receiver w = refl
 
 kept_unless_settled : after_settling false (1 ∷ []) one ≡ one
 kept_unless_settled = refl

@@ -3,10 +3,13 @@ use Rattle.std.specs.Prelude.{◌≡◌, ◌⊎◌, ℕ, Bool, true, false, List
 use Rattle.std.specs.List.{filter}
 use Rattle.amqp_link_state.specs.declared.state.LinkState.{LinkState}
 use Rattle.amqp_link_types.specs.Deliveries.{Info}
-use Rattle.amqp_link_types.specs.Entries.{Tag, Entries, entry_at, without_entry}
+use Rattle.amqp_link_types.specs.Entries.{Tag, Entries, entry_at, without_entries, without_entry}
+use Rattle.amqp_link_types.specs.declared.types.delivery_state.DeliveryState.{DeliveryState}
 use Rattle.amqp_link_types.specs.declared.types.definitions.ReceiverSettleMode.{ReceiverSettleMode}
-use Rattle.amqp_link_dispositions.specs.Keeping.{is_settled_one, tags_of}
+use Rattle.amqp_link_dispositions.specs.Keeping.{after_dispositions, after_one, is_settled_one, map_after_sender_disposition, tags_of}
+use Rattle.amqp_link_dispositions.specs.Listed.{kept_in_order}
 use Rattle.amqp_link_receiver.specs.Completing.{may_receive}
+use Rattle.amqp_link_inbox.specs.Inboxes.{InboxState, inbox_with, store_of}
 use Rattle.amqp_link_inbox.specs.KeptDeliveries.{has_begun}
 use Rattle.amqp_link_inbox.specs.Storing.{Store, stored}
 use Rattle.amqp_link_inbox.specs.declared.error.DisposeError.{DisposeError}
@@ -80,3 +83,27 @@ settled_in (Some kept) tag s = stored (has_begun kept.contents) tag (record kept
 
 abbrev pub settled_at : Tag → Store → Store
 settled_at tag s = settled_in (entry_at s.entries tag) tag s
+
+-- ---- the inbox after it
+
+module _ {T : Type 0} where
+  -- a delivery is disposed of, and settled or not
+  abbrev pub disposed : Bool → DeliveryState → Tag → InboxState T → InboxState T
+  disposed settled state tag s = record s {
+    link = record s.link { unsettled = after_one settled state tag s.link.unsettled };
+    deliveries = after_settling settled tag s.deliveries;
+  }
+
+  -- several are, each settled by the flag that is passed, its own mode, or the link's
+  abbrev pub all_disposed : Option Bool → DeliveryState → List Info → InboxState T → InboxState T
+  all_disposed given state infos s = record s {
+    link = record s.link {
+      unsettled = after_dispositions (is_settled_one given s.link.rcv_settle_mode) state (kept_in_order s.link.unsettled infos) s.link.unsettled;
+    };
+    deliveries = without_entries s.deliveries (settled_tags given s.link.rcv_settle_mode infos);
+  }
+
+  -- the sender has settled a delivery, or stated this state of it
+  abbrev pub after_sender_disposition : Bool → Option DeliveryState → Tag → InboxState T → InboxState T
+  after_sender_disposition settled state tag s = inbox_with (if settled then settled_at tag (store_of s) else store_of s)
+      (record s.link { unsettled = map_after_sender_disposition settled state tag s.link.unsettled }) s.under_way

@@ -1,8 +1,7 @@
 -- What a call that brings no transfer of a delivery makes of it.
-use Rattle.std.proofs.Common.{◌≡◌, ◌≢◌, ◌⊎◌, ◌∙◌, ap, refl, subst, sym, inl, inr, Bool, true, false, cond, List, [], ◌∷◌, Option, Some, None, Result, Ok, Err}
-use Rattle.std.specs.Prelude.{bytes_eq, Decides, MatchResult, if◌then◌else◌}
+use Rattle.std.proofs.Common.{◌≡◌, ◌⊎◌, ◌∙◌, ap, refl, subst, sym, inl, inr, Bool, true, false, cond, List, [], ◌∷◌, Option, Some, None, Result, Ok, Err}
+use Rattle.std.specs.Prelude.{bytes_eq, MatchResult, if◌then◌else◌}
 use Rattle.std.specs.List.{filter}
-use Rattle.std.proofs.lemmas.Slice.Eq.{bytes_eq-Decides}
 use Rattle.amqp_link_types.specs.Entries.{Tag, Entries, IsMap, entry_at, with_entry, without_entries, without_entry}
 use Rattle.amqp_link_types.specs.declared.types.transfer.Transfer.{Transfer}
 use Rattle.amqp_link_types.proofs.MapLemmas.{IsMap-removed, entry_at-put, entry_at-put_other, entry_at-removed, false_is_not_true, same_tag}
@@ -17,6 +16,7 @@ use Rattle.amqp_link_inbox.specs.declared.arrival.Arrived.{Arrived}
 use Rattle.amqp_link_inbox.specs.declared.kept.Contents.TheVariants.{Taken}
 use Rattle.amqp_link_inbox.specs.declared.kept.Kept.{Kept}
 use Rattle.amqp_link_inbox.proofs.OtherLemmas.{other_stays}
+use Rattle.amqp_link_inbox.proofs.StatedLemmas.{by_tag}
 use Rattle.amqp_link_inbox_runs.specs.InboxRuns.{brings_by, names}
 use Rattle.amqp_link_inbox_runs.specs.InboxSteps.{Decoder, Has, Step}
 use Rattle.amqp_link_inbox_runs.specs.declared.call.AnswerOf.{AnswerOf}
@@ -56,14 +56,6 @@ after (Some o) (Some m) (Some n) e f = (
   λ h. e.1 (f.1 h),
 )
 
--- whether a tag is that one
-pub by_name : (P : Tag → Type 0) (tag : Tag) → P tag → ((other : Tag) → other ≢ tag → P other) → (other : Tag) → P other
-by_name P tag here there other =
-    elim (bytes_eq other tag) as (λ b. Decides b (other ≡ tag) → P other) [
-      | true ↦ λ d. subst P (sym (d.0 refl)) here
-      | false ↦ λ d. there other (λ p. false_is_not_true (d.1 p))
-    ] (bytes_eq-Decides other tag)
-
 module _ (tag : Tag) where
   removed : (m : Entries Kept) → IsMap m → (t : Tag) → Effect (entry_at m tag) (entry_at (without_entry m t) tag)
   removed m is t = subst (Effect (entry_at m tag)) (sym (entry_at-removed m t tag is)) (by (bytes_eq t tag))
@@ -90,7 +82,7 @@ module _ (tag : Tag) where
   put : (m : Entries Kept) (t : Tag) (kept next : Kept) → entry_at m t ≡ Some kept → Effect (Some kept) (Some next)
       → Effect (entry_at m tag) (entry_at (with_entry m t next) tag)
   put m t kept next known e =
-      by_name (λ x. Effect (entry_at m x) (entry_at (with_entry m t next) x)) t
+      by_tag (λ x. Effect (entry_at m x) (entry_at (with_entry m t next) x)) t
       (subst (λ o. Effect o (entry_at (with_entry m t next) t)) (sym known) (subst (Effect (Some kept)) (sym (entry_at-put m t next)) e))
       (λ other n. subst (Effect (entry_at m other)) (sym (entry_at-put_other m t other next n)) (same (entry_at m other))) tag
 

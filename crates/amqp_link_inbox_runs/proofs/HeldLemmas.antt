@@ -4,6 +4,7 @@ use Rattle.std.specs.Prelude.{◌&&◌, ◌||◌, IfSome, bytes_eq, Decides, fla
 use Rattle.std.specs.List.{concat, list_any}
 use Rattle.std.proofs.lemmas.List.{append-nil}
 use Rattle.std.proofs.lemmas.List.Folds.{concat-append}
+use Rattle.std.proofs.lemmas.Option.{same_Some}
 use Rattle.std.proofs.lemmas.Slice.Eq.{bytes_eq-Decides}
 use Rattle.amqp_link_types.specs.Entries.{Tag, IsMap, entry_at, without_entry}
 use Rattle.amqp_link_types.specs.declared.types.transfer.Transfer.{Transfer}
@@ -45,9 +46,6 @@ finished_bytes true c = refl
 finished_bytes false (Begun held) = refl
 finished_bytes false (Complete held) = refl
 finished_bytes false Taken = refl
-
-named_once : (x y : Tag) → Some x ≡ Some y → x ≡ y
-named_once x y h = cc
 
 pub is_named : (tag : Tag) (o : Option Tag) → names tag o ≡ true → o ≡ Some tag
 is_named tag None h = absurd (false_is_not_true h)
@@ -127,7 +125,7 @@ module _ {T B : Type 0} (decoded : Decoder B) (tag : Tag) where
       → Are held (bytes_at old.deliveries tag) → tag_of old t ≡ Some tag → Arrives old t bytes arrived new
       → Are (if not t.aborted && is_new old t then bytes else held ++ bytes) (bytes_at new.deliveries tag)
   came_are old new t bytes held arrived is had named a =
-      let here : a.tag ≡ tag = named_once a.tag tag (sym a.tag_is ∙ named) in
+      let here : a.tag ≡ tag = same_Some a.tag tag (sym a.tag_is ∙ named) in
       handled_are (store_of old) tag is.entries_map old.link t bytes held had t.aborted (is_new old t) (begins old) arrived.arrival arrived.replaced (store_of new) a.link
       (subst (λ g. Handles t.aborted (is_new old t) (begins old) g t bytes (store_of old) old.link arrived.arrival arrived.replaced (store_of new) a.link) here a.handles)
 

@@ -1,8 +1,10 @@
 -- After any list of calls the link states of each delivery what was stated of it last.
 use Rattle.std.proofs.Common.{◌≡◌, ◌∙◌, ap, refl, subst, sym, Bool, true, false, cond, not, List, [], ◌∷◌, Option, Some, None, Result, Ok, Err, ℕ}
-use Rattle.std.specs.Prelude.{◌&&◌, ◌||◌, bytes_eq, Decides, is_some, if◌then◌else◌}
+use Rattle.std.specs.Prelude.{◌||◌, bytes_eq, Decides, is_some, if◌then◌else◌}
 use Rattle.std.specs.List.{filter, list_any}
 use Rattle.std.specs.Option.{option_map, option_or}
+use Rattle.std.proofs.lemmas.Bool.{and_parts, not-true, or_parts}
+use Rattle.std.proofs.lemmas.Option.{same_Some}
 use Rattle.std.proofs.lemmas.Slice.Eq.{bytes_eq-Decides}
 use Rattle.amqp_link_types.specs.Deliveries.{Info}
 use Rattle.amqp_link_types.specs.Entries.{Tag, Entries, IsMap, changed_at, entry_at, without_entries, without_entry}
@@ -31,7 +33,7 @@ use Rattle.amqp_link_inbox.specs.declared.kept.Kept.{Kept}
 use Rattle.amqp_link_inbox.specs.declared.kept.Stage.{Stage}
 use Rattle.amqp_link_inbox.proofs.OtherLemmas.{other_stays}
 use Rattle.amqp_link_inbox.proofs.RemovedLemmas.{alike, eq_turned, found-removed}
-use Rattle.amqp_link_inbox.proofs.StatedLemmas.{stated_changed}
+use Rattle.amqp_link_inbox.proofs.StatedLemmas.{begun_not_taken, stated_changed}
 use Rattle.amqp_link_inbox_runs.specs.InboxRuns.{IsRun, Moment, is_among, last_stated, names, received, states, states_by}
 use Rattle.amqp_link_inbox_runs.specs.InboxSteps.{Decoder, Has, Step, keeping}
 use Rattle.amqp_link_inbox_runs.specs.declared.call.AnswerOf.{AnswerOf}
@@ -41,18 +43,7 @@ use Rattle.amqp_link_inbox_runs.specs.declared.call.Call.TheVariants as call
 use Rattle.amqp_link_inbox_runs.proofs.EffectLemmas.{Effect, effect_of, either_way, ids}
 use Rattle.amqp_link_inbox_runs.proofs.HeldLemmas.{is_named}
 
-some_is : {X : Type 0} (x y : X) → Some x ≡ Some y → x ≡ y
-some_is x y h = cc
-
 -- ---- entries
-
-not_true : (b : Bool) → not b ≡ true → b ≡ false
-not_true true h = absurd (false_is_not_true h)
-not_true false h = refl
-
-and_parts : (a b : Bool) → (a && b) ≡ true → (a ≡ true) × (b ≡ true)
-and_parts true b h = (refl, h)
-and_parts false b h = absurd (false_is_not_true h)
 
 abbrev changed_if : {V : Type 0} → (V → V) → Bool → Option V → Option V
 changed_if f b o = if b then option_map f o else o
@@ -95,7 +86,7 @@ module _ {V : Type 0} (tag : Tag) where
 unsettled_before : (o n : Option Kept) → Effect o n → is_unsettled n ≡ true → is_unsettled o ≡ true
 unsettled_before o None e h = absurd (false_is_not_true h)
 unsettled_before None (Some new) e h = absurd e
-unsettled_before (Some old) (Some new) e h = ap not (e.1 (not_true new.settled h))
+unsettled_before (Some old) (Some new) e h = ap not (e.1 (not-true new.settled h))
 
 -- ---- a transfer
 
@@ -119,14 +110,6 @@ module _ (s : Store) (tag : Tag) (is : IsMap s.entries) {T : Type 0} (before : R
   stored_states false more Taken next is_settled is_held was h =
       was refl refl ∙ ap (λ o. option_or (option_map received o) v) (sym (ap bytes_kept (entry_at-put s.entries tag next) ∙ ap bytes_in is_held))
 
-  begun_not_taken : (more : Bool) (held : _) → (if more then Begun held else Complete held) ≡ Taken → ⊥
-  begun_not_taken true held h = cc
-  begun_not_taken false held h = cc
-
-  or_false : (a b : Bool) → (a || b) ≡ false → a ≡ false
-  or_false true b h = absurd (false_is_not_true (sym h))
-  or_false false b h = refl
-
   module _ (t : Transfer) (bytes : List ℕ) (had : is_unsettled (entry_at s.entries tag) ≡ true → entry_at before.unsettled tag ≡ v) where
     added_states : (begins : Bool) (found : Option Kept) (arrival : Arrival) (new : Store) (after : Receiver T) → entry_at s.entries tag ≡ found
         → AddsTo found begins tag t bytes s before arrival new after → After new after
@@ -135,7 +118,7 @@ module _ (s : Store) (tag : Tag) (is : IsMap s.entries) {T : Type 0} (before : R
     added_states begins (Some kept) arrival new after here a =
         let next : Kept = a.0 in
         let was : next.contents ≡ Taken → next.settled ≡ false → entry_at before.unsettled tag ≡ v =
-        λ _ still. had (ap is_unsettled here ∙ ap not (or_false kept.settled (is_settled t) (sym a.1.settled ∙ still))) in
+        λ _ still. had (ap is_unsettled here ∙ ap not (or_parts kept.settled (is_settled t) (sym a.1.settled ∙ still)).0) in
         subst (λ (n : Store). After n after) (sym a.2)
         (subst (λ (r : Receiver T). After (stored_by next.settled t.more tag next s) r) (sym a.3) (stored_states next.settled t.more next.contents next refl refl was))
 
@@ -305,7 +288,7 @@ module _ {T B : Type 0} (decoded : Decoder B) (tag : Tag) (old new : InboxState 
       has = is.each tag ∙ parts.0
 
       none_settled : list_any (bytes_eq tag) (tags_of (filter f infos)) ≡ false
-      none_settled = not_true (list_any (bytes_eq tag) (tags_of (filter f infos))) parts.1
+      none_settled = not-true (list_any (bytes_eq tag) (tags_of (filter f infos))) parts.1
 
       none_gone : list_any (bytes_eq tag) gone ≡ false
       none_gone = alike f state infos old.deliveries old.link.unsettled tag has ∙ none_settled
@@ -330,7 +313,7 @@ module _ {T B : Type 0} (decoded : Decoder B) (tag : Tag) (old new : InboxState 
   forgets : (ts : List Tag) → Has (keeping (without_ids (without_entries old.deliveries ts)) old) (without_entries old.link.unsettled ts) new → Then None
   forgets ts h now =
       ap (λ m. entry_at m tag) h.unsettled
-      ∙ kept_removed tag ts old.link.unsettled is.unsettled_map (not_true (list_any (bytes_eq tag) ts) parts.1) ∙ had parts.0
+      ∙ kept_removed tag ts old.link.unsettled is.unsettled_map (not-true (list_any (bytes_eq tag) ts) parts.1) ∙ had parts.0
     where
       left : is_unsettled (entry_at (without_entries old.deliveries ts) tag) ≡ true
       left = unsettled_before (entry_at (without_entries old.deliveries ts) tag) (entry_at (without_ids (without_entries old.deliveries ts)) tag)
@@ -346,7 +329,7 @@ module _ {T B : Type 0} (decoded : Decoder B) (tag : Tag) (old new : InboxState 
     where
       by : (b : Bool) → names tag (tag_of old t) ≡ b → Then (if b then option_map received (bytes_at new.deliveries tag) else None)
       by true is_so now =
-          let here : a.tag ≡ tag = some_is a.tag tag (sym a.tag_is ∙ is_named tag (tag_of old t) is_so) in
+          let here : a.tag ≡ tag = same_Some a.tag tag (sym a.tag_is ∙ is_named tag (tag_of old t) is_so) in
           ap (λ (r : Receiver T). entry_at r.unsettled tag) a.link_is
           ∙ handled_states (store_of old) tag is.entries_map old.link v t bytes had t.aborted (is_new old t) (begins old) arrived.arrival arrived.replaced (store_of new) a.link
           (subst (λ g. Handles t.aborted (is_new old t) (begins old) g t bytes (store_of old) old.link arrived.arrival arrived.replaced (store_of new) a.link) here a.handles) now

@@ -3,6 +3,8 @@ use Rattle.std.proofs.Common.{◌≡◌, ◌∙◌, ◌++◌, ap, refl, subst, s
 use Rattle.std.specs.Prelude.{◌&&◌, ◌||◌, IsSomeAnd, bytes_eq, if◌then◌else◌}
 use Rattle.std.specs.List.{concat, list_any}
 use Rattle.std.specs.Option.{option_map}
+use Rattle.std.proofs.lemmas.Bool.{and_parts}
+use Rattle.std.proofs.lemmas.Option.{same_Some}
 use Rattle.amqp_link_types.specs.Entries.{Tag, IsMap, entry_at, without_entry}
 use Rattle.amqp_link_types.specs.declared.types.definitions.OutputHandle.{OutputHandle}
 use Rattle.amqp_link_types.specs.declared.types.transfer.Transfer.{Transfer}
@@ -36,15 +38,8 @@ abbrev Gone : Option Kept → Type 0
 Gone None = Unit {0}
 Gone (Some kept) = kept.contents ≡ Taken
 
-both_true : (a b : Bool) → (a && b) ≡ true → (a ≡ true) × (b ≡ true)
-both_true true b h = (refl, h)
-both_true false b h = absurd (false_is_not_true h)
-
 no_error : {e : TakeError} → Some e ≡ None → ⊥
 no_error h = cc
-
-some_is : {X : Type 0} (x y : X) → Some x ≡ Some y → x ≡ y
-some_is x y h = cc
 
 effect_gone : (o n : Option Kept) → Effect o n → Gone o → Gone n
 effect_gone o None e gone = tt
@@ -106,7 +101,7 @@ complete_kept None handle h = absurd (no_error h)
 complete_kept (Some kept) handle h = complete_contents kept.contents handle h
 
 is_tag : (tag named : Tag) → bytes_eq tag named ≡ true → named ≡ tag
-is_tag tag named h = some_is named tag (is_named tag (Some named) h)
+is_tag tag named h = same_Some named tag (is_named tag (Some named) h)
 
 module _ {T B : Type 0} (decoded : Decoder B) (tag : Tag) where
   -- what was taken, or is not kept, is not taken again
@@ -126,7 +121,7 @@ module _ {T B : Type 0} (decoded : Decoder B) (tag : Tag) where
     where
       own : (c : Call) (a : AnswerOf B) → Step decoded old c a new → brings_by tag old c a ≡ true → begins_by old c ≡ false → Gone (entry_at new.deliveries tag)
       own (call.OnIncomingTransfer t bytes) (answer.Arrived (Ok arrived)) s is_so is_not =
-          let here : s.tag ≡ tag = some_is s.tag tag (sym s.tag_is ∙ is_named tag (tag_of old t) is_so) in
+          let here : s.tag ≡ tag = same_Some s.tag tag (sym s.tag_is ∙ is_named tag (tag_of old t) is_so) in
           handled_gone (store_of old) tag is.entries_map old.link t bytes t.aborted (is_new old t) (begins old) arrived.arrival arrived.replaced (store_of new) s.link
           (subst (λ g. Handles t.aborted (is_new old t) (begins old) g t bytes (store_of old) old.link arrived.arrival arrived.replaced (store_of new) s.link) here s.handles)
           is_not gone
@@ -156,7 +151,7 @@ module _ {T B : Type 0} (decoded : Decoder B) (tag : Tag) where
 
   taken_gone : (old new : InboxState T) (c : Call) (a : AnswerOf B) → Step decoded old c a new → takes_by tag c a ≡ true → Gone (entry_at new.deliveries tag)
   taken_gone old new (call.Take named) (answer.Taken r) s is_so =
-      let is = both_true (bytes_eq tag named) (has_taken r) is_so in
+      let is = and_parts (bytes_eq tag named) (has_taken r) is_so in
       subst (λ (n : Store). Gone (entry_at n.entries tag)) (sym s.after.store)
       (subst (λ b. Gone (entry_at (if b then with_taken named old.deliveries else old.deliveries) tag)) (sym is.1)
       (subst (λ t. Gone (entry_at (with_taken t old.deliveries) tag)) (sym (is_tag tag named is.0)) (by (entry_at old.deliveries tag) refl)))
@@ -178,7 +173,7 @@ module _ {T B : Type 0} (decoded : Decoder B) (tag : Tag) where
   from_bytes : (old new : InboxState T) (c : Call) (a : AnswerOf B) (bytes : List ℕ) → Are bytes (bytes_at old.deliveries tag) → Step decoded old c a new
       → takes_by tag c a ≡ true → IsTakenFrom decoded bytes old a
   from_bytes old new (call.Take named) (answer.Taken (Ok delivery)) bytes are s is_so =
-      let is = both_true (bytes_eq tag named) true is_so in
+      let is = and_parts (bytes_eq tag named) true is_so in
       let complete = complete_kept (entry_at old.deliveries named) old.link.output_handle s.refused in
       let held : Held = complete.0 in
       let same : held_bytes held ≡ bytes = subst (Are bytes) (ap (λ t. bytes_at old.deliveries t) (sym (is_tag tag named is.0)) ∙ complete.2) are in (
@@ -187,20 +182,20 @@ module _ {T B : Type 0} (decoded : Decoder B) (tag : Tag) where
             (subst (λ o. IsSomeAnd o (λ held. IsDelivery old.link held.performative (decoded (held_bytes held)) delivery)) complete.1 s.delivered),
       )
   from_bytes old new (call.Take named) (answer.Taken (Err (error.Undecoded undecoded))) bytes are s is_so =
-      let is = both_true (bytes_eq tag named) true is_so in
+      let is = and_parts (bytes_eq tag named) true is_so in
       let complete = complete_kept (entry_at old.deliveries named) old.link.output_handle s.refused in
       let held : Held = complete.0 in
       let same : held_bytes held ≡ bytes = subst (Are bytes) (ap (λ t. bytes_at old.deliveries t) (sym (is_tag tag named is.0)) ∙ complete.2) are in
       let back : IsGivenBack decoded held undecoded = subst (λ o. IsSomeAnd o (λ held. IsGivenBack decoded held undecoded)) complete.1 (s.undecoded undecoded refl) in
       ap concat back.pieces ∙ same
-  from_bytes old new (call.Take named) (answer.Taken (Err other)) bytes are s is_so = absurd (false_is_not_true (both_true (bytes_eq tag named) false is_so).1)
+  from_bytes old new (call.Take named) (answer.Taken (Err other)) bytes are s is_so = absurd (false_is_not_true (and_parts (bytes_eq tag named) false is_so).1)
   from_bytes old new _ _ bytes are s is_so = absurd (false_is_not_true is_so)
 
 module _ {T B : Type 0} (decoded : Decoder B) where
   up_to : (old new : InboxState T) (before after : List (Moment T B)) (m : Moment T B) → IsRun decoded old (before ++ m ∷ after) new
       → IsRun decoded old before m.before × Step decoded m.before m.call m.answer m.after
   up_to old new [] after m run = (run.0, run.1)
-  up_to old new (b ∷ before) after m run = let rest = up_to b.after new before after m run.3 in ((run.0, run.1, run.2, rest.0, run.4), rest.1)
+  up_to old new (b ∷ before) after m run = let rest = up_to b.after new before after m run.3 in ((run.0, run.1, run.2, rest.0), rest.1)
 
   pub run_takes_what_came : (old new : InboxState T) (moments : List (Moment T B)) → IsStated old.deliveries old.link.unsettled → IsRun decoded old moments new
       → TakesWhatCame decoded old moments

@@ -6,6 +6,8 @@ use Rattle.amqp_link_payloads.specs.Position.{position}
 use Rattle.amqp_link_types.specs.Entries.{Tag, entry_at}
 use Rattle.amqp_link_types.specs.declared.types.delivery_state.DeliveryState.{DeliveryState}
 use Rattle.amqp_link_types.specs.declared.types.delivery_state.DeliveryState.TheVariants.{Received}
+use Rattle.amqp_link_types.specs.declared.types.errors.ReceiverAttachError.{ReceiverAttachError}
+use Rattle.amqp_link_types.specs.declared.types.terminus.TargetArchetype.{TargetArchetype}
 use Rattle.amqp_link_types.specs.declared.types.transfer.Transfer.{Transfer}
 use Rattle.amqp_link_receiver.specs.Completing.{IsDelivery}
 use Rattle.amqp_link_core.specs.Held.{held_bytes}
@@ -182,14 +184,19 @@ module _ {T B : Type 0} where
 
 -- ---- lists of calls
 
+module _ {T B : Type 0} (sent_as : T → TargetArchetype) (admitted : TargetArchetype → Option T) (refuses : T → T → Option ReceiverAttachError) where
+  -- each call answers what it answers alone, and leaves what it leaves alone
+  abbrev pub EachAnswers : List (Moment T B) → Type 0
+  EachAnswers [] = Unit {0}
+  EachAnswers (m ∷ moments) = Answers sent_as admitted refuses m.before m.call m.answer m.after × EachAnswers moments
+
 module _ {T B : Type 0} (decoded : Decoder B) where
-  -- Each call is a step from the inbox that the one before has left, and answers what it answers alone; after it the link has an
-  -- entry exactly for each delivery that is kept and not settled.
+  -- Each call is a step from the inbox that the one before has left; after it the link has an entry exactly for each delivery
+  -- that is kept and not settled.
   abbrev pub IsRun : InboxState T → List (Moment T B) → InboxState T → Type 0
   IsRun old [] new = new ≡ old
   IsRun old (m ∷ moments) new =
       (m.before ≡ old) × Step decoded m.before m.call m.answer m.after × IsStated m.after.deliveries m.after.link.unsettled × IsRun m.after moments new
-      × Answers m.before m.call m.answer m.after
 
   -- the calls were made in order, one for each answer
   pub record RunsCalls (old : InboxState T) (calls : List Call) (answers : List (AnswerOf B)) (new : InboxState T) : Type 0 where

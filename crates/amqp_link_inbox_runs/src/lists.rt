@@ -1,7 +1,7 @@
 //! Lists of calls on an inbox (2.7.5).
 ghost use Rattle.std.specs.Prelude.{◌≡◌, IfErr, IfOk, OnErr};
 ghost use Rattle.amqp_link_inbox.specs.Storing.{IsStated};
-ghost use Rattle.amqp_link_inbox_runs.specs.InboxRuns.{HoldsWhatCame, KeepsTheQueue, RunsCalls, StatesTheLast, TakesOnce, TakesWhatCame};
+ghost use Rattle.amqp_link_inbox_runs.specs.InboxRuns.{EachAnswers, HoldsWhatCame, KeepsTheQueue, RunsCalls, StatesTheLast, TakesOnce, TakesWhatCame};
 
 mod making;
 
@@ -30,7 +30,8 @@ pub fn run<T: LinkTarget, B: FromBody>(
     calls: Vec<Call>,
 ) -> Result<Vec<AnswerOf<B>>, Vec<Call>>
     requires { (target copy : T) → T.is_clone target copy → copy ≡ target }
-    ensures run { IfOk result (λ answers. RunsCalls B.decoded inbox.old calls.items answers.items inbox.new) }
+    ensures run { IfOk result (λ answers. (run : RunsCalls B.decoded inbox.old calls.items answers.items inbox.new)
+        × EachAnswers T.sent_as T.admitted T.refused_by_receiver run.moments) }
     ensures held { IfOk result (λ answers. (run : RunsCalls B.decoded inbox.old calls.items answers.items inbox.new)
         → HoldsWhatCame inbox.old run.moments inbox.new) }
     ensures stated { IsStated inbox.new.deliveries inbox.new.link.unsettled }

@@ -5,10 +5,15 @@ use crate::script::{
     Call, Row, Seen, arrived, bytes_are, disposed, first_of, new_inbox, standing, tag_of, tags_of,
     theirs, transfer_of, why_not_taken,
 };
+use amqp_link_inbox::{DisposeError, Inbox, TakeError};
 use amqp_link_inbox_runs::{AnswerOf, Call as Made, run};
-use amqp_link_types::types::{DeliveryState, OutputHandle, Payload, Whole};
+use amqp_link_types::types::{
+    DeliveryState, FlowError, OutputHandle, Payload, ReceiverAttachError, ReceiverTransferError,
+    Target, Whole,
+};
 use std::alloc::{AllocError, Global};
 use std::process::Abort;
+use std::slice;
 
 type Answer = AnswerOf<Whole>;
 
@@ -146,6 +151,85 @@ fn expect_list(rt: &(impl Abort + AllocGlobal), script: &[Row], last: (u32, usiz
     }
     assert_equal(rt, &standing(&inbox), &last);
     drop((answers, inbox));
+}
+
+// Whether a call was out of memory.
+fn is_out_of_memory(answer: &Answer) -> bool {
+    match answer {
+        Answer::AttachSent(Err(ReceiverAttachError::OutOfMemory))
+        | Answer::Attached(Err(ReceiverAttachError::OutOfMemory))
+        | Answer::Taken(Err(TakeError::OutOfMemory))
+        | Answer::SettledTaken(Err(TakeError::OutOfMemory))
+        | Answer::Disposed(Err(DisposeError::OutOfMemory))
+        | Answer::AllDisposed(Err(DisposeError::OutOfMemory))
+        | Answer::FlowSent(Err(FlowError::OutOfMemory))
+        | Answer::DispositionTaken(Err(_)) => true,
+        Answer::Arrived(Err(refused)) => refused.error == ReceiverTransferError::OutOfMemory,
+        _ => false,
+    }
+}
+
+// One of the calls of a row.
+fn call_at(alloc: Global, row: &[Row], index: usize) -> Option<Made> {
+    let calls = calls_of(alloc, row).or_else(|_| calls_of(alloc, row)).ok()?;
+    calls.into_iter().nth(index)
+}
+
+// The answer to one of the calls of a row, which is a list by itself.
+fn answer_alone(
+    rt: &(impl Abort + AllocGlobal),
+    inbox: &mut Inbox<Target>,
+    row: &[Row],
+    index: usize,
+) -> Option<Answer> {
+    let mut calls = Vec::new(rt.alloc());
+    let call = call_at(rt.alloc(), row, index)?;
+    if let Err(refused) = calls.push(call) {
+        calls.push(refused.value).expect(rt, "memory");
+    }
+    let answers = match run(rt.alloc(), inbox, calls) {
+        Ok(answers) => answers,
+        Err(calls) => run(rt.alloc(), inbox, calls).unwrap_or_else(|_| panic!(rt; "memory")),
+    };
+    answers.into_iter().next()
+}
+
+// The answer to one of the calls of a row. If it is out of memory, what the inbox shows has stayed, and it is made again.
+fn answer_in_memory(
+    rt: &(impl Abort + AllocGlobal),
+    inbox: &mut Inbox<Target>,
+    row: &[Row],
+    index: usize,
+) -> Option<Answer> {
+    let before = standing(inbox);
+    let answer = answer_alone(rt, inbox, row, index)?;
+    if !is_out_of_memory(&answer) {
+        return Some(answer);
+    }
+    drop(answer);
+    assert_equal(rt, &standing(inbox), &before);
+    answer_alone(rt, inbox, row, index)
+}
+
+// With one growth refused, whichever it is, a single call of a list answers so, and leaves the inbox as it was: by hand, with
+// `rt try --test --fail-alloc N`.
+#[test]
+fn a_single_call_of_a_list_is_out_of_memory(rt: HostRuntime) {
+    let mut inbox = new_inbox(&rt);
+    for row in &CUT_TWICE {
+        let (call, wanted, credit, stated) = row;
+        let attaches = matches!(call, Call::Attach(_) | Call::AttachInPart(_));
+        let mut seen = Seen::OutOfMemory;
+        for index in 0..(if attaches { 3 } else { 1 }) {
+            if let Some(answer) = answer_in_memory(&rt, &mut inbox, slice::from_ref(row), index) {
+                seen = seen_in(answer, *call);
+            }
+        }
+        assert_equal(&rt, &seen, wanted);
+        let (left, entries, _) = standing(&inbox);
+        assert_equal(&rt, &(left, entries), &(*credit, *stated));
+    }
+    drop(inbox);
 }
 
 #[test]

@@ -6,12 +6,10 @@ ghost use Rattle.amqp_link_dispositions.specs.Listed.{kept_in_order};
 ghost use Rattle.amqp_link_types.specs.Entries.{entry_at};
 ghost use Rattle.amqp_link_types.specs.declared.types.definitions.Role.TheVariants as role;
 ghost use Rattle.amqp_link_dispositions.specs.DispositionFrames.{CoverGroups, disposition_frame};
-ghost use Rattle.amqp_link_dispositions.specs.Keeping.{after_dispositions, after_one, is_settled_one};
-ghost use Rattle.amqp_link_dispositions.specs.Keeping.{map_after_sender_disposition};
-ghost use Rattle.amqp_link_types.specs.Entries.{changed_at, without_entries};
+ghost use Rattle.amqp_link_dispositions.specs.Keeping.{is_settled_one};
+ghost use Rattle.amqp_link_types.specs.Entries.{changed_at};
 ghost use Rattle.amqp_link_inbox.specs.Disposing;
-ghost use Rattle.amqp_link_inbox.specs.Disposing.{AnswersOutcome, after_settling, info_to_dispose, infos_to_dispose, settled_at, settled_tags};
-ghost use Rattle.amqp_link_inbox.specs.Inboxes.{inbox_with, store_of};
+ghost use Rattle.amqp_link_inbox.specs.Disposing.{AnswersOutcome, after_sender_disposition, all_disposed, disposed, info_to_dispose, infos_to_dispose};
 
 use crate::deliveries::settling::Settles;
 use crate::error::DisposeError;
@@ -61,13 +59,7 @@ impl<T: LinkTarget> Inbox<T> {
             (info_to_dispose self.old.link.local_state (entry_at self.old.deliveries tag.now) tag.now) result }
         ensures after { OnOk result
             (IfOk (info_to_dispose self.old.link.local_state (entry_at self.old.deliveries tag.now) tag.now) (λ info.
-            self.new ≡ record self.old {
-              link = record self.old.link {
-                unsettled = after_one (is_settled_one settled self.old.link.rcv_settle_mode info) state tag.now
-                    self.old.link.unsettled;
-              };
-              deliveries = after_settling (is_settled_one settled self.old.link.rcv_settle_mode info) tag.now self.old.deliveries;
-            })) }
+            self.new ≡ disposed (is_settled_one settled self.old.link.rcv_settle_mode info) state tag.now self.old)) }
         ensures left { OnErr result (self.new ≡ self.old) }
     {
         let info = match self.info_of(tag) {
@@ -115,13 +107,7 @@ impl<T: LinkTarget> Inbox<T> {
             ⊎ (infos_to_dispose self.old.link.local_state self.old.deliveries tags.now ≡ Err refusal)) }
         ensures after { OnOk result
             (IfOk (infos_to_dispose self.old.link.local_state self.old.deliveries tags.now) (λ infos.
-            self.new ≡ record self.old {
-              link = record self.old.link {
-                unsettled = after_dispositions (is_settled_one settled self.old.link.rcv_settle_mode) state
-                    (kept_in_order self.old.link.unsettled infos) self.old.link.unsettled;
-              };
-              deliveries = without_entries self.old.deliveries (settled_tags settled self.old.link.rcv_settle_mode infos);
-            })) }
+            self.new ≡ all_disposed settled state infos self.old)) }
         ensures left { OnErr result (self.new ≡ self.old) }
     {
         let infos = match self.infos_of(tags) {
@@ -186,11 +172,7 @@ impl<T: LinkTarget> Inbox<T> {
         state: Option<DeliveryState>,
         tag: &DeliveryTag,
     ) -> Result<(), AllocError>
-        ensures after { OnOk result (self.new ≡ inbox_with
-            (if settled then settled_at tag.now (store_of self.old) else store_of self.old)
-            (record self.old.link {
-              unsettled = map_after_sender_disposition settled state tag.now self.old.link.unsettled;
-            }) self.old.under_way) }
+        ensures after { OnOk result (self.new ≡ after_sender_disposition settled state tag.now self.old) }
         ensures memory { OnErr result (settled ≡ true) }
         ensures left { OnErr result (self.new ≡ self.old) }
     {

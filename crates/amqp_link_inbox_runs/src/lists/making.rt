@@ -25,7 +25,7 @@ pub(crate) fn is_stated<T: LinkTarget>(inbox: &Inbox<T>)
 pub(crate) fn answer_to<T: LinkTarget, B: FromBody>(inbox: &mut Inbox<T>, call: Call) -> AnswerOf<B>
     requires { (target copy : T) → T.is_clone target copy → copy ≡ target }
     ensures step { Step B.decoded inbox.old call result inbox.new }
-    ensures answers { Answers inbox.old call result inbox.new }
+    ensures answers { Answers T.sent_as T.admitted T.refused_by_receiver inbox.old call result inbox.new }
 {
     match call {
         Call::SetOutputHandle(handle) => set_handle(inbox, handle),
@@ -66,7 +66,7 @@ pub(crate) fn answer_to<T: LinkTarget, B: FromBody>(inbox: &mut Inbox<T>, call: 
 
 fn set_handle<T: LinkTarget, B: FromBody>(inbox: &mut Inbox<T>, handle: OutputHandle) -> AnswerOf<B>
     ensures step { Step B.decoded inbox.old (call.SetOutputHandle handle) result inbox.new }
-    ensures answers { Answers inbox.old (call.SetOutputHandle handle) result inbox.new }
+    ensures answers { Answers T.sent_as T.admitted T.refused_by_receiver inbox.old (call.SetOutputHandle handle) result inbox.new }
 {
     *inbox.output_handle_mut() = Some(handle);
     AnswerOf::Done
@@ -75,14 +75,14 @@ fn set_handle<T: LinkTarget, B: FromBody>(inbox: &mut Inbox<T>, handle: OutputHa
 fn send_attach<T: LinkTarget, B: FromBody>(inbox: &mut Inbox<T>, anew: bool) -> AnswerOf<B>
     requires { (target copy : T) → T.is_clone target copy → copy ≡ target }
     ensures step { Step B.decoded inbox.old (call.SendAttach anew) result inbox.new }
-    ensures answers { Answers inbox.old (call.SendAttach anew) result inbox.new }
+    ensures answers { Answers T.sent_as T.admitted T.refused_by_receiver inbox.old (call.SendAttach anew) result inbox.new }
 {
     AnswerOf::AttachSent(inbox.send_attach(anew))
 }
 
 fn attach_taken<T: LinkTarget, B: FromBody>(inbox: &mut Inbox<T>, attach: Attach) -> AnswerOf<B>
     ensures step { Step B.decoded inbox.old (call.OnIncomingAttach attach) result inbox.new }
-    ensures answers { Answers inbox.old (call.OnIncomingAttach attach) result inbox.new }
+    ensures answers { Answers T.sent_as T.admitted T.refused_by_receiver inbox.old (call.OnIncomingAttach attach) result inbox.new }
 {
     AnswerOf::Attached(inbox.on_incoming_attach(attach))
 }
@@ -93,14 +93,14 @@ fn arrive<T: LinkTarget, B: FromBody>(
     payload: Payload,
 ) -> AnswerOf<B>
     ensures step { Step B.decoded inbox.old (call.OnIncomingTransfer transfer payload) result inbox.new }
-    ensures answers { Answers inbox.old (call.OnIncomingTransfer transfer payload) result inbox.new }
+    ensures answers { Answers T.sent_as T.admitted T.refused_by_receiver inbox.old (call.OnIncomingTransfer transfer payload) result inbox.new }
 {
     AnswerOf::Arrived(inbox.on_incoming_transfer(transfer, payload))
 }
 
 fn take<T: LinkTarget, B: FromBody>(inbox: &mut Inbox<T>, tag: DeliveryTag) -> AnswerOf<B>
     ensures step { Step B.decoded inbox.old (call.Take tag) result inbox.new }
-    ensures answers { Answers inbox.old (call.Take tag) result inbox.new }
+    ensures answers { Answers T.sent_as T.admitted T.refused_by_receiver inbox.old (call.Take tag) result inbox.new }
 {
     let answer = AnswerOf::Taken(inbox.take(&tag));
     drop(tag);
@@ -109,7 +109,7 @@ fn take<T: LinkTarget, B: FromBody>(inbox: &mut Inbox<T>, tag: DeliveryTag) -> A
 
 fn take_settled<T: LinkTarget, B: FromBody>(inbox: &mut Inbox<T>) -> AnswerOf<B>
     ensures step { Step B.decoded inbox.old (call.TakeSettled) result inbox.new }
-    ensures answers { Answers inbox.old (call.TakeSettled) result inbox.new }
+    ensures answers { Answers T.sent_as T.admitted T.refused_by_receiver inbox.old (call.TakeSettled) result inbox.new }
 {
     AnswerOf::SettledTaken(inbox.take_settled())
 }
@@ -122,7 +122,7 @@ fn dispose<T: LinkTarget, B: FromBody>(
     batchable: bool,
 ) -> AnswerOf<B>
     ensures step { Step B.decoded inbox.old (call.Dispose tag settled state batchable) result inbox.new }
-    ensures answers { Answers inbox.old (call.Dispose tag settled state batchable) result inbox.new }
+    ensures answers { Answers T.sent_as T.admitted T.refused_by_receiver inbox.old (call.Dispose tag settled state batchable) result inbox.new }
 {
     let answer = AnswerOf::Disposed(inbox.dispose(&tag, settled, state, batchable));
     drop(tag);
@@ -137,7 +137,7 @@ fn dispose_all<T: LinkTarget, B: FromBody>(
     batchable: bool,
 ) -> AnswerOf<B>
     ensures step { Step B.decoded inbox.old (call.DisposeAll tags settled state batchable) result inbox.new }
-    ensures answers { Answers inbox.old (call.DisposeAll tags settled state batchable) result inbox.new }
+    ensures answers { Answers T.sent_as T.admitted T.refused_by_receiver inbox.old (call.DisposeAll tags settled state batchable) result inbox.new }
 {
     let answer = AnswerOf::AllDisposed(inbox.dispose_all(
         tags.as_slice(),
@@ -155,7 +155,7 @@ fn keep_outcome<T: LinkTarget, B: FromBody>(
     state: DeliveryState,
 ) -> AnswerOf<B>
     ensures step { Step B.decoded inbox.old (call.KeepOutcome tag state) result inbox.new }
-    ensures answers { Answers inbox.old (call.KeepOutcome tag state) result inbox.new }
+    ensures answers { Answers T.sent_as T.admitted T.refused_by_receiver inbox.old (call.KeepOutcome tag state) result inbox.new }
 {
     let answer = AnswerOf::OutcomeKept(inbox.keep_outcome(&tag, state));
     drop(tag);
@@ -169,7 +169,7 @@ fn disposition<T: LinkTarget, B: FromBody>(
     tag: DeliveryTag,
 ) -> AnswerOf<B>
     ensures step { Step B.decoded inbox.old (call.OnIncomingDisposition settled state tag) result inbox.new }
-    ensures answers { Answers inbox.old (call.OnIncomingDisposition settled state tag) result inbox.new }
+    ensures answers { Answers T.sent_as T.admitted T.refused_by_receiver inbox.old (call.OnIncomingDisposition settled state tag) result inbox.new }
 {
     let answer = AnswerOf::DispositionTaken(inbox.on_incoming_disposition(settled, state, &tag));
     drop(tag);
@@ -184,14 +184,14 @@ fn send_flow<T: LinkTarget, B: FromBody>(
     include_properties: bool,
 ) -> AnswerOf<B>
     ensures step { Step B.decoded inbox.old (call.SendFlow credit drain echo include_properties) result inbox.new }
-    ensures answers { Answers inbox.old (call.SendFlow credit drain echo include_properties) result inbox.new }
+    ensures answers { Answers T.sent_as T.admitted T.refused_by_receiver inbox.old (call.SendFlow credit drain echo include_properties) result inbox.new }
 {
     AnswerOf::FlowSent(inbox.send_flow(credit, drain, echo, include_properties))
 }
 
 fn flow_taken<T: LinkTarget, B: FromBody>(inbox: &mut Inbox<T>, flow: LinkFlow) -> AnswerOf<B>
     ensures step { Step B.decoded inbox.old (call.OnIncomingFlow flow) result inbox.new }
-    ensures answers { Answers inbox.old (call.OnIncomingFlow flow) result inbox.new }
+    ensures answers { Answers T.sent_as T.admitted T.refused_by_receiver inbox.old (call.OnIncomingFlow flow) result inbox.new }
 {
     AnswerOf::FlowTaken(inbox.on_incoming_flow(flow))
 }
@@ -202,28 +202,28 @@ fn send_detach<T: LinkTarget, B: FromBody>(
     error: Option<Error>,
 ) -> AnswerOf<B>
     ensures step { Step B.decoded inbox.old (call.SendDetach closed error) result inbox.new }
-    ensures answers { Answers inbox.old (call.SendDetach closed error) result inbox.new }
+    ensures answers { Answers T.sent_as T.admitted T.refused_by_receiver inbox.old (call.SendDetach closed error) result inbox.new }
 {
     AnswerOf::DetachSent(inbox.send_detach(closed, error))
 }
 
 fn detach_reply<T: LinkTarget, B: FromBody>(inbox: &mut Inbox<T>, detach: Detach) -> AnswerOf<B>
     ensures step { Step B.decoded inbox.old (call.OnDetachReply detach) result inbox.new }
-    ensures answers { Answers inbox.old (call.OnDetachReply detach) result inbox.new }
+    ensures answers { Answers T.sent_as T.admitted T.refused_by_receiver inbox.old (call.OnDetachReply detach) result inbox.new }
 {
     AnswerOf::DetachReplied(inbox.on_detach_reply(detach))
 }
 
 fn detach_taken<T: LinkTarget, B: FromBody>(inbox: &mut Inbox<T>, detach: Detach) -> AnswerOf<B>
     ensures step { Step B.decoded inbox.old (call.ApplyRemoteDetachOutcome detach) result inbox.new }
-    ensures answers { Answers inbox.old (call.ApplyRemoteDetachOutcome detach) result inbox.new }
+    ensures answers { Answers T.sent_as T.admitted T.refused_by_receiver inbox.old (call.ApplyRemoteDetachOutcome detach) result inbox.new }
 {
     AnswerOf::DetachTaken(inbox.apply_remote_detach_outcome(detach))
 }
 
 fn lose_session<T: LinkTarget, B: FromBody>(inbox: &mut Inbox<T>) -> AnswerOf<B>
     ensures step { Step B.decoded inbox.old (call.OnSessionLost) result inbox.new }
-    ensures answers { Answers inbox.old (call.OnSessionLost) result inbox.new }
+    ensures answers { Answers T.sent_as T.admitted T.refused_by_receiver inbox.old (call.OnSessionLost) result inbox.new }
 {
     inbox.on_session_lost();
     AnswerOf::Done

@@ -15,7 +15,7 @@ pub loop-call-init : goal.loop-call-init
 loop-call-init g c =
     let gives = c.into_iter-call-iterator.ensures.into_iter_gives in
     record {
-      run = none_yet g.B.FromBody.decoded c.args.inbox.now c.args.calls.items (into_iter_items c.into_iter-call-iterator.result) c.in-Ok.answers.items gives.0 c.in-Ok.ensures.items;
+      run = none_yet g.B.FromBody.decoded g.T.LinkTarget.sent_as g.T.LinkTarget.admitted g.T.VerifyTargetArchetype.refused_by_receiver c.args.inbox.now c.args.calls.items (into_iter_items c.into_iter-call-iterator.result) c.in-Ok.answers.items gives.0 c.in-Ok.ensures.items;
       stated = c.is_stated.ensures;
       room = omega (arith, gives.1, c.in-Ok.ensures.len, c.in-Ok.ensures.capacity, c.len.ensures);
     }
@@ -26,7 +26,7 @@ loop-call-preserved g c =
     let left = into_iter_items c.loop-call.call-iterator in
     record {
       run =
-          one_more g.B.FromBody.decoded c.args.inbox.now c.loop-call.inbox c.answer_to.new.inbox c.args.calls.items left (into_iter_items c.next.new.self)
+          one_more g.B.FromBody.decoded g.T.LinkTarget.sent_as g.T.LinkTarget.admitted g.T.VerifyTargetArchetype.refused_by_receiver c.args.inbox.now c.loop-call.inbox c.answer_to.new.inbox c.args.calls.items left (into_iter_items c.next.new.self)
           c.loop-call.answers.items c.push_reserved.new.self.items c.in-Some.call c.answer_to.result c.loop-call.invariant.run next.0 c.push_reserved.ensures.items
           c.answer_to.ensures.step c.is_stated-in-loop-call.ensures c.answer_to.ensures.answers;
       stated = c.is_stated-in-loop-call.ensures;
@@ -40,7 +40,7 @@ pub returns-clause-run : goal.returns-clause-run
 returns-clause-run g c =
     let left = into_iter_items c.loop-call.call-iterator in
     let none : length left ≡ 0 = omega (arith, c.in-None.ensures.steps.0) in
-    all_made g.B.FromBody.decoded c.args.inbox.now c.loop-call.inbox c.args.calls.items left c.loop-call.answers.items c.loop-call.invariant.run (nil_from_length left none)
+    all_made g.B.FromBody.decoded g.T.LinkTarget.sent_as g.T.LinkTarget.admitted g.T.VerifyTargetArchetype.refused_by_receiver c.args.inbox.now c.loop-call.inbox c.args.calls.items left c.loop-call.answers.items c.loop-call.invariant.run (nil_from_length left none)
 
 pub returns-clause-held : goal.returns-clause-held
 returns-clause-held g c =
