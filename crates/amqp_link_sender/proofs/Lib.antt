@@ -1,3 +1,2 @@
 pub mod AbortLemmas
 pub mod AttachLemmas
-pub mod SendRefusals

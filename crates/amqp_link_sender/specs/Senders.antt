@@ -129,30 +129,39 @@ pub record SendsTransfer {T : Type 0} (old : Sender T) (message_format : ℕ) (t
   pub answered : settlement ≡ settlement_of (settled_on_send old t) tag
   pub world : new ≡ with_registration (settled_on_send old t) old tag (new_entry message_format payload)
 
--- A payload was sent as a new delivery at this output handle: its tag is the delivery-count before the send,
--- its transfer was sent, and it took one credit.
-pub record SendsPayload {T : Type 0} (old : Sender T) (handle : OutputHandle) (d : Delivery) (payload : List ℕ)
+-- A payload was sent as a new delivery with this tag at this output handle: its transfer was sent, and it took one credit.
+pub record SendsTagged {T : Type 0} (old : Sender T) (handle : OutputHandle) (tag : Tag) (d : Delivery) (payload : List ℕ)
     (settlement : Settlement) (frames : List LinkFrame) (new : Sender T) : Type 0 where
-  pub sent : IsSent old (new_transfer old handle (next_tag old) d) payload frames
-  pub answered : settlement ≡ settlement_of (settled_by_mode old.snd_settle_mode d.settled) (next_tag old)
+  pub sent : IsSent old (new_transfer old handle tag d) payload frames
+  pub answered : settlement ≡ settlement_of (settled_by_mode old.snd_settle_mode d.settled) tag
   pub world : new ≡ record old {
     unsettled =
         if settled_by_mode old.snd_settle_mode d.settled then old.unsettled
-        else with_entry old.unsettled (next_tag old) (new_entry d.message_format payload);
+        else with_entry old.unsettled tag (new_entry d.message_format payload);
     flow_state = after_consuming 1 old.flow_state;
   }
 
--- what a send of a payload does, by what it returns: `CreditMissing` changes nothing
+-- the same with the delivery-count before the send as its tag
+abbrev pub SendsPayload : {T : Type 0} → Sender T → OutputHandle → Delivery → List ℕ → Settlement → List LinkFrame → Sender T → Type 0
+SendsPayload old handle d payload settlement frames new = SendsTagged old handle (next_tag old) d payload settlement frames new
+
+-- what a send of a payload under this tag does, by what it returns: `CreditMissing` changes nothing
+abbrev pub SendsTaggedOrLacksCredit : {T : Type 0} → Sender T → Tag → Delivery → List ℕ → Sending → Sender T → Type 0
+SendsTaggedOrLacksCredit old tag d payload (sending.Sent settlement frames) new =
+    IsSomeAnd old.output_handle (λ handle. SendsTagged old handle tag d payload settlement frames.items new)
+SendsTaggedOrLacksCredit old tag d payload sending.CreditMissing new = new ≡ old
+
 abbrev pub SendsOrLacksCredit : {T : Type 0} → Sender T → Delivery → List ℕ → Sending → Sender T → Type 0
-SendsOrLacksCredit old d payload (sending.Sent settlement frames) new =
-    IsSomeAnd old.output_handle (λ handle. SendsPayload old handle d payload settlement frames.items new)
-SendsOrLacksCredit old d payload sending.CreditMissing new = new ≡ old
+SendsOrLacksCredit old d payload sending new = SendsTaggedOrLacksCredit old (next_tag old) d payload sending new
 
 -- the frames of a sent payload fit the frame limit, and are as few as the payload limit allows
+abbrev pub SendsTaggedFitting : {T : Type 0} → Sender T → Tag → Delivery → List ℕ → Sending → Type 0
+SendsTaggedFitting old tag d payload (sending.Sent settlement frames) = IsSomeAnd old.output_handle (λ handle.
+    IsFitting (new_transfer old handle tag d) old.max_frame_size payload frames.items)
+SendsTaggedFitting old tag d payload sending.CreditMissing = Unit {0}
+
 abbrev pub SendsFitting : {T : Type 0} → Sender T → Delivery → List ℕ → Sending → Type 0
-SendsFitting old d payload (sending.Sent settlement frames) = IsSomeAnd old.output_handle (λ handle.
-    IsFitting (new_transfer old handle (next_tag old) d) old.max_frame_size payload frames.items)
-SendsFitting old d payload sending.CreditMissing = Unit {0}
+SendsFitting old d payload sending = SendsTaggedFitting old (next_tag old) d payload sending
 
 -- ---- refusals, in the order of the tests
 
@@ -239,15 +248,19 @@ pub data SendStop : Type 0 where
   missing_credit : SendStop
   refused : LinkStateError → SendStop
 
-abbrev pub payload_tests : {T : Type 0} → Sender T → Delivery → List ℕ → List (Bool × SendStop)
-payload_tests s d payload =
-    let t = new_transfer s (unwrap_or s.output_handle (record { 0 = 0 })) (next_tag s) d in
+-- the tests of a payload that is sent under this tag
+abbrev pub tagged_payload_tests : {T : Type 0} → Sender T → Tag → Delivery → List ℕ → List (Bool × SendStop)
+tagged_payload_tests s tag d payload =
+    let t = new_transfer s (unwrap_or s.output_handle (record { 0 = 0 })) tag d in
     (is_none s.output_handle, refused error.IllegalState)
     ∷ (is_none s.input_handle, refused error.IllegalState)
     ∷ (s.flow_state.link_credit == 0, missing_credit)
-    ∷ (not (settled_by_mode s.snd_settle_mode d.settled) && is_pending s (next_tag s), refused error.TagPending)
+    ∷ (not (settled_by_mode s.snd_settle_mode d.settled) && is_pending s tag, refused error.TagPending)
     ∷ (not (has_room t s.max_frame_size payload), refused error.NoRoom)
     ∷ []
+
+abbrev pub payload_tests : {T : Type 0} → Sender T → Delivery → List ℕ → List (Bool × SendStop)
+payload_tests s d payload = tagged_payload_tests s (next_tag s) d payload
 
 -- whether a payload can be sent, by the first test that holds: not without credit
 abbrev pub IsSendable : Result Bool LinkStateError → List (Bool × SendStop) → Type 0

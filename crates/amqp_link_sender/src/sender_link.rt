@@ -12,6 +12,7 @@ mod disposing;
 mod flow;
 pub mod incoming;
 mod resending;
+mod tagged;
 mod waits;
 
 use amqp_link_endpoint::endpoint::either::{Access, EitherEnd};
@@ -82,8 +83,8 @@ pub struct DispositionAnswer {
 ///   is one. `on_incoming_disposition` may resolve a delivery; if `echo` is set, send the disposition of
 ///   `dispose`. `on_incoming_detach` returns the outcome of each pending delivery too, if the link is closed.
 ///   `on_incoming_transfer` refuses every transfer.
-/// - **Send**: `send_payload` sends a new delivery for one credit. `CreditMissing`: wait for a flow, and call
-///   again. `send_payload_with_transfer` and `send_transfer_without_modifying_unsettled_map` send with a
+/// - **Send**: `send_payload` sends a new delivery for one credit, and `send_payload_with_tag` one under a tag of the
+///   caller's. `CreditMissing`: wait for a flow, and call again. `send_payload_with_transfer` and `send_transfer_without_modifying_unsettled_map` send with a
 ///   transfer that the caller has, as `generate_non_resuming_transfer_performative` makes it.
 ///   `can_send_payload`, `can_send_with_transfer` and `can_send_unsettled` say whether a send would be refused.
 /// - **Settle**: `dispose` and `batch_dispose` make dispositions; `withdraw` removes a delivery from the
@@ -147,12 +148,12 @@ impl<T: LinkTarget> EitherEnd for SenderLink<T> {
 }
 
 impl<T: LinkTarget> SenderLink<T> {
-    ghost use Rattle.amqp_link_sender.specs.Senders.{SendsOrLacksCredit, SendsTransfer, IsSent, SendAnswersThenOutOfMemory};
+    ghost use Rattle.amqp_link_sender.specs.Senders.{SendsOrLacksCredit, SendsTaggedOrLacksCredit, SendsTransfer, IsSent, SendAnswersThenOutOfMemory};
     ghost use Rattle.amqp_link_types.specs.Refusals.{AnswersExactly, AnswersThenOutOfMemory};
-    ghost use Rattle.amqp_link_sender.specs.Senders.{sender_of_parts, delivery_of, next_tag, new_transfer, new_entry, settled_on_send, SendsFitting};
+    ghost use Rattle.amqp_link_sender.specs.Senders.{sender_of_parts, delivery_of, next_tag, new_transfer, new_entry, settled_on_send, SendsFitting, SendsTaggedFitting};
     ghost use Rattle.amqp_link_types.specs.Entries.{with_entry};
     ghost use Rattle.amqp_link_sender.specs.Waits.{waiting_error, after_waiting};
-    ghost use Rattle.amqp_link_sender.specs.Senders.{IsSendable, transfer_tests, tagged_tests, tagged_transfer_tests, delivery_tests, payload_tests, untagged};
+    ghost use Rattle.amqp_link_sender.specs.Senders.{IsSendable, transfer_tests, tagged_tests, tagged_transfer_tests, delivery_tests, payload_tests, tagged_payload_tests, untagged};
 
     /// A link that is not attached, without handles and unsettled deliveries. Does not allocate.
     pub fn new(alloc: Global, parts: LinkParts<T>) -> SenderLink<T>
@@ -303,6 +304,28 @@ impl<T: LinkTarget> SenderLink<T> {
             (delivery_of message_format settled state batchable) payload.now) }
         ensures left { OnErr result (self.new ≡ self.old) }
     {
+        let count = self.inner.flow_state.delivery_count().to_be_bytes();
+        self.send_under(&count, payload, message_format, settled, state, batchable)
+    }
+
+    // Sends a payload as a new delivery with this tag, for one credit, if nothing is pending.
+    fn send_under(
+        &mut self,
+        tag: &[u8],
+        payload: &Payload,
+        message_format: MessageFormat,
+        settled: Option<bool>,
+        state: Option<DeliveryState>,
+        batchable: bool,
+    ) -> Result<Sending, LinkStateError>
+        ensures sent { IfOk result (λ sending. SendsTaggedOrLacksCredit self.old tag.now
+            (delivery_of message_format settled state batchable) payload.now sending self.new) }
+        ensures fits { IfOk result (λ sending. SendsTaggedFitting self.old tag.now
+            (delivery_of message_format settled state batchable) payload.now sending) }
+        ensures refused { SendAnswersThenOutOfMemory result (tagged_payload_tests self.old tag.now
+            (delivery_of message_format settled state batchable) payload.now) }
+        ensures left { OnErr result (self.new ≡ self.old) }
+    {
         let Some(handle) = self.inner.output_handle else {
             drop(state);
             return Err(LinkStateError::IllegalState);
@@ -319,6 +342,7 @@ impl<T: LinkTarget> SenderLink<T> {
         let (settlement, frames) = self.send_untagged(
             input_handle,
             transfer,
+            tag,
             message_format,
             payload,
         )?;
@@ -341,6 +365,23 @@ impl<T: LinkTarget> SenderLink<T> {
         ensures { IsSendable result (payload_tests self.now
             (delivery_of message_format settled state batchable) payload.now) }
     {
+        let count = self.inner.flow_state.delivery_count().to_be_bytes();
+        self.can_send_under(&count, payload, message_format, settled, state, batchable)
+    }
+
+    // The same under this tag.
+    fn can_send_under(
+        &self,
+        tag: &[u8],
+        payload: &Payload,
+        message_format: MessageFormat,
+        settled: Option<bool>,
+        state: Option<DeliveryState>,
+        batchable: bool,
+    ) -> Result<bool, LinkStateError>
+        ensures { IsSendable result (tagged_payload_tests self.now tag.now
+            (delivery_of message_format settled state batchable) payload.now) }
+    {
         let Some(handle) = self.inner.output_handle else {
             drop(state);
             return Err(LinkStateError::IllegalState);
@@ -353,43 +394,41 @@ impl<T: LinkTarget> SenderLink<T> {
             drop(state);
             return Ok(false);
         }
-        let count = self.inner.flow_state.delivery_count().to_be_bytes();
         let mut next = self.untagged_transfer(handle, message_format, settled, state, batchable);
-        let limit = self.limit_of_next(&mut next, &count, payload);
+        let limit = self.limit_of_next(&mut next, tag, payload);
         drop(next);
         limit?;
         Ok(true)
     }
 
-    // Sends the next delivery with this transfer, which has no tag yet: the tag is made once no test refuses
-    // the delivery.
+    // Sends a new delivery under this tag with this transfer, which has no tag yet: its tag is made once no test
+    // refuses the delivery.
     fn send_untagged(
         &mut self,
         input_handle: InputHandle,
         mut transfer: Transfer,
+        tag: &[u8],
         message_format: MessageFormat,
         payload: &Payload,
     ) -> Result<(Settlement, Vec<LinkFrame>), LinkStateError>
         requires { self.old.input_handle ≡ Some input_handle }
         ensures sent { IfOk result (λ sent. SendsTransfer self.old message_format
-            (record transfer { delivery_tag = Some (next_tag self.old) }) (next_tag self.old)
-            payload.now sent.0 sent.1.items self.new) }
+            (record transfer { delivery_tag = Some tag.now }) tag.now payload.now sent.0 sent.1.items self.new) }
         ensures fits { IfOk result (λ sent.
-            IsFitting (record transfer { delivery_tag = Some (next_tag self.old) })
+            IsFitting (record transfer { delivery_tag = Some tag.now })
             self.old.max_frame_size payload.now sent.1.items) }
         ensures refused { AnswersThenOutOfMemory LinkStateError.OutOfMemory result (delivery_tests self.old
-            (record transfer { delivery_tag = Some (next_tag self.old) }) (next_tag self.old) payload.now) }
+            (record transfer { delivery_tag = Some tag.now }) tag.now payload.now) }
         ensures left { OnErr result (self.new ≡ self.old) }
     {
-        let count = self.inner.flow_state.delivery_count().to_be_bytes();
-        let limit = match self.limit_of_next(&mut transfer, &count, payload) {
+        let limit = match self.limit_of_next(&mut transfer, tag, payload) {
             Ok(limit) => limit,
             Err(refused) => {
                 drop(transfer);
                 return Err(refused);
             }
         };
-        let (tag, named) = match tags_of(self.alloc, &count) {
+        let (tag, named) = match tags_of(self.alloc, tag) {
             Ok(tags) => tags,
             Err(refused) => {
                 drop(transfer);

@@ -10,6 +10,8 @@ mod calls;
 #[cfg(test)]
 mod exchanging;
 #[cfg(test)]
+mod flows;
+#[cfg(test)]
 mod led;
 #[cfg(test)]
 mod samples;

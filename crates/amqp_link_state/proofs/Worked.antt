@@ -3,6 +3,7 @@ use Rattle.std.proofs.Common.{◌≡◌, ◌+◌, ◌*◌, ◌^◌, pos, negsuc,
 use Rattle.amqp_link_state.specs.Counts.{sdiff, granted, count_limit, after_consuming}
 use Rattle.amqp_link_state.specs.Counts.{flow_of, credit_after, sender_after, sender_reply, receiver_after, receiver_reply}
 use Rattle.amqp_link_state.specs.Counts.{with_stated, stated_flow}
+use Rattle.amqp_link_state.specs.Counts.{given_back, keeping_reply, sender_flow, sender_keeping, with_available}
 use Rattle.amqp_link_state.specs.declared.state.LinkFlowStateInner.{LinkFlowStateInner}
 use Rattle.amqp_link_types.specs.declared.types.performatives.LinkFlow.{LinkFlow}
 
@@ -76,6 +77,30 @@ reply_to_a_drain : sender_reply draining at_the_wrap (record { 0 = 9 }) ≡ Some
   properties = None;
 })
 reply_to_a_drain = refl
+
+kept_of_a_drain : sender_keeping draining at_the_wrap ≡ record at_the_wrap { link_credit = 7; drain = true }
+kept_of_a_drain = refl
+
+no_reply_while_it_is_kept : keeping_reply draining at_the_wrap (record { 0 = 9 }) ≡ None
+no_reply_while_it_is_kept = refl
+
+-- two of the seven are spent, and five given back
+rest_given_back : given_back (after_consuming 2 (sender_keeping draining at_the_wrap)) ≡ record at_the_wrap { delivery_count = 6; link_credit = 0; drain = true }
+rest_given_back = refl
+
+two_wait : with_available (Some 2) at_the_wrap ≡ record at_the_wrap { available = 2 }
+two_wait = refl
+
+stated_to_the_receiver : sender_flow (with_available (Some 2) at_the_wrap) (record { 0 = 9 }) true true ≡ record {
+  handle = record { 0 = 9 };
+  delivery_count = Some 4294967295;
+  link_credit = Some 3;
+  available = Some 2;
+  drain = false;
+  echo = true;
+  properties = None;
+}
+stated_to_the_receiver = refl
 
 receiver_keeps_its_credit : receiver_after draining at_the_wrap ≡ record at_the_wrap { delivery_count = 4294967292; available = 6 }
 receiver_keeps_its_credit = refl

@@ -77,6 +77,28 @@ abbrev pub sender_reply : LinkFlow → LinkFlowStateInner → OutputHandle → O
 sender_reply flow own handle =
     if flow.drain || flow.echo then Some (flow_of (sender_after flow own) handle false) else None
 
+-- A sender after that flow if it keeps what it is to drain: the credit stands until it is spent or given back.
+abbrev pub sender_keeping : LinkFlow → LinkFlowStateInner → LinkFlowStateInner
+sender_keeping flow own = record own { link_credit = credit_after flow own; drain = flow.drain }
+
+-- its reply: only to a flow that asks for an echo
+abbrev pub keeping_reply : LinkFlow → LinkFlowStateInner → OutputHandle → Option LinkFlow
+keeping_reply flow own handle = if flow.echo then Some (flow_of (sender_keeping flow own) handle false) else None
+
+-- a sender whose credit is all added to its count
+abbrev pub given_back : LinkFlowStateInner → LinkFlowStateInner
+given_back own = record own { delivery_count = (own.delivery_count + own.link_credit) % 2 ^ 32; link_credit = 0 }
+
+-- a sender with the number of waiting deliveries that its user sets
+abbrev pub with_available : Option ℕ → LinkFlowStateInner → LinkFlowStateInner
+with_available available own = record own { available = unwrap_or available own.available }
+
+-- the flow that a sender sends by itself: with its properties if they are to be included
+abbrev pub sender_flow : LinkFlowStateInner → OutputHandle → Bool → Bool → LinkFlow
+sender_flow own handle echo include_properties = record (flow_of own handle echo) {
+  properties = if include_properties then own.properties else None;
+}
+
 -- a receiver after a sender's flow: it keeps its credit and its drain flag
 abbrev pub receiver_after : LinkFlow → LinkFlowStateInner → LinkFlowStateInner
 receiver_after flow own = record own {

@@ -1,12 +1,13 @@
 //! How credit is spent, and flows that are sent and taken (2.6.7).
 //!
 //! Only the properties of a flow that is sent are allocated.
-ghost use Rattle.std.specs.Prelude.{◌≡◌, ◌↔◌, ◌+◌, ◌%◌, ◌^◌, ◌<◌, ◌≤◌, true, if◌then◌else◌, None};
+ghost use Rattle.std.specs.Prelude.{◌≡◌, ◌↔◌, ◌+◌, ◌%◌, ◌^◌, ◌<◌, ◌≤◌, false, true, if◌then◌else◌, None, Some};
 ghost use Rattle.std.specs.Prelude.{IfOk, IfErr, IsErr, OnErr, OnOk, is_some};
 ghost use Rattle.std.specs.Int.{w32, to_be_bytes};
 ghost use Rattle.amqp_link_state.specs.Counts.{sdiff, count_limit, after_consuming, moved_to};
 ghost use Rattle.amqp_link_state.specs.Counts;
 ghost use Rattle.amqp_link_state.specs.Counts.{flow_of, credit_after, sender_after, sender_reply};
+ghost use Rattle.amqp_link_state.specs.Counts.{given_back, keeping_reply, sender_flow, sender_keeping, with_available};
 ghost use Rattle.amqp_link_state.specs.Counts.{receiver_after, receiver_reply, with_stated, stated_flow};
 
 use crate::role::{ReceiverMarker, SenderMarker};
@@ -133,12 +134,8 @@ impl LinkFlowState<SenderMarker> {
         ensures limit { count_limit self.new
             ≡ (self.old.delivery_count + credit_after flow.now self.old) % 2 ^ 32 }
     {
+        self.take_grant(flow);
         let state = &mut self.inner;
-        let count = flow.delivery_count.unwrap_or(state.initial_delivery_count);
-        if let Some(credit) = flow.link_credit {
-            state.link_credit = granted(count, credit, state.delivery_count);
-        }
-        state.drain = flow.drain;
         if flow.drain {
             state.spend(state.link_credit);
         }
@@ -147,6 +144,86 @@ impl LinkFlowState<SenderMarker> {
         } else {
             None
         }
+    }
+
+    /// Takes the receiver's flow as `on_incoming_flow` does, but keeps the credit if the flow drains: it is spent on what
+    /// there is to send, and `give_back` gives the rest back.
+    ///
+    /// If the flow asks for an echo, returns the flow state afterwards, without properties and without `echo`. Does not
+    /// allocate.
+    pub fn keep_incoming_flow(
+        &mut self,
+        flow: &LinkFlow,
+        output_handle: OutputHandle,
+    ) -> Option<LinkFlow>
+        ensures after { self.new ≡ sender_keeping flow.now self.old }
+        ensures reply { result ≡ keeping_reply flow.now self.old output_handle }
+    {
+        self.take_grant(flow);
+        if !flow.echo {
+            return None;
+        }
+        Some(self.inner.bare_flow(output_handle, false))
+    }
+
+    // Takes the credit and the drain flag of the receiver's flow.
+    fn take_grant(&mut self, flow: &LinkFlow)
+        ensures { self.new ≡ sender_keeping flow.now self.old }
+    {
+        let state = &mut self.inner;
+        let count = flow.delivery_count.unwrap_or(state.initial_delivery_count);
+        if let Some(credit) = flow.link_credit {
+            state.link_credit = granted(count, credit, state.delivery_count);
+        }
+        state.drain = flow.drain;
+    }
+
+    /// Adds all credit to the count, if the receiver drains, and returns the flow state afterwards, without properties.
+    /// Otherwise nothing changes, and there is nothing to send. Does not allocate.
+    pub fn give_back(&mut self, output_handle: OutputHandle) -> Option<LinkFlow>
+        ensures after { self.new ≡ (if self.old.drain then given_back self.old else self.old) }
+        ensures flow { result ≡ (if self.old.drain then Some (flow_of self.new output_handle false) else None) }
+        ensures limit { count_limit self.new ≡ count_limit self.old }
+    {
+        let state = &mut self.inner;
+        if !state.drain {
+            return None;
+        }
+        let rest = state.link_credit;
+        state.spend(rest);
+        Some(state.bare_flow(output_handle, false))
+    }
+
+    /// Sets how many deliveries wait to be sent, if that is passed, and returns the flow state afterwards as a flow with
+    /// this handle, with the properties if they are to be included.
+    ///
+    /// Allocates only the properties. If it is out of memory, nothing has changed.
+    pub fn state_flow(
+        &mut self,
+        available: Option<u32>,
+        output_handle: OutputHandle,
+        echo: bool,
+        include_properties: bool,
+    ) -> Result<LinkFlow, AllocError>
+        ensures after { OnOk result (self.new ≡ with_available available self.old) }
+        ensures flow { IfOk result (λ flow.
+            flow ≡ sender_flow self.new output_handle echo include_properties) }
+        ensures memory { OnErr result
+            ((include_properties ≡ true) × (is_some self.old.properties ≡ true)) }
+        ensures kept { OnErr result (self.new ≡ self.old) }
+    {
+        let state = &mut self.inner;
+        let properties = if include_properties {
+            copy_of(&state.properties)?
+        } else {
+            None
+        };
+        // All allocations are done: from here on nothing can fail.
+        state.available = available.unwrap_or(state.available);
+        Ok(LinkFlow {
+            properties,
+            ..state.bare_flow(output_handle, echo)
+        })
     }
 }
 
