@@ -16,7 +16,9 @@ pub use amqp_link_ledger::laws::{fates_move_once, outcomes_are_of_pending_record
 pub use amqp_link_payloads::laws::{data_sections_are_read, positions_name_fronts};
 pub use amqp_link_runs::laws::sorted_is_sorted_stably;
 pub use amqp_link_split::laws::{frames_of_a_split_fit, split_pieces_are_the_payload};
-pub use amqp_link_state::laws::serial_difference_is_the_nearest;
+pub use amqp_link_state::laws::{
+    each_credit_is_spent_or_given_back, serial_difference_is_the_nearest,
+};
 pub use amqp_link_worlds::laws::{
     a_kept_pair_is_good, a_new_pair_is_kept, an_attach_goes_in_four_steps,
     an_attach_hands_out_each_delivery_once, each_call_keeps_a_pair, each_run_keeps_a_pair,

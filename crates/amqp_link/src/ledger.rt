@@ -1,4 +1,4 @@
 //! A sender that records what became of each delivery.
 
-pub use amqp_link_ledger::fate::Fate;
+pub use amqp_link_ledger::fate::{Fate, StillPending};
 pub use amqp_link_ledger::ledger::OutcomeLedger;

@@ -9,7 +9,7 @@ use Rattle.std.proofs.lemmas.List.Sums.{length-filter}
 use Rattle.amqp_link_types.specs.Entries.{Tag, Entries, entry_at}
 use Rattle.amqp_link_types.proofs.MapLemmas.{same_tag, other_tag}
 use Rattle.amqp_link_ledger.specs.declared.fate.Fate.{Fate}
-use Rattle.amqp_link_ledger.specs.declared.fate.Fate.TheVariants.{Pending, Withdrawn, HandedOut, Resolved}
+use Rattle.amqp_link_ledger.specs.declared.fate.Fate.TheVariants.{Pending, Withdrawn, HandedOut, Resolved, Released}
 use Rattle.amqp_link_ledger.specs.Fates.{Records, fates_of, is_pending_fate, fate_given, with_fates, registered, pending_count}
 use Rattle.amqp_link_ledger.proofs.ListSteps.{some_is, some_is_none, nothing_more, by_test, tag_is, is_tag}
 use Rattle.amqp_link_ledger.proofs.FateLemmas.{IsPendingAt, IsNowhere, pending_is, no_first, one_less}
@@ -64,6 +64,7 @@ left_moved fate (Pending ∷ fates) is = ap (λ b. cond b (fate ∷ filter is_pe
 left_moved fate (Withdrawn ∷ fates) is = left_moved fate fates is
 left_moved fate (HandedOut ∷ fates) is = left_moved fate fates is
 left_moved fate (Resolved outcome ∷ fates) is = left_moved fate fates is
+left_moved fate (Released ∷ fates) is = left_moved fate fates is
 
 pub count-registered : (tag : Tag) (records : Records) → pending_count tag (registered tag records) ≡ pending_count tag records + 1
 unfolding left
@@ -127,3 +128,17 @@ one_left tag (r ∷ records) (suc n) k =
 
 pub count-pending_at : (tag : Tag) (records : Records) (n : ℕ) → IsPendingAt tag records n → pending_count tag records ≡ 1
 count-pending_at tag records n k = count_is tag records ∙ one_left tag records n k
+
+-- a record that is not pending counts for nothing
+left_skip : (tag : Tag) (r : Tag × Fate) (records : Records) → is_pending_fate r.1 ≡ false → left (fates_of tag (r ∷ records)) ≡ left (fates_of tag records)
+unfolding left
+left_skip tag r records is =
+    let others = filter (λ (r : Tag × Fate). bytes_eq tag r.0) records in
+    let fates : Records → List Fate = λ l. map (λ (r : Tag × Fate). r.1) l in
+    elim (bytes_eq tag r.0) as (λ b. filter is_pending_fate (fates (cond b (r ∷ others) others)) ≡ filter is_pending_fate (fates others)) [
+      | true ↦ ap (λ b. cond b (r.1 ∷ filter is_pending_fate (fates others)) (filter is_pending_fate (fates others))) is
+      | false ↦ refl
+    ]
+
+pub count-skipped : (tag : Tag) (r : Tag × Fate) (records : Records) → is_pending_fate r.1 ≡ false → pending_count tag (r ∷ records) ≡ pending_count tag records
+count-skipped tag r records is = count_is tag (r ∷ records) ∙ ap length (left_skip tag r records is) ∙ sym (count_is tag records)

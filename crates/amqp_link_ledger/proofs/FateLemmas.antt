@@ -4,7 +4,7 @@ use Rattle.std.specs.Prelude.{bytes_eq}
 use Rattle.std.proofs.lemmas.Slice.Eq.{bytes_eq-Decides}
 use Rattle.amqp_link_types.specs.Entries.{Tag, Entries, entry_at}
 use Rattle.amqp_link_ledger.specs.declared.fate.Fate.{Fate}
-use Rattle.amqp_link_ledger.specs.declared.fate.Fate.TheVariants.{Pending, Withdrawn, HandedOut, Resolved}
+use Rattle.amqp_link_ledger.specs.declared.fate.Fate.TheVariants.{Pending, Withdrawn, HandedOut, Resolved, Released}
 use Rattle.amqp_link_ledger.specs.Fates.{Records, is_pending_fate, fate_given, with_fates}
 use Rattle.amqp_link_ledger.proofs.ListSteps.{some_is, some_is_none, false_true, entry_at-first}
 
@@ -15,12 +15,14 @@ moved-kept (Some given) Pending h = absurd (false_true h refl)
 moved-kept (Some given) Withdrawn h = refl
 moved-kept (Some given) HandedOut h = refl
 moved-kept (Some given) (Resolved outcome) h = refl
+moved-kept (Some given) Released h = refl
 
 pub moved-not_pending : (o : Option Fate) (fate : Fate) → (fate ≡ Pending → ⊥) → fate_given o fate ≡ fate
 moved-not_pending o Pending n = absurd (n refl)
 moved-not_pending o Withdrawn n = moved-kept o Withdrawn refl
 moved-not_pending o HandedOut n = moved-kept o HandedOut refl
 moved-not_pending o (Resolved outcome) n = moved-kept o (Resolved outcome) refl
+moved-not_pending o Released n = moved-kept o Released refl
 
 -- what is not pending
 pub pending_is : (fate : Fate) → is_pending_fate fate ≡ true → fate ≡ Pending
@@ -28,6 +30,7 @@ pending_is Pending h = refl
 pending_is Withdrawn h = absurd (false_true refl h)
 pending_is HandedOut h = absurd (false_true refl h)
 pending_is (Resolved outcome) h = absurd (false_true refl h)
+pending_is Released h = absurd (false_true refl h)
 
 -- the records depend on the look-ups alone
 pub with_fates-ext : (given other : Entries Fate) (records : Records) → ((tag : Tag) → entry_at given tag ≡ entry_at other tag) → with_fates given records ≡ with_fates other records
@@ -47,6 +50,7 @@ moved-twice o first Pending h = sym (moved-kept o first h)
 moved-twice o first Withdrawn h = sym (moved-kept o Withdrawn refl)
 moved-twice o first HandedOut h = sym (moved-kept o HandedOut refl)
 moved-twice o first (Resolved outcome) h = sym (moved-kept o (Resolved outcome) refl)
+moved-twice o first Released h = sym (moved-kept o Released refl)
 
 -- the tag is pending at this number alone
 abbrev pub IsPendingAt : Tag → Records → ℕ → Type 0

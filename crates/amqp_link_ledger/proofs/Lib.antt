@@ -11,4 +11,6 @@ pub mod MoveLemmas
 pub mod NumberLemmas
 pub mod OutcomeLemmas
 pub mod RecordLemmas
+pub mod ReleaseLemmas
 pub mod SendLemmas
+pub mod Worked

@@ -23,9 +23,6 @@ module _ (records : Records) (numbers : Entries ℕ) (h : IsNumbered records num
   pub nowhere : (tag : Tag) → entry_at numbers tag ≡ None → IsNowhere tag records
   nowhere tag e = λ m r at same pending. some_is_none (sym (h.found tag m (at ∙ (λ i. Some (same i, pending i)))) ∙ e)
 
-  pub number_within : (tag : Tag) (n : ℕ) → entry_at numbers tag ≡ Some n → n < length records
-  number_within tag n e = slice_get_within records n (tag, Pending) (h.stands tag n e)
-
   pub set_is : (tag : Tag) (n : ℕ) (fate : Fate) → entry_at numbers tag ≡ Some n → slice_set records n (tag, fate) ≡ with_fates ((tag, fate) ∷ []) records
   set_is tag n fate e = sym (set_at tag fate records n (pending_at tag n e))
 

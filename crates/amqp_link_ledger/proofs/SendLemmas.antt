@@ -19,7 +19,7 @@ use Rattle.amqp_link_sender.specs.declared.sender_link.Sending.{Sending}
 use Rattle.amqp_link_sender.specs.declared.sender_link.Sending.TheVariants as sending
 use Rattle.amqp_link_sender.specs.declared.sender_link.Waiting.{Waiting}
 use Rattle.amqp_link_sender.specs.declared.sender_link.Waiting.TheVariants as waiting
-use Rattle.amqp_link_sender.specs.Senders.{Sender, Delivery, refused, missing_credit, new_transfer, next_tag, new_entry, settled_by_mode, settled_on_send, is_pending, settlement_of, payload_tests, tagged_transfer_tests, SendsPayload, SendsTransfer}
+use Rattle.amqp_link_sender.specs.Senders.{Sender, Delivery, refused, missing_credit, new_transfer, new_entry, settled_by_mode, settled_on_send, is_pending, settlement_of, tagged_payload_tests, tagged_transfer_tests, SendsTagged, SendsTransfer}
 use Rattle.amqp_link_sender.specs.Waits.{waiting_error, after_waiting, handle_released}
 use Rattle.amqp_link_ledger.specs.Fates.{Records, IsRecorded}
 use Rattle.amqp_link_ledger.specs.Sends.{after_settlement}
@@ -66,39 +66,39 @@ recorded_from tag false settlement m left records entry is put h free =
 module _ {T : Type 0} (s : Sender T) where
   -- ---- a payload
 
-  module _ (d : Delivery) (payload : List ℕ) (settlement : Settlement) (frames : Vec LinkFrame Global) (new : Sender T) where
+  module _ (tag : Tag) (d : Delivery) (payload : List ℕ) (settlement : Settlement) (frames : Vec LinkFrame Global) (new : Sender T) where
     Sent : Option OutputHandle → Type 0
-    Sent o = IsSomeAnd o (λ handle. SendsPayload s handle d payload settlement frames.items new)
+    Sent o = IsSomeAnd o (λ handle. SendsTagged s handle tag d payload settlement frames.items new)
 
-    settlement_is : (o : Option OutputHandle) → Sent o → settlement ≡ settlement_of (settled_by_mode s.snd_settle_mode d.settled) (next_tag s)
+    settlement_is : (o : Option OutputHandle) → Sent o → settlement ≡ settlement_of (settled_by_mode s.snd_settle_mode d.settled) tag
     unfolding Sent
     settlement_is None h = absurd h
     settlement_is (Some handle) h = h.answered
 
     put_is : (o : Option OutputHandle) → Sent o
-        → new.unsettled ≡ (if settled_by_mode s.snd_settle_mode d.settled then s.unsettled else with_entry s.unsettled (next_tag s) (new_entry d.message_format payload))
+        → new.unsettled ≡ (if settled_by_mode s.snd_settle_mode d.settled then s.unsettled else with_entry s.unsettled tag (new_entry d.message_format payload))
     unfolding Sent
     put_is None h = absurd h
     put_is (Some handle) h = ap (λ (x : Sender T). x.unsettled) h.world
 
     -- nothing waits, and no test holds
-    no_test : (w : Waiting) → MatchOption (waiting_error s.local_state w) (refusal (payload_tests s d payload) ≡ None) (λ e. done (sending.Sent settlement frames) ≡ Err e)
-        → refusal (payload_tests s d payload) ≡ None
+    no_test : (w : Waiting) → MatchOption (waiting_error s.local_state w) (refusal (tagged_payload_tests s tag d payload) ≡ None) (λ e. done (sending.Sent settlement frames) ≡ Err e)
+        → refusal (tagged_payload_tests s tag d payload) ≡ None
     no_test waiting.Nothing h = h
     no_test (waiting.Frame f) h = absurd (is_no_error (sending.Sent settlement frames) _ h)
     no_test (waiting.Stopped reason) h = absurd (is_no_error (sending.Sent settlement frames) _ h)
 
-    pub recorded-payload : IsSomeAnd s.output_handle (λ handle. SendsPayload s handle d payload settlement frames.items new)
-        → (w : Waiting) → MatchOption (waiting_error s.local_state w) (refusal (payload_tests s d payload) ≡ None) (λ e. done (sending.Sent settlement frames) ≡ Err e)
+    pub recorded-payload : IsSomeAnd s.output_handle (λ handle. SendsTagged s handle tag d payload settlement frames.items new)
+        → (w : Waiting) → MatchOption (waiting_error s.local_state w) (refusal (tagged_payload_tests s tag d payload) ≡ None) (λ e. done (sending.Sent settlement frames) ≡ Err e)
         → (records : Records) → IsRecorded s.unsettled records → IsRecorded new.unsettled (after_settlement settlement records)
     unfolding Sent
     recorded-payload sent w answer records recorded =
-        recorded_from (next_tag s) (settled_by_mode s.snd_settle_mode d.settled) settlement s.unsettled new.unsettled records (new_entry d.message_format payload)
+        recorded_from tag (settled_by_mode s.snd_settle_mode d.settled) settlement s.unsettled new.unsettled records (new_entry d.message_format payload)
         (settlement_is s.output_handle sent) (put_is s.output_handle sent) recorded
-        (if_unsettled (settled_by_mode s.snd_settle_mode d.settled) (is_pending s (next_tag s))
-        (fourth_fails (is_none s.output_handle) (is_none s.input_handle) (s.flow_state.link_credit == 0) (not (settled_by_mode s.snd_settle_mode d.settled) && is_pending s (next_tag s))
+        (if_unsettled (settled_by_mode s.snd_settle_mode d.settled) (is_pending s tag)
+        (fourth_fails (is_none s.output_handle) (is_none s.input_handle) (s.flow_state.link_credit == 0) (not (settled_by_mode s.snd_settle_mode d.settled) && is_pending s tag)
         (refused error.IllegalState) (refused error.IllegalState) missing_credit (refused error.TagPending)
-        ((not (has_room (new_transfer s (unwrap_or s.output_handle (record { 0 = 0 })) (next_tag s) d) s.max_frame_size payload), refused error.NoRoom) ∷ []) (no_test w answer)))
+        ((not (has_room (new_transfer s (unwrap_or s.output_handle (record { 0 = 0 })) tag d) s.max_frame_size payload), refused error.NoRoom) ∷ []) (no_test w answer)))
 
   -- what waits leaves the unsettled deliveries
   released-unsettled : (o : Option LinkState) → (handle_released o s).unsettled ≡ s.unsettled

@@ -1,5 +1,5 @@
 -- What became of each registration of a sender's deliveries (OASIS AMQP 1.0 core, 2.6.12 and 2.6.13).
-use Rattle.std.specs.Prelude.{◌≡◌, ◌≢◌, ℕ, Bool, true, false, List, [], ◌∷◌, ◌++◌, map, filter, fold, Option, Some, None, slice_get, if◌then◌else◌, is_some, nat_lt, ◌&&◌, All}
+use Rattle.std.specs.Prelude.{◌≡◌, ◌≢◌, ℕ, Bool, true, false, List, [], ◌∷◌, ◌++◌, map, filter, fold, Option, Some, None, slice_get, if◌then◌else◌, is_some, nat_lt, ◌&&◌, ◌+◌, ◌-◌, ◌^◌, ◌<◌, zero, suc, take, drop, All, IsSomeAnd}
 use Rattle.std.specs.List.{last_or, count_by, IsDistinct}
 use Rattle.std.specs.Map.{keys_of}
 use Rattle.std.specs.Str.{bytes_eq}
@@ -7,13 +7,14 @@ use Rattle.amqp_link_types.specs.Entries.{Tag, Entries, entry_at, IsMap}
 use Rattle.amqp_link_types.specs.Deliveries.{Ended}
 use Rattle.amqp_link_core.specs.declared.resumption.ResumingDelivery.{ResumingDelivery}
 use Rattle.amqp_link_ledger.specs.declared.fate.Fate.{Fate}
-use Rattle.amqp_link_ledger.specs.declared.fate.Fate.TheVariants.{Pending, Withdrawn, HandedOut, Resolved}
+use Rattle.amqp_link_ledger.specs.declared.fate.Fate.TheVariants.{Pending, Withdrawn, HandedOut, Resolved, Released}
 
 abbrev pub is_pending_fate : Fate → Bool
 is_pending_fate Pending = true
 is_pending_fate Withdrawn = false
 is_pending_fate HandedOut = false
 is_pending_fate (Resolved outcome) = false
+is_pending_fate Released = false
 
 -- the registrations by number: the tag of each, and its fate
 abbrev pub Records : Type 0
@@ -81,6 +82,24 @@ after (Resolves outcomes) records = resolved outcomes records
 abbrev pub after_all : List Change → Records → Records
 after_all changes records = fold (λ now change. after change now) records changes
 
+-- ---- registrations are released
+
+-- what stands at the number of one: no tag, and no outcome
+abbrev pub gone : Tag × Fate
+gone = ([], Released)
+
+-- those below this number are released
+abbrev pub with_released : ℕ → Records → Records
+with_released before records = map (λ _. gone) (take before records) ++ drop before records
+
+-- none of those below this number is pending
+abbrev pub NonePending : ℕ → Records → Type 0
+NonePending before records = (n : ℕ) (r : Tag × Fate) → n < before → slice_get records n ≡ Some r → is_pending_fate r.1 ≡ false
+
+-- this is the number of a pending one, and none below it is pending
+abbrev pub IsFirstPending : ℕ → Records → Type 0
+IsFirstPending number records = IsSomeAnd (slice_get records number) (λ r. is_pending_fate r.1 ≡ true) × NonePending number records
+
 -- Each registration keeps its number and its tag, and a fate that has moved stays.
 abbrev pub MovesOnce : Records → Records → Type 0
 MovesOnce old new = (n : ℕ) (r : Tag × Fate) → slice_get old n ≡ Some r
@@ -99,6 +118,11 @@ pub record IsNumbered (records : Records) (numbers : Entries ℕ) : Type 0 where
   pub stands : (tag : Tag) (n : ℕ) → entry_at numbers tag ≡ Some n → slice_get records n ≡ Some (tag, Pending)
   pub found : (tag : Tag) (n : ℕ) → slice_get records n ≡ Some (tag, Pending) → entry_at numbers tag ≡ Some n
 
--- whether a vector of this length and capacity, and a map with this spare room, have room for one more each
-abbrev pub takes_one : ℕ → ℕ → ℕ → Bool
-takes_one len capacity spare = nat_lt len capacity && nat_lt 0 spare
+-- the records, if this many are released and these are kept
+abbrev pub after_gone : ℕ → Records → Records
+after_gone zero kept = kept
+after_gone (suc n) kept = gone ∷ after_gone n kept
+
+-- whether there is room for one more beside so many, and a number for it
+abbrev pub is_room_for_one : ℕ → ℕ → ℕ → Bool
+is_room_for_one released len capacity = nat_lt len capacity && nat_lt (released + len) (2 ^ 64 - 1)

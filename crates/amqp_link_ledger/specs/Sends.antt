@@ -9,7 +9,7 @@ use Rattle.amqp_link_sender.specs.declared.sender_link.Sending.{Sending}
 use Rattle.amqp_link_sender.specs.declared.sender_link.Sending.TheVariants as sending
 use Rattle.amqp_link_sender.specs.declared.sender_link.Waiting.{Waiting}
 use Rattle.amqp_link_sender.specs.declared.sender_link.Waiting.TheVariants as waiting
-use Rattle.amqp_link_sender.specs.Senders.{Sender, next_tag, settled_by_mode, settled_on_send}
+use Rattle.amqp_link_sender.specs.Senders.{Sender, settled_by_mode, settled_on_send}
 use Rattle.amqp_link_ledger.specs.Fates.{Records, RecordsAndRoom, Enters, after, pending_count}
 
 -- ---- the records after a send
@@ -31,10 +31,10 @@ module _ {T : Type 0} where
   does_await s settled =
       is_some s.output_handle && is_some s.input_handle && not (s.flow_state.link_credit == 0) && not (settled_by_mode s.snd_settle_mode settled)
 
-  -- the tag under which it is then registered: none if something is pending before the send
-  abbrev pub tag_to_register : Sender T → Waiting → Option Bool → Option Tag
-  tag_to_register s waiting.Nothing settled = if does_await s settled then Some (next_tag s) else None
-  tag_to_register s _ settled = None
+  -- the tag under which it is then registered, of a send under this tag: none if something is pending before the send
+  abbrev pub tag_to_register : Sender T → Tag → Waiting → Option Bool → Option Tag
+  tag_to_register s tag waiting.Nothing settled = if does_await s settled then Some tag else None
+  tag_to_register s tag _ settled = None
 
   -- the tag under which the delivery of this transfer is registered: none if it is settled or there is no
   -- input handle

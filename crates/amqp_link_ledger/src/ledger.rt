@@ -4,12 +4,12 @@
 //! results of the endpoint's call (`on_incoming_disposition` may be out of memory besides); one that changes the
 //! map changes the registrations with it. What the registrations need is allocated before the endpoint is
 //! called: a refused call makes no registration and resolves none.
-ghost use Rattle.std.specs.Prelude.{◌≡◌, ◌≢◌, [], map, slice_get, IfOk, IfErr, OnErr};
+ghost use Rattle.std.specs.Prelude.{◌≡◌, ◌≢◌, ◌<◌, [], map, slice_get, IfOk, IfErr, OnErr, OnOk};
 ghost use Rattle.std.specs.Option.{option_map, option_copied};
 ghost use Rattle.amqp_link_types.specs.Entries.{IsMap};
 ghost use Rattle.amqp_link_sender.specs.Senders.{is_pending};
 ghost use Rattle.amqp_link_ledger.specs.declared.fate.Fate.TheVariants.{Pending};
-ghost use Rattle.amqp_link_ledger.specs.Fates.{IsRecorded};
+ghost use Rattle.amqp_link_ledger.specs.Fates.{IsFirstPending, IsRecorded, NonePending, with_released};
 
 mod attach;
 mod closing;
@@ -18,7 +18,7 @@ mod entering;
 mod incoming;
 mod sending;
 
-use crate::fate::Fate;
+use crate::fate::{Fate, StillPending};
 use crate::registrations::Registrations;
 use amqp_link_endpoint::endpoint::LinkExt;
 use amqp_link_endpoint::endpoint::either::{Access, EitherEnd};
@@ -38,8 +38,9 @@ use std::marker::Model;
 /// A contract sees the endpoint, and the list of the tags with their fates. The tags of the pending
 /// registrations are distinct, and are exactly the keys of the endpoint's unsettled map.
 ///
-/// The registrations are kept for good, so their memory grows with their number. The one of a tag is found
-/// by a hash, whatever that number is; room for one more is made as a `Vec` makes it: most often there is some.
+/// The registrations are kept until they are released, so their memory grows with the number of those that are not. The
+/// one of a tag is found by a hash, whatever that number is; room for one more is made as a `Vec` makes it: most often there
+/// is some.
 #[derive(Drop)]
 pub struct OutcomeLedger<T: LinkTarget> {
     alloc: Global,
@@ -162,13 +163,30 @@ impl<T: LinkTarget> OutcomeLedger<T> {
         self.link
     }
 
-    /// What became of registration `number`; `None` exactly past the last number.
+    /// What became of registration `number`; `None` exactly past the last number. Of one that is released it is `Released`.
     pub fn fate(&self, number: usize) -> Option<&Fate>
         ensures fate { option_copied result
             ≡ option_map (λ entry. entry.1) (slice_get self.now.records number) }
         ensures recorded { IsRecorded self.now.link.unsettled self.now.records }
     {
         self.registrations.fate(number)
+    }
+
+    /// Releases what became of the registrations below this number: of none of them the tag or the outcome is kept, and
+    /// their memory is used again. The numbers go on: the next registration has the number that it would have had. Below
+    /// any number past the last are all. Does not allocate.
+    ///
+    /// Refused, with nothing changed, if one of them is pending: it says which is the first.
+    ///
+    /// Its cost grows with the number of those that are released.
+    pub fn release(&mut self, before: usize) -> Result<(), StillPending>
+        ensures link { self.new.link ≡ self.old.link }
+        ensures released { OnOk result (self.new.records ≡ with_released before self.old.records) }
+        ensures ended { OnOk result (NonePending before self.old.records) }
+        ensures refused { IfErr result (λ still. (still.0 < before) × IsFirstPending still.0 self.old.records) }
+        ensures left { OnErr result (self.new ≡ self.old) }
+    {
+        self.registrations.release(before)
     }
 
     // Whether the delivery of a tag is pending.

@@ -7,4 +7,5 @@ pub mod fate;
 pub mod laws;
 pub mod ledger;
 mod numbers;
+mod records;
 pub mod registrations;

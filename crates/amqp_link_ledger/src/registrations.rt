@@ -1,11 +1,12 @@
 //! The registrations of a sender's unsettled deliveries, by number.
 ghost use Rattle.std.specs.Prelude.{◌≡◌, ◌==◌, [], ◌∷◌, if◌then◌else◌, map, length, slice_get, false};
-ghost use Rattle.std.specs.Prelude.{All, IsTrue, IfOk, OnOk, Err};
+ghost use Rattle.std.specs.Prelude.{◌<◌, All, IsTrue, IfErr, IfOk, OnErr, OnOk, Err};
 ghost use Rattle.std.specs.Option.{option_map, option_copied};
-ghost use Rattle.amqp_link_ledger.specs.Fates.{Change, after, is_pending_fate, pending_count, with_fates};
+ghost use Rattle.amqp_link_ledger.specs.Fates.{Change, IsFirstPending, NonePending, after, is_pending_fate, pending_count, with_fates, with_released};
 
-use crate::fate::Fate;
-use crate::numbers::{has_number, push_pending, put_number, set_fate_at, take_number};
+use crate::fate::{Fate, StillPending};
+use crate::numbers::{has_number, put_number, take_number};
+use crate::records::RecordList;
 use amqp_link_core::resumption::ResumingDelivery;
 use amqp_link_types::delivery::DeliveryOutcome;
 use amqp_link_types::types::{DeliveryTag, LinkStateError};
@@ -36,31 +37,31 @@ impl Model for Reserved {
 /// number and its tag, and its fate changes at most once.
 ///
 /// A contract sees the list of the tags with their fates, and whether there is room for the next
-/// registration. The memory grows with the number of all registrations. A call finds the pending
+/// registration. The memory grows with the number of the registrations that are not released. A call finds the pending
 /// registration of a tag by a hash, whatever that number is; room is made as a `Vec` makes it.
 #[derive(Drop)]
 pub struct Registrations {
-    records: Vec<(DeliveryTag, Fate)>,
+    records: RecordList,
     numbers: IndexMap<DeliveryTag, usize>,
 }
 
 impl Model for Registrations {
     ghost use Rattle.std.specs.Coded.{codes};
-    ghost use Rattle.std.specs.Prelude.{vec_len, vec_capacity};
+    ghost use Rattle.std.specs.Prelude.{◌&&◌, nat_lt};
     ghost use Rattle.indexmap.specs.IndexMap.{spare};
     ghost use Rattle.amqp_link_values.specs.contracts.fields.Fields as fields;
-    ghost use Rattle.amqp_link_ledger.specs.Fates.{IsNumbered, RecordsAndRoom, takes_one};
+    ghost use Rattle.amqp_link_ledger.specs.Fates.{IsNumbered, RecordsAndRoom};
 
     ghost Value = { RecordsAndRoom };
 
     ghost coded = { Prim.hlevel (codes, fields.the_row.coded) };
 
     ghost view = { λ all. record {
-      records = all.records.items;
-      has_room = takes_one (vec_len all.records) (vec_capacity all.records) (spare all.numbers);
+      records = all.records.records;
+      has_room = all.records.has_room && nat_lt 0 (spare all.numbers);
     } };
 
-    ghost invariant = { λ all. IsNumbered all.records.items all.numbers.entries };
+    ghost invariant = { λ all. IsNumbered all.records.records all.numbers.entries };
 }
 
 impl Registrations {
@@ -69,7 +70,7 @@ impl Registrations {
         ensures { result.records ≡ [] }
     {
         Registrations {
-            records: Vec::new(alloc),
+            records: RecordList::new(alloc),
             numbers: IndexMap::new(alloc),
         }
     }
@@ -92,8 +93,7 @@ impl Registrations {
     pub fn fate(&self, number: usize) -> Option<&Fate>
         ensures { option_copied result ≡ option_map (λ entry. entry.1) (slice_get self.now.records number) }
     {
-        let record = self.records.get(number)?;
-        Some(&record.1)
+        self.records.fate(number)
     }
 
     /// Whether a registration of the tag is pending. At most one is.
@@ -113,7 +113,7 @@ impl Registrations {
     {
         let key = DeliveryTag::copied(alloc, tag)?;
         let tag = DeliveryTag::copied(alloc, tag)?;
-        self.records.reserve(1)?;
+        self.records.reserve()?;
         self.numbers.reserve(1)?;
         Ok(Reserved { key, tag })
     }
@@ -130,7 +130,7 @@ impl Registrations {
         let Reserved { key, tag } = reserved;
         let number = self.records.len();
         put_number(&mut self.numbers, key, number);
-        push_pending(&mut self.records, tag);
+        self.records.push_pending(tag);
     }
 
     /// Withdraws the pending registration of the tag, if there is one. Does not allocate.
@@ -195,6 +195,24 @@ impl Registrations {
         }
     }
 
+    /// Releases the registrations below this number: of none of them the tag or the outcome is kept, and their memory is
+    /// used again. The numbers go on. Does not allocate.
+    ///
+    /// Refused, with nothing changed, if one of them is pending.
+    pub fn release(&mut self, before: usize) -> Result<(), StillPending>
+        ensures released { OnOk result (self.new.records ≡ with_released before self.old.records) }
+        ensures ended { OnOk result (NonePending before self.old.records) }
+        ensures refused { IfErr result (λ still. (still.0 < before) × IsFirstPending still.0 self.old.records) }
+        ensures left { OnErr result (self.new ≡ self.old) }
+        ensures room { IsTrue self.old.has_room → IsTrue self.new.has_room }
+    {
+        if let Some(number) = self.records.first_pending(before) {
+            return Err(StillPending(number));
+        }
+        self.records.release(before);
+        Ok(())
+    }
+
     // Gives the pending registration of the tag its last fate, if there is one.
     fn end(&mut self, tag: &DeliveryTag, fate: Fate)
         requires { is_pending_fate fate ≡ false }
@@ -202,7 +220,7 @@ impl Registrations {
         ensures room { IsTrue self.old.has_room → IsTrue self.new.has_room }
     {
         match take_number(&mut self.numbers, tag) {
-            Some(number) => set_fate_at(&mut self.records, number, fate),
+            Some(number) => self.records.set_fate(number, fate),
             None => drop(fate),
         }
     }

@@ -1,5 +1,6 @@
 //! Calls of a ledger as functions without a contract, for tests that make several; those of any link endpoint stand
 //! in `amqp_link_tests_support`.
+use crate::ledgers::{Sent, sent_of};
 use amqp_link_endpoint::endpoint::LinkExt;
 use amqp_link_ledger::ledger::OutcomeLedger;
 use amqp_link_sender::{DispositionAnswer, Sending, Waiting};
@@ -49,6 +50,22 @@ pub(crate) fn send_payload(
         None,
         false,
     )
+}
+
+// Sends a payload under this tag; nothing waits.
+pub(crate) fn send_tagged(ledger: &mut Ledger, tag: &[u8], payload: &Payload) -> Sent {
+    let sending = ledger.send_payload_with_tag(
+        Waiting::Nothing,
+        tag,
+        payload,
+        0,
+        None,
+        None,
+        false,
+    );
+    let sent = sent_of(&sending);
+    drop(sending);
+    sent
 }
 
 // Whether an entry is registered under this tag.

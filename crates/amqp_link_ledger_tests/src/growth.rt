@@ -73,6 +73,8 @@ enum Call {
     Grant(u32),
     Send,
     SendTransfer(u8),
+    // Sends under a tag of its own, of as many bytes.
+    SendTagged(u8),
     // Sends the rest of a delivery.
     Resume(u8),
     PutBack(u8),
@@ -87,6 +89,10 @@ enum Call {
     LoseSession,
     // The receiver's detach, that closes.
     Close,
+    // What became of the registrations below this number is released.
+    Release(usize),
+    // The sender's own flow, with the properties of the link.
+    SendFlow,
 }
 
 // What a call answers: whether it is done, or how many frames, deliveries or outcomes it makes.
@@ -194,6 +200,23 @@ fn send_transfer(ledger: &mut Ledger, alloc: Global, count: u8) -> Result<Answer
     sent(how)
 }
 
+fn send_tagged(ledger: &mut Ledger, alloc: Global, len: u8) -> Result<Answer, AllocError> {
+    let payload = payload(alloc)?;
+    let tag = [len; 40];
+    let tag = &tag[..usize::from(len).min(40)];
+    sent(calls::send_tagged(ledger, tag, &payload))
+}
+
+fn send_flow(ledger: &mut Ledger) -> Result<Answer, AllocError> {
+    match ledger.send_flow(Some(2), false, true) {
+        Ok(frame) => {
+            drop(frame);
+            Ok(Answer::Done(true))
+        }
+        Err(_) => Err(AllocError),
+    }
+}
+
 fn resume(ledger: &mut Ledger, alloc: Global, count: u8) -> Result<Answer, AllocError> {
     let rest = payload(alloc)?;
     let transfer = transfer_of(alloc, count)?;
@@ -285,6 +308,9 @@ fn make(ledger: &mut Ledger, alloc: Global, call: Call) -> Result<Answer, AllocE
         Call::SettleBoth => settle_both(ledger, alloc),
         Call::LoseSession => Ok(lose_session(ledger)),
         Call::Close => close(ledger),
+        Call::SendTagged(len) => send_tagged(ledger, alloc, len),
+        Call::Release(before) => Ok(Answer::Done(ledger.release(before).is_ok())),
+        Call::SendFlow => send_flow(ledger),
     }
 }
 
@@ -364,6 +390,41 @@ const THREE_SENT: [(Call, Answer); 12] = [
     (Call::TakeAttach(None), Answer::Exchanged(1, 0)),
     (Call::PutBack(2), Answer::Done(true)),
 ];
+
+// Under tags of its own, one of which is too long to stand in the tag itself; what became of the first is released, and
+// its number is not given again.
+const RELEASED: [(Call, Answer); 11] = [
+    (Call::SendAttach, Answer::Done(true)),
+    (Call::TakeAttach(None), Answer::Exchanged(0, 0)),
+    (Call::SendFlow, Answer::Done(true)),
+    (Call::Grant(3), Answer::Done(true)),
+    (Call::Send, Answer::Done(true)),
+    (Call::SendTagged(2), Answer::Done(true)),
+    (Call::Release(1), Answer::Done(false)),
+    (Call::Accept(0), Answer::Done(true)),
+    (Call::Release(1), Answer::Done(true)),
+    (Call::SendTagged(40), Answer::Done(true)),
+    (Call::SendTagged(3), Answer::Done(false)),
+];
+
+// The same of the calls that release.
+#[test]
+fn refused_growth_releases_nothing(rt: HostRuntime) {
+    let link = new_link(rt.alloc()).or_else(|_| new_link(rt.alloc()));
+    let mut ledger = ledger_round(&rt, link.expect(&rt, "memory"), 0);
+    expect_answers(&rt, &mut ledger, RELEASED.as_slice());
+    let left = standing_of(&ledger);
+    drop(ledger);
+    let fates = [
+        Shown::Forgotten,
+        Shown::Pending,
+        Shown::Pending,
+        Shown::Nothing,
+        Shown::Nothing,
+    ];
+    assert_equal(&rt, &left.fates, &fates);
+    assert_equal(&rt, &left.tags, &[Some(2), Some(40), None, None]);
+}
 
 // With one growth refused, whichever it is, the fates are those of a run where none is.
 #[test]

@@ -78,6 +78,8 @@ pub(crate) enum Sent {
     Unsettled,
     Settled,
     NoRoom,
+    TagPending,
+    CreditMissing,
     OutOfMemory,
     Other,
 }
@@ -89,11 +91,12 @@ pub(crate) fn sent_as(settlement: &Settlement) -> Sent {
     }
 }
 
-fn sent_of(sending: &Result<Sending, LinkStateError>) -> Sent {
+pub(crate) fn sent_of(sending: &Result<Sending, LinkStateError>) -> Sent {
     match sending {
         Ok(Sending::Sent { settlement, .. }) => sent_as(settlement),
-        Ok(Sending::CreditMissing) => Sent::Other,
+        Ok(Sending::CreditMissing) => Sent::CreditMissing,
         Err(LinkStateError::NoRoom) => Sent::NoRoom,
+        Err(LinkStateError::TagPending) => Sent::TagPending,
         Err(LinkStateError::OutOfMemory) => Sent::OutOfMemory,
         Err(_) => Sent::Other,
     }

@@ -20,6 +20,8 @@ mod many;
 #[cfg(test)]
 mod parts;
 #[cfg(test)]
+mod releasing;
+#[cfg(test)]
 mod resolving;
 #[cfg(test)]
 mod samples;

@@ -18,6 +18,7 @@ pub(crate) enum Shown {
     NoState,
     Closed,
     Illegal,
+    Forgotten,
     Other,
 }
 
@@ -30,6 +31,7 @@ pub(crate) fn fate_shown(fate: Option<&Fate>) -> Shown {
         Fate::Withdrawn => Shown::Withdrawn,
         Fate::HandedOut => Shown::HandedOut,
         Fate::Resolved(outcome) => outcome_shown(outcome),
+        Fate::Released => Shown::Forgotten,
     }
 }
 

@@ -140,5 +140,6 @@ fn fate_text(fate: &Fate) -> &'static str {
         Fate::HandedOut => "handed-out",
         Fate::Resolved(Ok(Some(DeliveryState::Accepted))) => "resolved accepted",
         Fate::Resolved(_) => "resolved",
+        Fate::Released => "released",
     }
 }

@@ -1,7 +1,7 @@
 //! Flows, transfers and dispositions that arrive at a ledger (2.6.7, 2.6.12, 2.7.6).
-ghost use Rattle.std.specs.Prelude.{◌≡◌, ◌+◌, ◌%◌, ◌^◌, Ok, Err, Some, IfOk, OnOk, OnErr, IsSome, MatchOption, true};
+ghost use Rattle.std.specs.Prelude.{◌≡◌, ◌↔◌, ◌+◌, ◌%◌, ◌^◌, Ok, Err, None, Some, IfOk, IsErrOf, OnOk, OnErr, IsSome, IsSomeAnd, MatchOption, false, true, is_some, if◌then◌else◌};
 ghost use Rattle.std.specs.Option.{option_map, option_to_list};
-ghost use Rattle.amqp_link_state.specs.Counts.{count_limit, credit_after, sender_after, sender_reply};
+ghost use Rattle.amqp_link_state.specs.Counts.{count_limit, credit_after, flow_of, given_back, keeping_reply, sender_after, sender_flow, sender_keeping, sender_reply, with_available};
 ghost use Rattle.amqp_link_core.specs.Resuming.{does_carry};
 ghost use Rattle.amqp_link_dispositions.specs.Ending.{ended_by, map_after_receiver_disposition};
 ghost use Rattle.amqp_link_sender.specs.SenderDisposes.{is_echoed};
@@ -14,8 +14,8 @@ use amqp_link_sender::sender_link::DispositionAnswer;
 use amqp_link_types::delivery::DeliveryOutcome;
 use amqp_link_types::frame::LinkFrame;
 use amqp_link_types::types::{
-    DeliveryNumber, DeliveryState, DeliveryTag, DispositionError, LinkFlow, LinkRelayError,
-    Payload, Transfer, has_ended,
+    DeliveryNumber, DeliveryState, DeliveryTag, DispositionError, FlowError, LinkFlow,
+    LinkRelayError, Payload, Transfer, has_ended,
 };
 use amqp_link_values::copy::copy_of;
 use std::alloc::AllocError;
@@ -52,6 +52,66 @@ impl<T: LinkTarget> OutcomeLedger<T> {
         ensures left { OnErr result (self.new ≡ self.old) }
     {
         self.link.on_incoming_flow(flow)
+    }
+
+    /// Takes the receiver's flow and keeps the credit if the flow drains, as
+    /// `SenderLink::on_incoming_flow_keeping_credit` does. The registrations stay.
+    ///
+    /// Refused with `UnattachedHandle`, and nothing changed, without output handle. Does not allocate.
+    pub fn on_incoming_flow_keeping_credit(
+        &mut self,
+        flow: LinkFlow,
+    ) -> Result<Option<LinkFlow>, LinkRelayError>
+        ensures answer { MatchOption self.old.link.output_handle
+            (result ≡ Err LinkRelayError.UnattachedHandle)
+            (λ handle. result ≡ Ok (keeping_reply flow self.old.link.flow_state handle)) }
+        ensures after { OnOk result (self.new ≡ record self.old {
+          link = record self.old.link { flow_state = sender_keeping flow self.old.link.flow_state };
+        }) }
+        ensures left { OnErr result (self.new ≡ self.old) }
+    {
+        self.link.on_incoming_flow_keeping_credit(flow)
+    }
+
+    /// Gives the credit back that is left, as `SenderLink::give_back_credit` does. The registrations stay.
+    ///
+    /// Refused with `UnattachedHandle`, and nothing changed, without output handle. Does not allocate.
+    pub fn give_back_credit(&mut self) -> Result<Option<LinkFlow>, LinkRelayError>
+        ensures answer { MatchOption self.old.link.output_handle
+            (result ≡ Err LinkRelayError.UnattachedHandle)
+            (λ handle. result ≡ Ok (if self.old.link.flow_state.drain
+            then Some (flow_of (given_back self.old.link.flow_state) handle false) else None)) }
+        ensures after { OnOk result (self.new ≡ record self.old {
+          link = record self.old.link {
+            flow_state = if self.old.link.flow_state.drain then given_back self.old.link.flow_state else self.old.link.flow_state;
+          };
+        }) }
+        ensures left { OnErr result (self.new ≡ self.old) }
+    {
+        self.link.give_back_credit()
+    }
+
+    /// The sender's own flow to send, as `SenderLink::send_flow` makes it. The registrations stay.
+    ///
+    /// Refused in this order, with nothing changed: `IllegalState` without output handle; `OutOfMemory`, only for the
+    /// copy of the properties.
+    pub fn send_flow(
+        &mut self,
+        available: Option<u32>,
+        echo: bool,
+        include_properties: bool,
+    ) -> Result<LinkFrame, FlowError>
+        ensures after { OnOk result (self.new ≡ record self.old {
+          link = record self.old.link { flow_state = with_available available self.old.link.flow_state };
+        }) }
+        ensures flow { IfOk result (λ sent. IsSomeAnd self.old.link.output_handle (λ handle.
+            sent ≡ LinkFrame.Flow (sender_flow self.new.link.flow_state handle echo include_properties))) }
+        ensures illegal { IsErrOf result FlowError.IllegalState ↔ (self.old.link.output_handle ≡ None) }
+        ensures memory { IsErrOf result FlowError.OutOfMemory
+            → (include_properties ≡ true) × (is_some self.old.link.flow_state.properties ≡ true) }
+        ensures left { OnErr result (self.new ≡ self.old) }
+    {
+        self.link.send_flow(available, echo, include_properties)
     }
 
     /// Always refused with `TransferFrameToSender`: a transfer has arrived at a sender, and only a sender

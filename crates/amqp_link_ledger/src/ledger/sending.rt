@@ -1,7 +1,8 @@
 //! Payloads that a ledger sends as new deliveries (2.7.5). An unsettled one makes a registration.
 ghost use Rattle.std.specs.Prelude.{◌≡◌, Ok, Err, Some, IfOk, IsSome, IsSomeAnd, IsTrue, OnErr, MatchOption};
 ghost use Rattle.amqp_link_split.specs.Fitting.{IsFitting};
-ghost use Rattle.amqp_link_sender.specs.Senders.{SendsOrLacksCredit, SendsTransfer, SendsFitting, SendAnswersThenOutOfMemory, delivery_of, payload_tests, tagged_transfer_tests};
+ghost use Rattle.amqp_link_sender.specs.Senders.{SendsOrLacksCredit, SendsTaggedOrLacksCredit, SendsTransfer, SendsFitting, SendsTaggedFitting, SendAnswersThenOutOfMemory};
+ghost use Rattle.amqp_link_sender.specs.Senders.{delivery_of, payload_tests, tagged_payload_tests, tagged_transfer_tests};
 ghost use Rattle.amqp_link_sender.specs.Waits.{waiting_error, after_waiting};
 ghost use Rattle.amqp_link_types.specs.Refusals.{AnswersThenOutOfMemory};
 ghost use Rattle.amqp_link_ledger.specs.Sends.{tag_to_register, tag_of_unsettled, records_after_sending, after_settlement, does_await, IsRoomFor};
@@ -46,10 +47,83 @@ impl<T: LinkTarget> OutcomeLedger<T> {
         ensures left { OnErr result (self.new
             ≡ record self.old { link = after_waiting self.old.link waiting }) }
     {
+        let count = self.link.flow_state().delivery_count().to_be_bytes();
+        self.send_under(
+            waiting,
+            &count,
+            payload,
+            message_format,
+            settled,
+            state,
+            batchable,
+        )
+    }
+
+    /// Sends a payload as a new delivery, for one credit, under this tag, as `SenderLink::send_payload_with_tag` does. An
+    /// unsettled delivery makes a registration with the next number.
+    ///
+    /// A pending detach is recorded, and the refusals have their order, as by `send_payload`.
+    pub fn send_payload_with_tag(
+        &mut self,
+        waiting: Waiting,
+        delivery_tag: &[u8],
+        payload: &Payload,
+        message_format: MessageFormat,
+        settled: Option<bool>,
+        state: Option<DeliveryState>,
+        batchable: bool,
+    ) -> Result<Sending, LinkStateError>
+        ensures sent { IfOk result (λ sending. SendsTaggedOrLacksCredit self.old.link delivery_tag.now
+            (delivery_of message_format settled state batchable) payload.now sending self.new.link) }
+        ensures fits { IfOk result (λ sending. SendsTaggedFitting self.old.link delivery_tag.now
+            (delivery_of message_format settled state batchable) payload.now sending) }
+        ensures records { IfOk result (λ sending. self.new.records ≡ records_after_sending sending self.old.records) }
+        ensures refused { MatchOption (waiting_error self.old.link.local_state waiting)
+            (SendAnswersThenOutOfMemory result (tagged_payload_tests self.old.link delivery_tag.now
+            (delivery_of message_format settled state batchable) payload.now))
+            (λ error. result ≡ Err error) }
+        ensures left { OnErr result (self.new
+            ≡ record self.old { link = after_waiting self.old.link waiting }) }
+    {
+        self.send_under(
+            waiting,
+            delivery_tag,
+            payload,
+            message_format,
+            settled,
+            state,
+            batchable,
+        )
+    }
+
+    // Sends a payload as a new delivery under this tag.
+    fn send_under(
+        &mut self,
+        waiting: Waiting,
+        tag: &[u8],
+        payload: &Payload,
+        message_format: MessageFormat,
+        settled: Option<bool>,
+        state: Option<DeliveryState>,
+        batchable: bool,
+    ) -> Result<Sending, LinkStateError>
+        ensures sent { IfOk result (λ sending. SendsTaggedOrLacksCredit self.old.link tag.now
+            (delivery_of message_format settled state batchable) payload.now sending self.new.link) }
+        ensures fits { IfOk result (λ sending. SendsTaggedFitting self.old.link tag.now
+            (delivery_of message_format settled state batchable) payload.now sending) }
+        ensures records { IfOk result (λ sending. self.new.records ≡ records_after_sending sending self.old.records) }
+        ensures refused { MatchOption (waiting_error self.old.link.local_state waiting)
+            (SendAnswersThenOutOfMemory result (tagged_payload_tests self.old.link tag.now
+            (delivery_of message_format settled state batchable) payload.now))
+            (λ error. result ≡ Err error) }
+        ensures left { OnErr result (self.new
+            ≡ record self.old { link = after_waiting self.old.link waiting }) }
+    {
         let room = room_for_payload(
             self.alloc,
             &self.link,
             &mut self.registrations,
+            tag,
             &waiting,
             settled,
         );
@@ -57,11 +131,12 @@ impl<T: LinkTarget> OutcomeLedger<T> {
             Ok(reserved) => reserved,
             Err(AllocError) => {
                 drop(waiting);
-                return self.without_room(payload, message_format, settled, state, batchable);
+                return self.without_room(tag, payload, message_format, settled, state, batchable);
             }
         };
-        let sending = self.link.send_payload(
+        let sending = self.link.send_payload_with_tag(
             waiting,
+            tag,
             payload,
             message_format,
             settled,
@@ -84,10 +159,11 @@ impl<T: LinkTarget> OutcomeLedger<T> {
         }
     }
 
-    // What `send_payload` returns if there is no memory for the registration: `OutOfMemory`, unless the
+    // What a send under this tag returns if there is no memory for the registration: `OutOfMemory`, unless the
     // endpoint refuses the payload or has no credit.
     fn without_room(
         &self,
+        tag: &[u8],
         payload: &Payload,
         message_format: MessageFormat,
         settled: Option<bool>,
@@ -95,12 +171,12 @@ impl<T: LinkTarget> OutcomeLedger<T> {
         batchable: bool,
     ) -> Result<Sending, LinkStateError>
         ensures unsent { IfOk result (λ sending. sending ≡ CreditMissing) }
-        ensures refused { SendAnswersThenOutOfMemory result (payload_tests self.now.link
+        ensures refused { SendAnswersThenOutOfMemory result (tagged_payload_tests self.now.link tag.now
             (delivery_of message_format settled state batchable) payload.now) }
     {
         match self
             .link
-            .can_send_payload(payload, message_format, settled, state, batchable)
+            .can_send_payload_with_tag(tag, payload, message_format, settled, state, batchable)
         {
             Ok(true) => Err(LinkStateError::OutOfMemory),
             Ok(false) => Ok(Sending::CreditMissing),
@@ -155,24 +231,24 @@ impl<T: LinkTarget> OutcomeLedger<T> {
     }
 }
 
-// Room for the registration of a payload that is sent now, if the endpoint may register one.
+// Room for the registration of a payload that is sent now under this tag, if the endpoint may register one.
 fn room_for_payload<T: LinkTarget>(
     alloc: Global,
     link: &SenderLink<T>,
     registrations: &mut Registrations,
+    tag: &[u8],
     waiting: &Waiting,
     settled: Option<bool>,
 ) -> Result<Option<Reserved>, AllocError>
-    ensures tag { IfOk result (λ reserved. reserved ≡ tag_to_register link.now waiting.now settled) }
+    ensures tag { IfOk result (λ reserved. reserved ≡ tag_to_register link.now tag.now waiting.now settled) }
     ensures room { IfOk result (λ reserved. IsSome reserved → IsTrue registrations.new.has_room) }
     ensures records { registrations.new.records ≡ registrations.old.records }
-    ensures memory { OnErr result (IsSome (tag_to_register link.now waiting.now settled)) }
+    ensures memory { OnErr result (IsSome (tag_to_register link.now tag.now waiting.now settled)) }
 {
     if !matches!(waiting, Waiting::Nothing) || !may_await(link, settled) {
         return Ok(None);
     }
-    let tag = link.flow_state().delivery_count().to_be_bytes();
-    Ok(Some(registrations.reserve(alloc, &tag)?))
+    Ok(Some(registrations.reserve(alloc, tag)?))
 }
 
 // Room for the registration of a delivery that is sent with this transfer, if the endpoint may register it.

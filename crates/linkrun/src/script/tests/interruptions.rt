@@ -142,4 +142,5 @@ fn fates_that_no_script_reaches_have_a_text(rt: HostRuntime) {
     assert_text(&rt, &Fate::Resolved(Ok(released)), "resolved");
     let closed = LinkStateError::RemoteClosed;
     assert_text(&rt, &Fate::Resolved(Err(closed)), "resolved");
+    assert_text(&rt, &Fate::Released, "released");
 }

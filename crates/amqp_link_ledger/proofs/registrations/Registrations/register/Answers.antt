@@ -7,7 +7,7 @@ use Rattle.amqp_link_ledger.proofs.registrations.Registrations.register.Goals as
 
 pub invariant_of-self : goal.invariant_of-self
 invariant_of-self c =
-    let records = c.self.inside.records.items in
+    let records = c.self.inside.records.records in
     let numbers = c.self.inside.numbers.entries in
     let tag = c.reserved.inside.tag in
     let number : c.len-number.result ≡ length records = search rules in
