@@ -1,33 +1,10 @@
 //! The calls, with the peer's frames.
 use amqp_link::inbox::Call;
 use amqp_link::types::{
-    Attach, DeliveryState, DeliveryTag, Handle, OutputHandle, Payload, ReceiverSettleMode, Role,
-    SenderSettleMode, Source, Target, TargetArchetype, Text, Transfer, UnsettledMap,
+    Attach, DeliveryState, DeliveryTag, OutputHandle, Payload, Role, Text, Transfer, UnsettledMap,
 };
-use std::alloc::{AllocError, AllocFailed, Global};
-use std::io;
-
-/// Out of memory, or a failed write.
-#[derive(Clone, Copy)]
-pub struct Refused;
-
-impl From<AllocError> for Refused {
-    fn from(_error: AllocError) -> Refused {
-        Refused
-    }
-}
-
-impl<T: Drop> From<AllocFailed<T>> for Refused {
-    fn from(_error: AllocFailed<T>) -> Refused {
-        Refused
-    }
-}
-
-impl From<io::Error> for Refused {
-    fn from(_error: io::Error) -> Refused {
-        Refused
-    }
-}
+use program_support::{Refused, attach_of};
+use std::alloc::{AllocError, Global};
 
 fn tag(alloc: Global) -> Result<DeliveryTag, AllocError> {
     DeliveryTag::copied(alloc, &[1])
@@ -40,22 +17,7 @@ fn theirs(alloc: Global, is_stated: bool) -> Result<Attach, Refused> {
         drop(unsettled.put(tag(alloc)?, None)?);
     }
     let name = Text::from(String::from_str(alloc, "l")?);
-    Ok(Attach {
-        name,
-        handle: Handle(0),
-        role: Role::Sender,
-        snd_settle_mode: SenderSettleMode::Mixed,
-        rcv_settle_mode: ReceiverSettleMode::First,
-        source: Some(Source::default()),
-        target: Some(TargetArchetype::from(Target::default())),
-        unsettled: Some(unsettled),
-        incomplete_unsettled: false,
-        initial_delivery_count: Some(0),
-        max_message_size: None,
-        offered_capabilities: None,
-        desired_capabilities: None,
-        properties: None,
-    })
+    Ok(attach_of(name, Role::Sender, Some(0), unsettled))
 }
 
 // Both attaches, at a handle that the session has given.

@@ -6,11 +6,12 @@
 mod calls;
 mod words;
 
-use crate::calls::{Refused, calls};
+use crate::calls::calls;
 use crate::words::write_answer;
 use amqp_link::inbox::{AnswerOf, run};
 use amqp_link::types::{Source, Target, Text};
 use amqp_link::{Inbox, LinkParts, Whole};
+use program_support::Refused;
 use std::alloc::Global;
 use std::io::{Lock, Write};
 use std::process::ExitCode;

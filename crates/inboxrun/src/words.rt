@@ -1,20 +1,9 @@
 //! What a call has returned, in words.
-use amqp_link::inbox::{AnswerOf, Arrival};
+use amqp_link::inbox::AnswerOf;
 use amqp_link::{Delivery, Whole};
+use program_support::arrival_word;
 use std::io;
 use std::io::Write;
-
-fn word_of(arrival: Arrival) -> &'static str {
-    match arrival {
-        Arrival::Begun => "begun",
-        Arrival::Continued => "continued",
-        Arrival::Complete => "complete",
-        Arrival::CompleteSettled => "complete and settled",
-        Arrival::Known => "known",
-        Arrival::Aborted(_) => "aborted",
-        Arrival::Ignored => "ignored",
-    }
-}
 
 fn write_taken<O: Write>(output: &mut O, delivery: Delivery<Whole>) -> io::Result<()> {
     let written = writeln!(output, "taken {:?}", delivery.body().0.as_slice());
@@ -32,7 +21,7 @@ pub fn write_answer<O: Write>(output: &mut O, answer: AnswerOf<Whole>) -> io::Re
             writeln!(output, "attached, forgotten {count}")
         }
         AnswerOf::Arrived(Ok(arrived)) => {
-            let word = word_of(arrived.arrival);
+            let word = arrival_word(arrived.arrival);
             drop(arrived);
             writeln!(output, "{word}")
         }

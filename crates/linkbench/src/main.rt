@@ -14,6 +14,7 @@ mod pairs;
 mod payloads;
 mod receiving;
 mod refused;
+mod releasing;
 mod report;
 mod scanning;
 mod sending;

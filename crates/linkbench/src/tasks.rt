@@ -7,6 +7,7 @@ use crate::pairs::Walking;
 use crate::payloads::Kind;
 use crate::receiving::{Flowing, Receiving};
 use crate::refused::Refused;
+use crate::releasing::Releasing;
 use crate::scanning::{Positioning, Scanning};
 use crate::sending::Splitting;
 use crate::settling::{Batching, Disposing, Resolving};
@@ -41,6 +42,8 @@ pub enum Task {
     Attach,
     /// A sender takes an attach with so many unsettled deliveries.
     Exchange,
+    /// Deliveries of 64 bytes are sent and accepted, and what became of each so many is released.
+    Release,
     /// Deliveries of 64 bytes arrive at an inbox, are taken and settled, while so many are kept.
     Keep,
     /// An inbox is attached again with so many deliveries.
@@ -79,6 +82,7 @@ impl Task {
             Task::DisposeAll => "dispose_all",
             Task::Attach => "send_attach, both",
             Task::Exchange => "on_incoming_attach",
+            Task::Release => "ledger: send, accept",
             Task::Keep => "inbox: take, settle",
             Task::Reattach => "inbox: both attaches",
             Task::Pair => "pair through a cut",
@@ -91,6 +95,7 @@ impl Task {
             Task::Split | Task::Merge | Task::Receive | Task::Pair => "bytes",
             Task::Scan(_) | Task::Position => "bytes",
             Task::Deliver => "pending",
+            Task::Release => "a release",
             Task::Keep => "kept",
             Task::Resolve | Task::BatchDispose | Task::DisposeAll => "deliveries",
             Task::Attach | Task::Exchange | Task::Reattach => "deliveries",
@@ -103,6 +108,7 @@ impl Task {
             Task::Split | Task::Merge | Task::Receive | Task::Pair => of(10_000, 1),
             Task::Scan(_) | Task::Position => of(1_000, 1),
             Task::Deliver | Task::Keep => of(1, 1),
+            Task::Release => of(10, 10),
             Task::Resolve | Task::BatchDispose | Task::DisposeAll => of(10, 1),
             Task::Attach | Task::Exchange | Task::Reattach => of(10, 1),
         }
@@ -118,6 +124,7 @@ impl Task {
                 [of(64, 100_000), of(65_536, 100), of(1_048_576, 10)]
             }
             Task::Deliver | Task::Keep => [of(1, 10_000), of(100, 10_000), of(10_000, 1_000)],
+            Task::Release => [of(1, 10_000), of(1_000, 100_000), of(1_000, 1_000_000)],
             Task::Resolve | Task::BatchDispose | Task::DisposeAll => {
                 [of(10, 1), of(1_000, 1), of(10_000, 1)]
             }
@@ -157,6 +164,7 @@ impl Task {
             Task::DisposeAll => measure(clock, Disposing::ready(alloc, size)?),
             Task::Attach => measure(clock, Attaching::ready(alloc, size)?),
             Task::Exchange => measure(clock, Exchanging::ready(alloc, size)?),
+            Task::Release => measure(clock, Releasing::ready(alloc, length, count)?),
             Task::Keep => measure(clock, Keeping::ready(alloc, size, count)?),
             Task::Reattach => measure(clock, Reattaching::ready(alloc, size)?),
             Task::Pair => measure(clock, Walking::ready(alloc, length, LIMIT, count)?),
@@ -165,7 +173,7 @@ impl Task {
 }
 
 /// All works, in the order in which they are printed.
-pub fn all() -> [Task; 18] {
+pub fn all() -> [Task; 19] {
     [
         Task::Split,
         Task::Merge,
@@ -182,6 +190,7 @@ pub fn all() -> [Task; 18] {
         Task::DisposeAll,
         Task::Attach,
         Task::Exchange,
+        Task::Release,
         Task::Keep,
         Task::Reattach,
         Task::Pair,
