@@ -1,88 +1,166 @@
--- How a broker takes a transfer in: the tests that are left once some are behind, and what is held then.
-use Rattle.std.proofs.Common.{◌≡◌, ◌∙◌, ap, sym, refl, subst, Bool, true, false, not, ℕ, List, [], ◌∷◌, Option, Some, None, ◌⊎◌, inl, inr}
-use Rattle.std.specs.Prelude.{MatchOption, IsSomeAnd, if◌then◌else◌}
-use Rattle.amqp_link.specs.Held.{Held}
-use Rattle.amqp_link.specs.IncompleteRefusals.{Test}
-use Rattle.amqp_link.specs.Receivers.{Receiver}
-use Rattle.amqp_link.specs.Refusals.{refusal}
-use Rattle.amqp_link.specs.declared.errors.ReceiverTransferError.{ReceiverTransferError}
-use Rattle.amqp_link.specs.declared.errors.ReceiverTransferError.TheVariants.{InconsistentFieldInMultiFrameDelivery}
+-- A message is taken from an inbox as it is, and its outcome is kept in its place.
+use Rattle.std.proofs.Common.{◌≡◌, ◌∙◌, ◌+◌, ◌-◌, ◌<◌, ◌≤◌, arith, ap, length, sym, subst, suc, refl, Bool, true, false, ℕ, List, [], ◌∷◌, Option, Some, None, Result, Ok, Err, ◌⊎◌, inl, inr}
+use Rattle.std.specs.Prelude.{IsSomeAnd, drop, get_or, slice_get, slice_set, sum_by, unwrap_or, if◌then◌else◌}
+use Rattle.std.specs.Map.{set_value}
+use Rattle.std.specs.Str.{bytes_eq}
+use Rattle.std.proofs.lemmas.Map.Steps.{set_value_same}
+use Rattle.std.proofs.lemmas.List.Sums.{get_or-le-sum_by}
+use Rattle.std.proofs.lemmas.Option.{same_Some, slice_get_read}
+use Prim.Native.Nat.{zero}
+use Rattle.amqp_link.specs.Bodies.{whole_message}
+use Rattle.amqp_link.specs.Completing.{IsDelivery}
+use Rattle.amqp_link.specs.Deliveries.{Delivered}
+use Rattle.amqp_link.specs.Entries.{Tag, Entries, entry_at}
+use Rattle.amqp_link.specs.Held.{Held, held_bytes}
+use Rattle.amqp_link.specs.Inboxes.{InboxState}
+use Rattle.amqp_link.specs.Merging.{first}
+use Rattle.amqp_link.specs.Taking.{AnswersTake, IsGivenBack, has_taken}
+use Rattle.amqp_link.specs.declared.inbox.TakeError.{TakeError}
+use Rattle.amqp_link.specs.declared.inbox.TakeError.TheVariants as take
+use Rattle.amqp_link.specs.declared.inbox.Undecoded.{Undecoded}
+use Rattle.amqp_link.specs.declared.errors.DecodeError.{DecodeError}
+use Rattle.amqp_link.specs.declared.types.DeliveryState.{DeliveryState}
+use Rattle.amqp_link.specs.declared.types.Message.{Message as Decoded}
 use Rattle.amqp_link.specs.declared.types.Target.{Target}
-use Rattle.amqp_link.specs.declared.types.Transfer.{Transfer}
-use Rattle.amqp_link_uses.specs.Brokers.{Joins, continued_by, hand_out_refusal, is_known, is_of_another_delivery, join_tests, known_tests, recorded, transfer_tests}
+use Rattle.amqp_link.specs.declared.types.Whole.{Whole}
+use Rattle.amqp_link_uses.specs.Brokers.{BrokerState, IncomingState, IsRefusedTake, NoneWaits, NothingIsLeft, OutgoingState, StepsAt, StepsBy, TakesFirst, TakesFirstAt, TakesSettledOne, awaits, carried_at, carried_by, claimed, free}
+use Rattle.amqp_link_uses.specs.declared.broker.Message.{Message}
+use Rattle.amqp_link_uses.specs.declared.broker.Origin.{Origin}
+use Rattle.amqp_link_uses.specs.declared.broker.errors.TakeInError.TheVariants as take_in
+use Rattle.amqp_link_uses.specs.declared.broker.incoming.Progress.{Progress}
+use Rattle.amqp_link_uses.specs.declared.broker.incoming.Progress.TheVariants as progress
+use Rattle.amqp_link_uses.specs.declared.broker.resuming.Step.{Step}
+use Rattle.amqp_link_uses.specs.declared.broker.resuming.Step.TheVariants as step
 
-true_is_not_false : true ≡ false → ⊥
-true_is_not_false h = cc
+-- bytes as they are are read, whatever they are
+never_undecoded : (held : Option Held) (u : Undecoded) → IsSomeAnd held (λ h. IsGivenBack whole_message h u) → ⊥
+never_undecoded None u given = given
+never_undecoded (Some h) u given = cc given.source
 
-not_not : (b : Bool) → not (not b) ≡ b
-not_not true = refl
-not_not false = refl
+-- why a message is not taken, as its inbox says
+pub refused_as : (A : Type 0) (why : Option TakeError) (held : Option Held) (r : TakeError) → AnswersTake {A = A} why (Err r)
+    → ((u : Undecoded) → r ≡ take.Undecoded u → IsSomeAnd held (λ h. IsGivenBack whole_message h u))
+    → IsRefusedTake (take_in.Inbox r) why
+refused_as A why held take.UnknownTag a u = inr a
+refused_as A why held take.NotComplete a u = inr a
+refused_as A why held take.AlreadyTaken a u = inr a
+refused_as A why held take.NotAttached a u = inr a
+refused_as A why held take.OutOfMemory a u = inl refl
+refused_as A why held (take.Undecoded x) a u = absurd (never_undecoded held x (u x refl))
 
--- of the tests, those that are left where a first one, an abortion and a known delivery are behind
-left_of_tests : (another aborted known : Bool) (error : ReceiverTransferError) (of_known of_joined : List Test)
-    → another ≡ false → aborted ≡ false → known ≡ false
-    → refusal ((another, error) ∷ (if aborted then [] else if known then of_known else of_joined)) ≡ refusal of_joined
-left_of_tests false false false error of_known of_joined a b c = refl
-left_of_tests true aborted known error of_known of_joined a b c = absurd (true_is_not_false a)
-left_of_tests false true known error of_known of_joined a b c = absurd (true_is_not_false b)
-left_of_tests false false true error of_known of_joined a b c = absurd (true_is_not_false c)
+pub not_taken : (A : Type 0) (held : Option Held) (r : TakeError)
+    → ((u : Undecoded) → r ≡ take.Undecoded u → IsSomeAnd held (λ h. IsGivenBack whole_message h u)) → has_taken {A = A} (Err r) ≡ false
+not_taken A held take.UnknownTag u = refl
+not_taken A held take.NotComplete u = refl
+not_taken A held take.AlreadyTaken u = refl
+not_taken A held take.NotAttached u = refl
+not_taken A held take.OutOfMemory u = refl
+not_taken A held (take.Undecoded x) u = absurd (never_undecoded held x (u x refl))
 
-module _ (link : Receiver Target) (begun : Option Held) (t : Transfer) (payload : List ℕ) where
-  -- the tests of a transfer that is joined, as the code asks them
-  pub tests_of_joined : (taken : Transfer × List ℕ) (another begins known : Bool) → taken ≡ (t, payload)
-      → another ≡ is_of_another_delivery begun t → another ≡ false → taken.0.aborted ≡ false
-      → known ≡ is_known link begun t → known ≡ false → begins ≡ not link.more
-      → refusal (transfer_tests link begun t payload)
-      ≡ refusal (join_tests (not begins) (continued_by (not begins) begun taken.0) taken.0 taken.1)
-  tests_of_joined taken another begins known same of_another not_another not_aborted of_known not_known is =
-      let P : Transfer × List ℕ → Type 0 = λ p. p.0.aborted ≡ false in
-      let R : Bool → Transfer × List ℕ → Option ReceiverTransferError = λ b p. refusal (join_tests b (continued_by b begun p.0) p.0 p.1) in
-      let under_way : link.more ≡ not begins = sym (ap (λ b. not b) is ∙ not_not link.more) in
-      left_of_tests (is_of_another_delivery begun t) t.aborted (is_known link begun t) InconsistentFieldInMultiFrameDelivery
-      (known_tests t payload) (join_tests link.more (continued_by link.more begun t) t payload)
-      (sym of_another ∙ not_another) (subst P same not_aborted) (sym of_known ∙ not_known)
-      ∙ ap (λ b. R b (t, payload)) under_way ∙ ap (λ p. R (not begins) p) (sym same)
+-- the bytes of a message that is read as it is
+abbrev payload_in : Result (Decoded Whole) DecodeError → List ℕ
+payload_in (Ok m) = m.body.0
+payload_in (Err e) = []
 
--- a join that is refused
-pub refused_by_join : {A : Type 0} {error memory : ReceiverTransferError} {tests joined : Option ReceiverTransferError} → tests ≡ joined
-    → ((error ≡ memory) × (joined ≡ None)) ⊎ (joined ≡ Some error) → (error ≡ memory) ⊎ (tests ≡ Some error) ⊎ A
-refused_by_join same (inl is) = inl is.0
-refused_by_join same (inr is) = inr (inl (same ∙ is))
+-- the first that its sender has settled is taken
+pub takes_first : (link number : ℕ) (old new : InboxState Target) (messages : Entries Progress) (d : Delivered Whole) (m : Message)
+    → IsSomeAnd (first old.settled) (λ held. IsDelivery old.link held.performative (whole_message (held_bytes held)) d)
+    → new ≡ record old { settled = drop 1 old.settled }
+    → m ≡ record {
+      origin = record { link = link; tag = None; number = number };
+      message_format = unwrap_or d.message_format 0;
+      payload = d.message.body.0;
+    }
+    → TakesFirst link number (record { inbox = old; messages = messages }) m (record { inbox = new; messages = messages })
+takes_first link number old new messages d m delivered after made =
+    elim old.settled as (λ l. old.settled ≡ l → IsSomeAnd (first l) (λ held. IsDelivery old.link held.performative (whole_message (held_bytes held)) d)
+    → TakesFirst link number (record { inbox = old; messages = messages }) m (record { inbox = new; messages = messages })) [
+      | [] ↦ λ e given. absurd given
+      | held ∷ rest ↦ λ e given. record {
+        held = held;
+        rest = rest;
+        settled = e;
+        message_is = made ∙ ap (λ f. record {
+          origin = record { link = link; tag = None; number = number };
+          message_format = unwrap_or f 0;
+          payload = d.message.body.0;
+        }) given.format ∙ ap (λ bytes. record {
+          origin = record { link = link; tag = None; number = number };
+          message_format = unwrap_or held.performative.message_format 0;
+          payload = bytes;
+        }) (sym (ap payload_in given.message));
+        link_is = ap (λ i. record { inbox = i; messages = messages })
+            (after ∙ ap (λ l. record old { settled = drop 1 l }) e);
+      }
+    ] refl delivered
 
--- what is held where it is joined: the link has recorded it
-pub held_then : (begun : Option Held) (link1 link2 link3 : Receiver Target) (Joined : Held → Type 0) (Q : Receiver Target → Held → Type 0)
-    → IsSomeAnd begun Joined → MatchOption begun (link3 ≡ link2) (λ held. link3 ≡ recorded held link2)
-    → link2 ≡ link1 → IsSomeAnd begun (λ held. Q link3 held) → (held : Held) × Joined held × Q (recorded held link1) held
-held_then (Some held) link1 link2 link3 Joined Q joined records same q =
-    (held, joined, subst (λ link. Q link held) (records ∙ ap (λ link. recorded held link) same) q)
-held_then None link1 link2 link3 Joined Q joined records same q = absurd joined
+-- the outcome of a message is kept in its place, if it still awaits one
+module _ (origin : Origin) (tag : Tag) (state : DeliveryState) (old : IncomingState) (place : Progress) (now : Entries Progress)
+    (is : origin.tag ≡ Some tag) (found : entry_at old.messages tag ≡ Some place) where
+  by_awaiting : (b : Bool) → awaits origin.number (Some place) ≡ b
+      → carried_by origin state old ≡ (if b then record old { messages = set_value (bytes_eq tag) old.messages (progress.Ended state) } else old)
+  by_awaiting b is_so = ap (λ t. carried_at t origin.number state old) is
+      ∙ ap (λ a. if a then record old { messages = set_value (bytes_eq tag) old.messages (progress.Ended state) } else old)
+      (ap (λ p. awaits origin.number p) found ∙ is_so)
 
--- why what is held is not handed out
-pub refused_then : (begun : Option Held) (link1 link2 link3 left : Receiver Target) (Joined : Held → Type 0) (A : Type 0) (error memory : ReceiverTransferError)
-    → IsSomeAnd begun Joined → MatchOption begun (link3 ≡ link2) (λ held. link3 ≡ recorded held link2) → link2 ≡ link1
-    → MatchOption begun A (λ held. (error ≡ memory) ⊎ (hand_out_refusal link3 held ≡ Some (error, left)))
-    → (error ≡ memory) ⊎ IsSomeAnd begun (λ held. hand_out_refusal (recorded held link1) held ≡ Some (error, left))
-refused_then (Some held) link1 link2 link3 left Joined A error memory joined records same (inl is) = inl is
-refused_then (Some held) link1 link2 link3 left Joined A error memory joined records same (inr is) =
-    inr (subst (λ link. hand_out_refusal link held ≡ Some (error, left)) (records ∙ ap (λ link. recorded held link) same) is)
-refused_then None link1 link2 link3 left Joined A error memory joined records same h = absurd joined
+  pub kept_in_place : awaits origin.number (Some place) ≡ true → now ≡ set_value (bytes_eq tag) old.messages (progress.Ended state)
+      → record old { messages = now } ≡ carried_by origin state old
+  kept_in_place awaited written = ap (λ m. record old { messages = m }) written ∙ sym (by_awaiting true awaited)
 
--- the transfer is the last
-pub is_last_of : {taken : Transfer × List ℕ} {t : Transfer} {payload : List ℕ} → taken ≡ (t, payload) → taken.0.more ≡ false → t.more ≡ false
-is_last_of same last = let P : Transfer × List ℕ → Type 0 = λ p. p.0.more ≡ false in subst P same last
+  pub left_in_place : awaits origin.number (Some place) ≡ false → now ≡ set_value (bytes_eq tag) old.messages place
+      → record old { messages = now } ≡ carried_by origin state old
+  left_in_place not_awaited written =
+      ap (λ m. record old { messages = m }) (written ∙ set_value_same (bytes_eq tag) old.messages place found) ∙ sym (by_awaiting false not_awaited)
 
--- what is held once the code has joined the transfer
-pub joined_as : (link : Receiver Target) (begun : Option Held) (t : Transfer) (payload : List ℕ) (taken : Transfer × List ℕ) (begins : Bool) (left : Option Held)
-    → taken ≡ (t, payload) → begins ≡ not link.more
-    → IsSomeAnd left (λ held. Joins (not begins) (continued_by (not begins) begun taken.0) taken.0 taken.1 held)
-    → IsSomeAnd left (λ held. Joins link.more (continued_by link.more begun t) t payload held)
-joined_as link begun t payload taken begins left same is joined =
-    let P : Bool → Transfer × List ℕ → Type 0 = λ b p. IsSomeAnd left (λ held. Joins b (continued_by b begun p.0) p.0 p.1 held) in
-    subst (λ b. P b (t, payload)) (ap (λ b. not b) is ∙ not_not link.more) (subst (λ p. P (not begins) p) same joined)
+-- ---- the room
 
--- a handing out that is refused
-pub refused_by_completing : {error memory : ReceiverTransferError} {tests : Option ReceiverTransferError} {more : Bool} {begun left : Option Held} (P : Held → Type 0)
-    → tests ≡ None → more ≡ false → left ≡ begun → (error ≡ memory) ⊎ IsSomeAnd begun P
-    → (error ≡ memory) ⊎ (tests ≡ Some error) ⊎ ((tests ≡ None) × (more ≡ false) × IsSomeAnd left P)
-refused_by_completing P none last same (inl is) = inl is
-refused_by_completing P none last same (inr is) = inr (inr (none, last, subst (λ b. IsSomeAnd b P) (sym same) is))
+-- what one link claims is within what all claim
+one_claims : (incoming : List IncomingState) (link : ℕ) (s : IncomingState) → link < length incoming → s ≡ get_or incoming link s
+    → claimed s ≤ sum_by claimed incoming
+one_claims incoming link s within is =
+    subst (λ x. claimed x ≤ sum_by claimed incoming) (sym is) (get_or-le-sum_by claimed incoming link s within)
+
+-- credit that is free is within the room
+pub credit_within : (b : BrokerState) (link more : ℕ) (s : IncomingState) → link < length b.incoming → s ≡ get_or b.incoming link s
+    → more ≤ free b → (more ≡ 0) ⊎ (s.inbox.link.flow_state.link_credit + more ≤ b.room)
+credit_within b link zero s within is small = inl refl
+credit_within b link (suc n) s within is small =
+    let claims : claimed s ≤ sum_by claimed b.incoming = one_claims b.incoming link s within is in
+    inr (omega (arith, claims, small))
+
+pub left_beside_more : (room held so_far one : ℕ) → room - (held + so_far) - one ≡ room - (held + (so_far + one))
+left_beside_more room held so_far one = omega arith
+
+-- ---- one link of several
+
+-- a link that there is
+pub found_at : {X : Type 0} (xs : List X) (i : ℕ) (x : X) → i < length xs → x ≡ get_or xs i x → slice_get xs i ≡ Some x
+found_at xs i x within is = slice_get_read xs (length xs) i x refl within is
+
+-- an element that is written in its own place changes nothing
+same_set : {X : Type 0} (xs : List X) (i : ℕ) (x : X) → slice_get xs i ≡ Some x → slice_set xs i x ≡ xs
+same_set [] i x is = refl
+same_set (y ∷ ys) zero x is = ap (λ z. z ∷ ys) (sym (same_Some y x is))
+same_set (y ∷ ys) (suc i) x is = ap (λ l. y ∷ l) (same_set ys i x is)
+
+-- the first settled message of a link is taken, or there is none
+pub takes_first_at : (link number : ℕ) (old : List IncomingState) (from to : IncomingState) (taken : Option Message) → slice_get old link ≡ Some from
+    → TakesSettledOne link number from taken to → TakesFirstAt link number old taken (slice_set old link to)
+takes_first_at link number old from to None is h =
+    (ap (λ s. slice_set old link s) h.1 ∙ same_set old link from is, subst (λ o. NoneWaits o) (sym is) h.0)
+takes_first_at link number old from to (Some message) is h =
+    record { from = from; to = to; is = is; takes = h; link_is = refl }
+
+-- a link takes a step, or there is none to take
+pub steps_at : (link : ℕ) (is_sent : Bool) (old : List OutgoingState) (before after_it : OutgoingState) (what : Step) → slice_get old link ≡ Some before
+    → StepsBy is_sent before what after_it → StepsAt link is_sent old what (slice_set old link after_it)
+steps_at link is_sent old before after_it step.Nothing is h =
+    (ap (λ o. slice_set old link o) h.1 ∙ same_set old link before is, subst (λ o. NothingIsLeft o) (sym is) h.0)
+steps_at link is_sent old before after_it (step.Sent frames) is h =
+    record { before = before; after_it = after_it; is = is; does = h; link_is = refl }
+steps_at link is_sent old before after_it (step.Aborted frame tag) is h =
+    record { before = before; after_it = after_it; is = is; does = h; link_is = refl }
+steps_at link is_sent old before after_it (step.Ended tag outcome) is h =
+    record { before = before; after_it = after_it; is = is; does = h; link_is = refl }
+steps_at link is_sent old before after_it step.PutBack is h =
+    record { before = before; after_it = after_it; is = is; does = h; link_is = refl }

@@ -2,7 +2,6 @@ pub mod Brokers
 pub mod Clients
 pub mod Peers
 pub mod Relays
-pub mod Sends
 pub mod Shorts
 pub mod Walks
 pub mod Windows

@@ -1,9 +1,12 @@
 -- What the shortest callers send and receive, and why they are refused (OASIS AMQP 1.0 core, 2.6.3, 2.6.7 and 2.7.5).
 use Rattle.std.specs.Prelude.{◌≡◌, ◌⊎◌, ◌&&◌, not, Bool, ℕ, List, [], ◌∷◌, Option, Some, None, Result, Ok, Err}
 use Rattle.std.specs.Option.{option_map_or}
+use Rattle.amqp_link.specs.Bodies.{whole_message}
+use Rattle.amqp_link.specs.Completing.{completion_refusal}
 use Rattle.amqp_link.specs.Counts.{sender_after}
-use Rattle.amqp_link.specs.Held.{Held}
+use Rattle.amqp_link.specs.Held.{Held, held_bytes}
 use Rattle.amqp_link.specs.IncompleteRefusals.{Test}
+use Rattle.amqp_link.specs.Position.{position}
 use Rattle.amqp_link.specs.Receivers.{Receiver}
 use Rattle.amqp_link.specs.Refusals.{refusal}
 use Rattle.amqp_link.specs.SenderAttaches.{sender_taken}
@@ -44,6 +47,15 @@ abbrev pub of_one_transfer : Transfer → List ℕ → Held
 of_one_transfer t payload = record { performative = t; pieces = payload ∷ [] }
 
 module _ {T : Type 0} where
+  -- the receiver that has taken the transfer from the session
+  abbrev pub came : Transfer → Receiver T → Receiver T
+  came t link = record link { more = t.more }
+
+  -- why what is held is not handed out, out of memory aside, with the receiver that the refusal leaves
+  abbrev pub hand_out_refusal : Receiver T → Held → Option (ReceiverTransferError × Receiver T)
+  hand_out_refusal link held = completion_refusal link held.performative
+      (position (held_bytes held)).0 (position (held_bytes held)).1 (whole_message (held_bytes held))
+
   -- the transfer is a whole delivery, which the link does not know before
   abbrev pub is_whole : Receiver T → Transfer → Bool
   is_whole link t = not link.more && not t.more && not t.aborted && not t.resume

@@ -14,7 +14,7 @@ ghost use Rattle.amqp_link.specs.AttachFields.{next_of, remote_entries};
 ghost use Rattle.amqp_link.specs.Detaching;
 ghost use Rattle.amqp_link.specs.Entries.{with_entry};
 ghost use Rattle.amqp_link.specs.Exchanges.{deliveries_to_resume, outcomes_returned};
-ghost use Rattle.amqp_link.specs.Exchanging.{deliveries_in};
+ghost use Rattle.amqp_link.specs.Exchanging.{deliveries_in, ledger_taken};
 ghost use Rattle.amqp_link.specs.Fates.{Change, after};
 ghost use Rattle.amqp_link.specs.Frames.{payload_of};
 ghost use Rattle.amqp_link.specs.SenderAttaches.{exchange_in, sender_left, sender_refusal, sender_taking_allocates};
@@ -57,6 +57,7 @@ pub fn take_attach(
     ledger: &mut OutcomeLedger<Target>,
     theirs: Attach,
 ) -> Result<Reattached, SenderAttachError>
+    ensures taken { OnOk result (ledger.new ≡ ledger_taken plain_target ledger.old theirs) }
     ensures listed { IfOk result (λ again. again.resuming.items
         ≡ deliveries_to_resume ledger.old.link.unsettled (remote_entries theirs)) }
     ensures ended { IfOk result (λ again. again.outcomes.items
@@ -150,8 +151,8 @@ pub fn send_rest(
     }
 }
 
-// Two copies of a tag: one for the transfer, one for the registration.
-fn two_of(tag: &DeliveryTag) -> Result<(DeliveryTag, DeliveryTag), AllocError>
+// Two copies of a tag: one by which its delivery is known, and one for a transfer or for where its message came from.
+pub(crate) fn two_of(tag: &DeliveryTag) -> Result<(DeliveryTag, DeliveryTag), AllocError>
     ensures { IfOk result (λ tags. (tags.0 ≡ tag.now) × (tags.1 ≡ tag.now)) }
 {
     let named = tag.clone()?;

@@ -10,9 +10,8 @@ ghost use Rattle.amqp_link.specs.SenderAttaches.{sender_refusal};
 ghost use Rattle.amqp_link.specs.Senders.{delivery_of, payload_tests};
 ghost use Rattle.amqp_link.specs.Targets.{plain_target};
 ghost use Rattle.amqp_link.specs.Termini.{sender_refuses_target};
-ghost use Rattle.amqp_link_uses.specs.Brokers.{came, hand_out_refusal};
 ghost use Rattle.amqp_link_uses.specs.Shorts;
-ghost use Rattle.amqp_link_uses.specs.Shorts.{CompletesOrRefuses, ReceivesOrRefuses, SendsOneOrRefuses, of_one_transfer, ready_to_send};
+ghost use Rattle.amqp_link_uses.specs.Shorts.{CompletesOrRefuses, ReceivesOrRefuses, SendsOneOrRefuses, came, hand_out_refusal, of_one_transfer, ready_to_send};
 
 use amqp_link::errors::{
     DispositionError, LinkStateError, ReceiverTransferError, SenderAttachError,

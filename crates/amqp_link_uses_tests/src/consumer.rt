@@ -1,7 +1,6 @@
 //! A consumer takes each message once, and accepts it, through a lost session.
-use crate::arrivals::{resuming, transfer};
 use crate::assertions::{assert_equal, assert_equal_at};
-use crate::samples::{attach_of, parts, payload, tag_of};
+use crate::samples::{attach_of, parts, payload, resuming, tag_of, transfer};
 use amqp_link::inbox::DisposeError;
 use amqp_link::types::{
     Attach, OutputHandle, Role, SenderSettleMode, Target, Transfer, UnsettledMap,

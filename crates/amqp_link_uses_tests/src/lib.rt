@@ -2,11 +2,11 @@
 #![tactic(auto)]
 
 #[cfg(test)]
-mod arrivals;
-#[cfg(test)]
 mod assertions;
 #[cfg(test)]
 mod broker;
+#[cfg(test)]
+mod broker_reattached;
 #[cfg(test)]
 mod client;
 #[cfg(test)]
@@ -18,8 +18,10 @@ mod reattached;
 #[cfg(test)]
 mod relay;
 #[cfg(test)]
-mod resumed;
-#[cfg(test)]
 mod samples;
+#[cfg(test)]
+mod script;
+#[cfg(test)]
+mod seen;
 #[cfg(test)]
 mod short;

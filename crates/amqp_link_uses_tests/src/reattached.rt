@@ -1,18 +1,16 @@
-//! A relay's ledger and a broker's receiver over several attachments, without a pair: the session that carries their
-//! frames is this file.
-use crate::arrivals::{Came, Incoming, kept, made_by, take_theirs};
+//! A relay's ledger and an inbox over several attachments, without a pair: the session that carries their frames is
+//! this file.
 use crate::assertions::{assert_equal, assert_equal_at};
-use crate::samples::{attached_receiver, attached_sender, grant, payload};
+use crate::samples::{attach_of, attached_sender, parts, payload};
 use amqp_link::delivery::{DeliveryOutcome, Outcomes, UnsettledMessage};
-use amqp_link::errors::ReceiverTransferError;
+use amqp_link::inbox::Arrival;
 use amqp_link::resumption::ResumingDelivery;
-use amqp_link::types::{Attach, Detach, OutputHandle, Target, Transfer};
+use amqp_link::types::{Attach, Detach, OutputHandle, Role, SenderSettleMode, Target, Transfer};
 use amqp_link::{
-    DeliveryInfo, DeliveryState, DeliveryTag, Fate, LinkDetach, LinkFrame, OutcomeLedger, Payload,
-    Sending, Waiting,
+    DeliveryState, DeliveryTag, Fate, Inbox, LinkDetach, LinkExt, LinkFrame, OutcomeLedger,
+    Payload, Sending, Waiting, Whole,
 };
 use amqp_link_tests_support::calls::{lose_session, send_attach, set_output_handle};
-use amqp_link_uses::broker::{Arrival, settle_with, take_in};
 use amqp_link_uses::relay::{
     Reattached, detach_to_attach_again, send_again, send_rest, take_attach,
 };
@@ -26,11 +24,11 @@ const SENT: [u8; 76] = [
     74, 75,
 ];
 
-// A relay that sends, and a broker that receives.
+// A relay that sends, and an inbox that receives.
 #[derive(Drop)]
-struct RelayAndBroker {
+struct Ends {
     relay: OutcomeLedger<Target>,
-    broker: Incoming,
+    inbox: Inbox<Target>,
     next_id: u32,
 }
 
@@ -39,13 +37,36 @@ fn relay_of(rt: &(impl Abort + AllocGlobal), credit: u32) -> OutcomeLedger<Targe
     ledger.ok().expect(rt, "memory")
 }
 
-fn attached_ends(rt: &(impl Abort + AllocGlobal), credit: u32) -> RelayAndBroker {
+// The attach that an inbox sends.
+fn inbox_attach(rt: &impl Abort, inbox: &mut Inbox<Target>) -> Attach {
+    let frame = inbox.send_attach(false).ok().expect(rt, "memory");
+    attach_in(rt, frame)
+}
+
+fn take_at_inbox(inbox: &mut Inbox<Target>, theirs: Attach) {
+    drop(inbox.on_incoming_attach(theirs));
+}
+
+fn grant(inbox: &mut Inbox<Target>, credit: u32) {
+    drop(inbox.send_flow(Some(credit), None, false, false));
+}
+
+fn attached_inbox(rt: &(impl Abort + AllocGlobal), credit: u32) -> Inbox<Target> {
+    let mut inbox = Inbox::new(rt.alloc(), parts(rt, SenderSettleMode::Unsettled));
+    set_output_handle(&mut inbox, Some(OutputHandle(3)));
+    drop(inbox_attach(rt, &mut inbox));
+    let theirs = attach_of(rt, Role::Sender, SenderSettleMode::Unsettled);
+    take_at_inbox(&mut inbox, theirs);
+    grant(&mut inbox, credit);
+    inbox
+}
+
+fn attached_ends(rt: &(impl Abort + AllocGlobal), credit: u32) -> Ends {
     let relay = relay_of(rt, credit);
-    let mut broker = Incoming::new(attached_receiver(rt));
-    grant(&mut broker.link, credit);
-    RelayAndBroker {
+    let inbox = attached_inbox(rt, credit);
+    Ends {
         relay,
-        broker,
+        inbox,
         next_id: 0,
     }
 }
@@ -79,47 +100,57 @@ fn arriving(rt: &impl Abort, frame: LinkFrame, id: u32) -> (Transfer, Payload) {
     }
 }
 
-// Whether what has begun is another delivery than the transfer's: the broker keeps one for each tag.
-fn is_beside(broker: &Incoming, transfer: &Transfer) -> bool {
-    match &broker.begun {
-        Some(held) => !held.is_same_delivery_as(transfer),
-        None => false,
+// What a transfer makes of its delivery: a complete one is taken, and has the bytes that were sent or others.
+#[derive(Clone, Copy, Debug, PartialEq, Eq)]
+enum Came {
+    Begun,
+    Complete(bool),
+    Known,
+    Other,
+}
+
+// Takes a complete delivery: whether it has the bytes that were sent.
+fn is_taken(inbox: &mut Inbox<Target>, tag: &DeliveryTag) -> bool {
+    match inbox.take::<Whole>(tag) {
+        Ok(delivery) => {
+            let is_sent = delivery.body().0.as_slice() == SENT.as_slice();
+            drop(delivery);
+            is_sent
+        }
+        Err(refused) => {
+            drop(refused);
+            false
+        }
     }
 }
 
-fn take(
-    rt: &(impl Abort + AllocGlobal),
-    broker: &mut Incoming,
-    transfer: Transfer,
-    payload: Payload,
-) -> Result<Arrival, ReceiverTransferError> {
-    if !is_beside(broker, &transfer) {
-        return take_in(
-            rt.alloc(),
-            &mut broker.link,
-            &mut broker.begun,
-            transfer,
-            payload,
-        );
-    }
-    let mut begun = None;
-    let arrival = take_in(rt.alloc(), &mut broker.link, &mut begun, transfer, payload);
-    drop(begun);
-    arrival
-}
-
-fn arrive_one(rt: &(impl Abort + AllocGlobal), at: &mut RelayAndBroker, frame: LinkFrame) -> Came {
-    let (transfer, payload) = arriving(rt, frame, at.next_id);
-    let arrival = take(rt, &mut at.broker, transfer, payload);
-    let came = made_by(&arrival, &SENT);
-    drop(arrival);
+fn came_by(inbox: &mut Inbox<Target>, arrival: Arrival, tag: Option<DeliveryTag>) -> Came {
+    let came = match (arrival, &tag) {
+        (Arrival::Begun | Arrival::Continued, _) => Came::Begun,
+        (Arrival::Complete, Some(tag)) => Came::Complete(is_taken(inbox, tag)),
+        (Arrival::Known, _) => Came::Known,
+        _ => Came::Other,
+    };
+    drop(tag);
     came
+}
+
+fn arrive_one(rt: &impl Abort, at: &mut Ends, frame: LinkFrame) -> Came {
+    let (transfer, payload) = arriving(rt, frame, at.next_id);
+    let arrived = at.inbox.on_incoming_transfer(transfer, payload);
+    let Ok(arrived) = arrived else {
+        drop(arrived);
+        return Came::Other;
+    };
+    let arrival = arrived.arrival;
+    let tag = arrived.tag;
+    came_by(&mut at.inbox, arrival, tag)
 }
 
 // The first of these frames arrive, so many of them: what the last of those makes of its delivery.
 fn arrive(
     rt: &(impl Abort + AllocGlobal),
-    at: &mut RelayAndBroker,
+    at: &mut Ends,
     frames: Vec<LinkFrame>,
     count: usize,
 ) -> Came {
@@ -136,14 +167,14 @@ fn arrive(
 }
 
 // Sends a delivery of which so many frames arrive.
-fn send(rt: &(impl Abort + AllocGlobal), at: &mut RelayAndBroker, count: usize) -> Came {
+fn send(rt: &(impl Abort + AllocGlobal), at: &mut Ends, count: usize) -> Came {
     let frames = frames_of(rt, &mut at.relay);
     arrive(rt, at, frames, count)
 }
 
-fn lose_both(at: &mut RelayAndBroker) {
+fn lose_both(at: &mut Ends) {
     lose_session(&mut at.relay);
-    lose_session(&mut at.broker.link);
+    lose_session(&mut at.inbox);
 }
 
 fn attach_in(rt: &impl Abort, frame: LinkFrame) -> Attach {
@@ -172,16 +203,16 @@ fn take_at_relay(
 }
 
 // Both endpoints attach again: what follows at the relay.
-fn attach_both(rt: &(impl Abort + AllocGlobal), at: &mut RelayAndBroker) -> Reattached {
+fn attach_both(rt: &(impl Abort + AllocGlobal), at: &mut Ends) -> Reattached {
     set_output_handle(&mut at.relay, Some(OutputHandle(0)));
-    set_output_handle(&mut at.broker.link, Some(OutputHandle(3)));
+    set_output_handle(&mut at.inbox, Some(OutputHandle(3)));
     let own = attach_sent(rt, send_attach(&mut at.relay, false));
-    let theirs = attach_sent(rt, send_attach(&mut at.broker.link, false));
-    take_theirs(&mut at.broker, own);
+    let theirs = inbox_attach(rt, &mut at.inbox);
+    take_at_inbox(&mut at.inbox, own);
     take_at_relay(rt, &mut at.relay, theirs)
 }
 
-// What the relay and the broker have done for the deliveries of a list.
+// What the relay and the inbox have done for the deliveries of a list.
 #[derive(Clone, Copy, Debug, Default, PartialEq, Eq)]
 struct Done {
     // Frames that were sent, and the bytes of the last of them.
@@ -215,32 +246,29 @@ fn count(done: &mut Done, came: Came) {
     }
 }
 
-// Whether the broker settles the delivery with this tag by the id of the transfer that has just arrived.
-fn is_settled(rt: &(impl Abort + AllocGlobal), at: &mut RelayAndBroker, tag: &DeliveryTag) -> bool {
-    let own = tag.clone().expect(rt, "memory");
-    let info = DeliveryInfo::new(at.next_id, own, None);
-    let outcome = Ok(Some(DeliveryState::Accepted));
-    let frame = settle_with(&mut at.broker.link, &info, &outcome);
-    let is_sent = matches!(&frame, Ok(Some(LinkFrame::Disposition(_))));
-    drop((frame, info, outcome));
+// Whether the inbox accepts and settles the delivery with this tag.
+fn is_settled(inbox: &mut Inbox<Target>, tag: &DeliveryTag) -> bool {
+    let frame = inbox.dispose(tag, Some(true), DeliveryState::Accepted, false);
+    let is_sent = matches!(&frame, Ok(LinkFrame::Disposition(_)));
+    drop(frame);
     is_sent
 }
 
-// The broker's disposition arrives at the relay.
+// The disposition arrives at the relay.
 fn resolve(relay: &mut OutcomeLedger<Target>, tag: &DeliveryTag) {
     drop(relay.on_incoming_disposition(true, Some(DeliveryState::Accepted), tag));
 }
 
-fn settle(rt: &(impl Abort + AllocGlobal), at: &mut RelayAndBroker, tag: &DeliveryTag) {
-    if is_settled(rt, at, tag) {
+fn settle(at: &mut Ends, tag: &DeliveryTag) {
+    if is_settled(&mut at.inbox, tag) {
         resolve(&mut at.relay, tag);
     }
 }
 
-// The frames of a delivery that is resumed or sent again arrive, and the broker settles it.
+// The frames of a delivery that is resumed or sent again arrive, and the inbox settles it.
 fn finish(
     rt: &(impl Abort + AllocGlobal),
-    at: &mut RelayAndBroker,
+    at: &mut Ends,
     tag: &DeliveryTag,
     frames: Vec<LinkFrame>,
     done: &mut Done,
@@ -248,7 +276,7 @@ fn finish(
     measure(done, &frames);
     let came = arrive(rt, at, frames, 9);
     count(done, came);
-    settle(rt, at, tag);
+    settle(at, tag);
 }
 
 fn rest_frames(
@@ -280,7 +308,7 @@ fn put_back(relay: &mut OutcomeLedger<Target>, tag: DeliveryTag, entry: Unsettle
 // The relay goes on with one delivery of the list, as `Reattached` says.
 fn go_on(
     rt: &(impl Abort + AllocGlobal),
-    at: &mut RelayAndBroker,
+    at: &mut Ends,
     one: (DeliveryTag, ResumingDelivery),
     is_incomplete: bool,
     done: &mut Done,
@@ -307,7 +335,7 @@ fn go_on(
 }
 
 // Both endpoints attach again, and the relay goes on with the list. Whether that was incomplete, and what was done.
-fn attached_again(rt: &(impl Abort + AllocGlobal), at: &mut RelayAndBroker) -> (bool, Done) {
+fn attached_again(rt: &(impl Abort + AllocGlobal), at: &mut Ends) -> (bool, Done) {
     let again = attach_both(rt, at);
     let Reattached {
         resuming,
@@ -354,11 +382,16 @@ fn fate_shown(fate: &Fate) -> Shown {
     }
 }
 
-fn fate_of(at: &RelayAndBroker, number: usize) -> Shown {
+fn fate_of(at: &Ends, number: usize) -> Shown {
     match at.relay.fate(number) {
         Some(fate) => fate_shown(fate),
         None => Shown::Other,
     }
+}
+
+// How many deliveries the inbox states, and how many settled ones wait there.
+fn kept(at: &Ends) -> (usize, usize) {
+    (at.inbox.unsettled().len(), at.inbox.settled_len())
 }
 
 // The rest of 37 bytes goes in two frames, since the transfer that resumes a delivery names more than its first one.
@@ -376,11 +409,11 @@ fn rest_of_two_frames_completes_the_delivery(rt: HostRuntime) {
     assert_equal(&rt, &attached_again(&rt, &mut at), &(false, done));
     let fates = [fate_of(&at, 0), fate_of(&at, 1)];
     assert_equal(&rt, &fates, &[Shown::HandedOut, Shown::Accepted]);
-    assert_equal(&rt, &kept(&at.broker), &(false, 0));
+    assert_equal(&rt, &kept(&at), &(0, 0));
     drop(at);
 }
 
-// The relay detaches an incomplete exchange; the broker's session replies.
+// The relay detaches an incomplete exchange; the inbox's session replies.
 fn detach_in(rt: &impl Abort, frame: LinkFrame) -> Detach {
     match frame {
         LinkFrame::Detach(detach) => detach,
@@ -396,8 +429,8 @@ fn detach_sent(rt: &impl Abort, relay: &OutcomeLedger<Target>) -> Detach {
     detach_in(rt, frame)
 }
 
-fn reply_of(rt: &impl Abort, broker: &Incoming, detach: &Detach) -> Detach {
-    let reply = broker.link.on_incoming_detach(detach, true);
+fn reply_of(rt: &impl Abort, inbox: &Inbox<Target>, detach: &Detach) -> Detach {
+    let reply = inbox.on_incoming_detach(detach, true);
     reply.ok().expect(rt, "memory").expect(rt, "a reply")
 }
 
@@ -405,16 +438,16 @@ fn apply<L: LinkDetach>(link: &mut L, detach: Detach) {
     drop(link.apply_remote_detach_outcome(detach));
 }
 
-fn detach_both(rt: &impl Abort, at: &mut RelayAndBroker) {
+fn detach_both(rt: &impl Abort, at: &mut Ends) {
     let detach = detach_sent(rt, &at.relay);
-    let reply = reply_of(rt, &at.broker, &detach);
-    apply(&mut at.broker.link, detach);
+    let reply = reply_of(rt, &at.inbox, &detach);
+    apply(&mut at.inbox, detach);
     apply(&mut at.relay, reply);
 }
 
-// Two deliveries have arrived whole, and of a third the first frame; then the session is lost. The broker's attach does
+// Two deliveries have arrived whole, and of a third the first frame; then the session is lost. The inbox's attach does
 // not fit a frame of 64 bytes with all three of them.
-fn three_unsettled(rt: &(impl Abort + AllocGlobal)) -> RelayAndBroker {
+fn three_unsettled(rt: &(impl Abort + AllocGlobal)) -> Ends {
     let mut at = attached_ends(rt, 3);
     assert_equal(rt, &send(rt, &mut at, 2), &Came::Complete(true));
     assert_equal(rt, &send(rt, &mut at, 2), &Came::Complete(true));
@@ -449,7 +482,7 @@ fn incomplete_exchange_is_completed(rt: HostRuntime) {
         &(false, second),
         &"the second",
     );
-    assert_equal(&rt, &kept(&at.broker), &(false, 0));
+    assert_equal(&rt, &kept(&at), &(0, 0));
     let fates = [3, 4, 5, 6, 7, 8].map(|number| fate_of(&at, number));
     let (resolved, moved) = (Shown::Accepted, Shown::HandedOut);
     let wanted = [resolved, moved, moved, resolved, resolved, Shown::Other];

@@ -1,6 +1,6 @@
 //! Links, and what they are made with: each call with a contract stands in a function of its own, since what follows
 //! a call is proved with all that its contract says.
-use amqp_link::types::{Attach, LinkFlow, OutputHandle, Role, SenderSettleMode, Target};
+use amqp_link::types::{Attach, LinkFlow, OutputHandle, Role, SenderSettleMode, Target, Transfer};
 use amqp_link::{DeliveryTag, LinkExt, LinkParts, Payload, ReceiverLink, SenderLink};
 use amqp_link_tests_support::calls::{send_attach, take_attach};
 use amqp_link_tests_support::links;
@@ -24,6 +24,25 @@ pub fn payload(rt: &(impl Abort + AllocGlobal), bytes: &[u8]) -> Payload {
 /// The tag of a count that is less than 256.
 pub fn tag_of(rt: &(impl Abort + AllocGlobal), count: u8) -> DeliveryTag {
     links::count_tag(rt.alloc(), count).expect(rt, "memory")
+}
+
+/// A transfer of the delivery with id 7 and the tag of the count 5; more is to come, or not.
+pub fn transfer(rt: &(impl Abort + AllocGlobal), more: bool) -> Transfer {
+    Transfer {
+        delivery_id: Some(7),
+        delivery_tag: Some(tag_of(rt, 5)),
+        more,
+        ..Transfer::default()
+    }
+}
+
+/// One that resumes it, with id 9.
+pub fn resuming(rt: &(impl Abort + AllocGlobal), more: bool) -> Transfer {
+    Transfer {
+        delivery_id: Some(9),
+        resume: true,
+        ..transfer(rt, more)
+    }
 }
 
 /// A flow with this credit.
@@ -55,8 +74,7 @@ pub fn attached_sender(rt: &(impl Abort + AllocGlobal), credit: u32) -> SenderLi
     link
 }
 
-/// States this credit.
-pub fn grant(link: &mut ReceiverLink<Target>, credit: u32) {
+fn grant(link: &mut ReceiverLink<Target>, credit: u32) {
     drop(link.send_flow(Some(credit), None, false, false));
 }
 

@@ -1,7 +1,8 @@
 //! The shortest callers: one that sends, one that receives, a pair, and a receiver that keeps its window open.
-use crate::arrivals::{resuming, transfer};
 use crate::assertions::{assert_equal, assert_equal_at, assert_holds};
-use crate::samples::{attach_of, attached_receiver, attaching_sender, flow_of, payload};
+use crate::samples::{
+    attach_of, attached_receiver, attaching_sender, flow_of, payload, resuming, transfer,
+};
 use amqp_link::errors::SenderAttachError;
 use amqp_link::types::{Attach, Role, SenderSettleMode, Target, Transfer};
 use amqp_link::{
