@@ -1,10 +1,11 @@
 -- A message is taken from an inbox as it is, and its outcome is kept in its place.
 use Rattle.std.proofs.Common.{◌≡◌, ◌∙◌, ◌+◌, ◌-◌, ◌<◌, ◌≤◌, arith, ap, length, sym, subst, suc, refl, Bool, true, false, ℕ, List, [], ◌∷◌, Option, Some, None, Result, Ok, Err, ◌⊎◌, inl, inr}
 use Rattle.std.specs.Prelude.{IsSomeAnd, drop, get_or, slice_get, slice_set, sum_by, unwrap_or, if◌then◌else◌}
+use Rattle.std.specs.Prelude.{take as take_first}
 use Rattle.std.specs.Map.{set_value}
 use Rattle.std.specs.Str.{bytes_eq}
 use Rattle.std.proofs.lemmas.Map.Steps.{set_value_same}
-use Rattle.std.proofs.lemmas.List.Sums.{get_or-le-sum_by}
+use Rattle.std.proofs.lemmas.List.Sums.{get_or-le-sum_by, sum_by_more}
 use Rattle.std.proofs.lemmas.Option.{same_Some, slice_get_read}
 use Prim.Native.Nat.{zero}
 use Rattle.amqp_link.specs.Bodies.{whole_message}
@@ -23,7 +24,7 @@ use Rattle.amqp_link.specs.declared.types.DeliveryState.{DeliveryState}
 use Rattle.amqp_link.specs.declared.types.Message.{Message as Decoded}
 use Rattle.amqp_link.specs.declared.types.Target.{Target}
 use Rattle.amqp_link.specs.declared.types.Whole.{Whole}
-use Rattle.amqp_link_uses.specs.Brokers.{BrokerState, IncomingState, IsRefusedTake, NoneWaits, NothingIsLeft, OutgoingState, StepsAt, StepsBy, TakesFirst, TakesFirstAt, TakesSettledOne, awaits, carried_at, carried_by, claimed, free}
+use Rattle.amqp_link_uses.specs.Brokers.{BrokerState, IncomingState, IsRefusedTake, NoneWaits, NothingIsLeft, OutgoingState, StepsAt, StepsBy, TakesFirst, TakesFirstAt, TakesSettledOne, awaits, carried_at, carried_by, claimed, free, held}
 use Rattle.amqp_link_uses.specs.declared.broker.Message.{Message}
 use Rattle.amqp_link_uses.specs.declared.broker.Origin.{Origin}
 use Rattle.amqp_link_uses.specs.declared.broker.errors.TakeInError.TheVariants as take_in
@@ -128,8 +129,15 @@ credit_within b link (suc n) s within is small =
     let claims : claimed s ≤ sum_by claimed b.incoming = one_claims b.incoming link s within is in
     inr (omega (arith, claims, small))
 
-pub left_beside_more : (room held so_far one : ℕ) → room - (held + so_far) - one ≡ room - (held + (so_far + one))
+left_beside_more : (room held so_far one : ℕ) → room - (held + so_far) - one ≡ room - (held + (so_far + one))
 left_beside_more room held so_far one = omega arith
+
+-- what is left beside one link more, whatever is counted of a link
+pub left_beside_next : (f : IncomingState → ℕ) (b : BrokerState) (i : ℕ) (x : IncomingState) → i < length b.incoming → x ≡ get_or b.incoming i x
+    → b.room - (held b + sum_by f (take_first i b.incoming)) - f x ≡ b.room - (held b + sum_by f (take_first (i + 1) b.incoming))
+left_beside_next f b i x within is = left_beside_more b.room (held b) (sum_by f (take_first i b.incoming)) (f x)
+    ∙ ap (λ n. b.room - (held b + (sum_by f (take_first i b.incoming) + n))) (ap f is)
+    ∙ ap (λ n. b.room - (held b + n)) (sym (sum_by_more f b.incoming i x within))
 
 -- ---- one link of several
 

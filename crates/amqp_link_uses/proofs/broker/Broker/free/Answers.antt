@@ -1,8 +1,7 @@
-use Rattle.std.proofs.Common.{◌≡◌, ◌∙◌, ◌+◌, ◌-◌, ◌<◌, ap, length, rules, sym, take}
-use Rattle.std.specs.Prelude.{get_or, sum_by}
-use Rattle.std.proofs.lemmas.List.Sums.{sum_by_more}
-use Rattle.amqp_link_uses.specs.Brokers.{claimed, held}
-use Rattle.amqp_link_uses.proofs.BrokerLemmas.{left_beside_more}
+use Rattle.std.proofs.Common.{◌≡◌, ◌∙◌, ◌-◌, ◌<◌, ap, length, rules}
+use Rattle.std.specs.Prelude.{get_or}
+use Rattle.amqp_link_uses.specs.Brokers.{claimed}
+use Rattle.amqp_link_uses.proofs.BrokerLemmas.{left_beside_next}
 use Rattle.amqp_link_uses.proofs.broker.Broker.free.Goals as goal
 
 pub loop-from-preserved : goal.loop-from-preserved
@@ -12,7 +11,4 @@ loop-from-preserved c =
     let x = c.from-item.result in
     let within : i < length b.incoming = search rules in
     let is : x ≡ get_or b.incoming i x = search rules in
-    c.left_beside-left.ensures ∙ ap (λ n. n - claimed x) c.loop-from.invariant
-    ∙ left_beside_more b.room (held b) (sum_by claimed (take i b.incoming)) (claimed x)
-    ∙ ap (λ n. b.room - (held b + (sum_by claimed (take i b.incoming) + n))) (ap claimed is)
-    ∙ ap (λ n. b.room - (held b + n)) (sym (sum_by_more claimed b.incoming i x within))
+    c.left_beside-left.ensures ∙ ap (λ n. n - claimed x) c.loop-from.invariant ∙ left_beside_next claimed b i x within is

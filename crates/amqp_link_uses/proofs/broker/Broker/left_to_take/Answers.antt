@@ -1,8 +1,7 @@
-use Rattle.std.proofs.Common.{◌≡◌, ◌∙◌, ◌+◌, ◌-◌, ◌<◌, ap, length, rules, sym, take}
-use Rattle.std.specs.Prelude.{get_or, sum_by}
-use Rattle.std.proofs.lemmas.List.Sums.{sum_by_more}
-use Rattle.amqp_link_uses.specs.Brokers.{credit_of, held}
-use Rattle.amqp_link_uses.proofs.BrokerLemmas.{left_beside_more}
+use Rattle.std.proofs.Common.{◌≡◌, ◌∙◌, ◌-◌, ◌<◌, ap, length, rules}
+use Rattle.std.specs.Prelude.{get_or}
+use Rattle.amqp_link_uses.specs.Brokers.{credit_of}
+use Rattle.amqp_link_uses.proofs.BrokerLemmas.{left_beside_next}
 use Rattle.amqp_link_uses.proofs.broker.Broker.left_to_take.Goals as goal
 
 pub loop-from-preserved : goal.loop-from-preserved
@@ -13,7 +12,4 @@ loop-from-preserved c =
     let within : i < length b.incoming = search rules in
     let is : x ≡ get_or b.incoming i x = search rules in
     c.saturating_sub-left.ensures ∙ ap (λ n. c.loop-from.left - n) c.credit_of.ensures
-    ∙ ap (λ n. n - credit_of x) c.loop-from.invariant
-    ∙ left_beside_more b.room (held b) (sum_by credit_of (take i b.incoming)) (credit_of x)
-    ∙ ap (λ n. b.room - (held b + (sum_by credit_of (take i b.incoming) + n))) (ap credit_of is)
-    ∙ ap (λ n. b.room - (held b + n)) (sym (sum_by_more credit_of b.incoming i x within))
+    ∙ ap (λ n. n - credit_of x) c.loop-from.invariant ∙ left_beside_next credit_of b i x within is
