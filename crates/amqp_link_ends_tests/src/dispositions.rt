@@ -5,9 +5,9 @@ use amqp_link_types::types::{DeliveryState, DeliveryTag, Error, LinkStateError, 
 use std::process::Abort;
 
 mod closing;
-mod receiver;
+pub(crate) mod receiver;
 mod refused;
-mod sender;
+pub(crate) mod sender;
 
 // An error with a condition alone.
 fn error(rt: &(impl Abort + AllocGlobal)) -> Error {

@@ -5,6 +5,8 @@
 #[cfg(test)]
 mod assertions;
 #[cfg(test)]
+mod crossing;
+#[cfg(test)]
 mod dispositions;
 #[cfg(test)]
 mod frames;

@@ -14,7 +14,7 @@ use std::process::Abort;
 
 // A receiver in mode `First` with so many entries, whose tags are 00000000 and on, as received up to their
 // beginning.
-pub(super) fn link(rt: &(impl Abort + AllocGlobal), kept: u8) -> ReceiverLink<Target> {
+pub(crate) fn link(rt: &(impl Abort + AllocGlobal), kept: u8) -> ReceiverLink<Target> {
     let mut link = ReceiverLink::new(rt.alloc(), parts(rt, SenderSettleMode::Mixed, 512));
     for count in 0..kept {
         let tag = count_tag(rt, count);
@@ -219,6 +219,30 @@ fn settled_delivery_does_not_come_back(rt: HostRuntime) {
         &"each number as often as it is listed",
     );
     assert_equal(&rt, &tags, &[None, None, None]);
+}
+
+// A number goes as often as it is listed, and a tag is removed once.
+#[test]
+fn numbers_and_tags_may_be_listed_twice(rt: HostRuntime) {
+    let infos = [(4, 0, None), (4, 1, None), (5, 2, None)];
+    let (fields, tags, _) = all_accepted(&rt, 3, Some(true), &infos);
+    let frames = [
+        Some((4, Some(4), true)),
+        Some((4, Some(5), true)),
+        None,
+        None,
+    ];
+    assert_equal_at(&rt, &fields, &Some((2, frames)), &"4 twice, then 5");
+    assert_equal(&rt, &tags, &[None, None, None]);
+    let (fields, tags, _) = all_accepted(&rt, 2, Some(true), &[(4, 0, None), (6, 0, None)]);
+    let frames = [
+        Some((4, Some(4), true)),
+        Some((6, Some(6), true)),
+        None,
+        None,
+    ];
+    assert_equal_at(&rt, &fields, &Some((2, frames)), &"one tag, 4 and 6");
+    assert_equal(&rt, &tags, &[Some(1), None, None]);
 }
 
 fn release(

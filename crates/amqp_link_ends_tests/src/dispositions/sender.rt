@@ -38,7 +38,7 @@ fn link(
     link
 }
 
-pub(super) fn mixed(rt: &(impl Abort + AllocGlobal), pending: u32) -> SenderLink<Target> {
+pub(crate) fn mixed(rt: &(impl Abort + AllocGlobal), pending: u32) -> SenderLink<Target> {
     link(
         rt,
         SenderSettleMode::Mixed,
