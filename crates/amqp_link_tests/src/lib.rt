@@ -1,5 +1,6 @@
-//! Tests by what `amqp_link` makes public: of a pair worked values, refused growths and lists of calls; of a credit run
-//! worked values, a refused growth and a walk; and what an application sends, copies and makes of an outcome.
+//! Tests by what `amqp_link` makes public: of a pair worked values, the smallest limits, refused growths and lists of
+//! calls; of a credit run worked values, a refused growth and a walk; and what an application sends, copies and makes of
+//! an outcome.
 #![tactic(auto)]
 
 #[cfg(test)]
@@ -10,6 +11,8 @@ mod credit;
 mod deliveries;
 #[cfg(test)]
 mod interrupted;
+#[cfg(test)]
+mod limits;
 #[cfg(test)]
 mod pair;
 #[cfg(test)]
