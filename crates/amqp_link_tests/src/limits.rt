@@ -106,6 +106,38 @@ fn two_deliveries_past_the_wrap_are_sent_again(rt: HostRuntime) {
     drop((pair, bytes));
 }
 
+// The count of the delivery that is registered again.
+fn put_back(pair: &mut Pair) -> Result<Option<u8>, PairError> {
+    let tag = pair.put_back_next()?;
+    let count = tag.as_bytes().last().copied();
+    drop(tag);
+    Ok(count)
+}
+
+// Three deliveries are cut off, of which the first has arrived in part: each is put back, and listed by the next attach.
+#[test]
+fn three_deliveries_are_put_back(rt: HostRuntime) {
+    let bytes = twelve(&rt);
+    let mut pair = new_pair(&rt, 0);
+    assert_equal(&rt, &attach(&mut pair, 30), &Ok(0));
+    assert_equal(&rt, &grant(&mut pair, 3), &Ok(3));
+    for count in 0..3 {
+        assert_equal_at(&rt, &send(&mut pair, &bytes, count), &Ok((true, 3)), &count);
+    }
+    assert_equal(&rt, &arrive(&mut pair, 0), &Ok(Some((5, false))));
+    assert_equal(&rt, &cut(&mut pair), &Ok(()));
+    assert_equal(&rt, &attach(&mut pair, 80), &Ok(3));
+    for count in 0..3 {
+        assert_equal_at(&rt, &put_back(&mut pair), &Ok(Some(count)), &count);
+    }
+    assert_equal(&rt, &cut(&mut pair), &Ok(()));
+    assert_equal(&rt, &attach(&mut pair, 80), &Ok(3));
+    for is_resumed in [true, false, false] {
+        assert_equal(&rt, &resume(&mut pair), &Ok(Some((1, is_resumed))));
+    }
+    drop((pair, bytes));
+}
+
 // Sends one byte as the delivery of this count, which arrives and is settled.
 fn send_and_settle(
     rt: &(impl Abort + AllocGlobal),

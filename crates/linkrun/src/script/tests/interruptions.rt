@@ -2,7 +2,7 @@
 use super::expect_output;
 use crate::answer::Answer;
 use amqp_link::errors::LinkStateError;
-use amqp_link::{DeliveryState, Fate};
+use amqp_link::{DeliveryState, Fate, Payload};
 use std::process::Abort;
 
 const SENT_AGAIN: &[(&str, &str, &str)] = &[
@@ -143,4 +143,18 @@ fn fates_that_no_script_reaches_have_a_text(rt: HostRuntime) {
     let closed = LinkStateError::RemoteClosed;
     assert_text(&rt, &Fate::Resolved(Err(closed)), "resolved");
     assert_text(&rt, &Fate::Released, "released");
+}
+
+// A fragment without bytes is no end of what is held.
+#[test]
+fn an_empty_fragment_is_no_end(rt: HostRuntime) {
+    let mut pieces = Vec::new(rt.alloc());
+    let all: [&'static [u8]; 4] = [b"", b"\x01\xa0", b"", b"\xff"];
+    for bytes in all {
+        let piece = Payload::copy_from_slice(rt.alloc(), bytes).expect(&rt, "memory");
+        pieces.push(piece).expect(&rt, "memory");
+    }
+    let answer = Answer::Joined(pieces.as_slice());
+    let printed = format!(in rt.alloc(); "{answer}").expect(&rt, "memory");
+    assert_eq!(rt; printed.as_str(), "joined 01a0ff");
 }
