@@ -306,8 +306,8 @@ fn again(rt: &impl Abort, run: &mut CreditRun, call: Call, bytes: &Payload) -> O
     make(run, call, bytes).expect(rt, "memory")
 }
 
-// With one growth refused, whichever it is, the answers are those of a run where none is. Run by hand with `rt try
-// --test --fail-alloc N`.
+// With one growth refused, whichever it is, the answers are those of a run where none is. `.ci/allocations` refuses
+// each.
 #[test]
 fn refused_growth_loses_nothing(rt: HostRuntime) {
     let bytes = Payload::copy_from_slice(rt.alloc(), &[7; 79]);

@@ -1,5 +1,5 @@
-//! The calls of a script one by one, also if one allocation is refused, whichever it is. Run by hand with `rt
-//! try --test --fail-alloc N`.
+//! The calls of a script one by one, also if one allocation is refused, whichever it is: `.ci/allocations` refuses each
+//! of them.
 use crate::assertions::{assert_equal, assert_equal_at};
 use crate::script::{
     CUT_OFF, Call, RESUMED, SENT_AGAIN, Sample, Seen, TWELVE, WITHDRAWN, new_sample,

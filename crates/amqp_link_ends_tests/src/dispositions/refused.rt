@@ -1,6 +1,6 @@
 //! An allocation that is refused, whichever it is, loses nothing: the call returns out of memory, the link is
-//! as it was, and the same call made again returns what it would have returned. Run by hand with `rt try
-//! --test --fail-alloc N`.
+//! as it was, and the same call made again returns what it would have returned. `.ci/allocations` refuses
+//! each of them.
 use super::receiver::{self, SECOND};
 use super::{DispositionFields, Shown, sender};
 use crate::assertions::assert_equal;
