@@ -11,7 +11,7 @@ use amqp_link::{
 use program_support::{Refused, done};
 use std::alloc::{AllocError, Global};
 
-// What both endpoints state of the link. A frame has 64 bytes.
+// What both endpoints state of the link. A frame has at most 64 bytes behind the four of its size.
 fn parts(alloc: Global) -> Result<LinkParts<Target>, AllocError> {
     let name = Text::from(String::from_str(alloc, "letters")?);
     let (source, target) = (Source::default(), Target::default());
