@@ -87,6 +87,13 @@ impl Kept {
         Ok(tag)
     }
 
+    // A transfer arrives, with 64 bytes.
+    fn receive_part(&mut self, transfer: Transfer) -> Result<(), Refused> {
+        let payload = self.payload.clone()?;
+        drop(done(self.inbox.on_incoming_transfer(transfer, payload))?);
+        Ok(())
+    }
+
     fn settle(&mut self, tag: &DeliveryTag) -> Result<(), Refused> {
         let accepted = DeliveryState::Accepted;
         drop(done(self.inbox.dispose(tag, Some(true), accepted, false))?);
@@ -124,6 +131,47 @@ impl Work for Keeping {
             settled = settled.wrapping_add(1);
         }
         Ok(settled)
+    }
+}
+
+/// The frames of one delivery arrive, with 64 bytes each.
+#[derive(Drop)]
+pub struct Streaming {
+    kept: Kept,
+    frames: u32,
+}
+
+impl Streaming {
+    /// So many frames.
+    pub fn ready(alloc: Global, frames: u32) -> Result<Streaming, Refused> {
+        let kept = Kept::ready(alloc, 0)?;
+        Ok(Streaming { kept, frames })
+    }
+}
+
+// A transfer of the delivery: the first one, or a further one.
+fn part(alloc: Global, is_first: bool, more: bool) -> Result<Transfer, Refused> {
+    let delivery_tag = if is_first {
+        Some(tag_of(alloc, 0)?)
+    } else {
+        None
+    };
+    Ok(Transfer {
+        delivery_id: Some(0),
+        delivery_tag,
+        more,
+        ..Transfer::default()
+    })
+}
+
+impl Work for Streaming {
+    fn perform(&mut self) -> Result<u64, Refused> {
+        let last = self.frames.saturating_sub(1);
+        for number in 0..self.frames {
+            let transfer = part(self.kept.alloc, number == 0, number != last)?;
+            self.kept.receive_part(transfer)?;
+        }
+        Ok(u64::from(self.frames))
     }
 }
 

@@ -1,4 +1,4 @@
-//! A ledger that releases what became of its deliveries.
+//! A ledger that releases what became of its deliveries, and one that sends a delivery of many frames.
 use crate::endpoints::{Endpoints, attached};
 use crate::measured::Work;
 use crate::payloads::message_of;
@@ -30,6 +30,49 @@ impl Releasing {
             every,
             count,
         })
+    }
+}
+
+// What a frame of 512 bytes has room for beside the longest transfer.
+const ROOM: usize = 487;
+
+/// A payload is sent in so many frames.
+#[derive(Drop)]
+pub struct Framing {
+    ledger: OutcomeLedger<Target>,
+    payload: Payload,
+}
+
+impl Framing {
+    /// In `frames` frames of at most 512 bytes.
+    pub fn ready(alloc: Global, frames: usize) -> Result<Framing, Refused> {
+        let payload = message_of(alloc, frames.saturating_mul(ROOM))?;
+        let Endpoints { sender, receiver } = attached(alloc, 512)?;
+        drop(receiver);
+        let ledger = done(OutcomeLedger::new(alloc, sender))?;
+        Ok(Framing { ledger, payload })
+    }
+}
+
+impl Work for Framing {
+    fn perform(&mut self) -> Result<u64, Refused> {
+        let sending = self.ledger.send_payload(
+            Waiting::Nothing,
+            &self.payload,
+            0,
+            Some(false),
+            None,
+            false,
+        );
+        match done(sending)? {
+            Sending::Sent { settlement, frames } => {
+                drop(settlement);
+                let count = frames.len() as u64;
+                drop(frames);
+                Ok(count)
+            }
+            Sending::CreditMissing => Err(Refused),
+        }
     }
 }
 

@@ -1,13 +1,13 @@
 //! The works that are measured, each at several sizes.
 use crate::exchanging::{Attaching, Exchanging};
-use crate::inboxes::{Keeping, Reattaching};
+use crate::inboxes::{Keeping, Reattaching, Streaming};
 use crate::measured::{Measured, measure};
 use crate::merging::Merging;
 use crate::pairs::Walking;
 use crate::payloads::Kind;
 use crate::receiving::{Flowing, Receiving};
 use crate::refused::Refused;
-use crate::releasing::Releasing;
+use crate::releasing::{Framing, Releasing};
 use crate::scanning::{Positioning, Scanning};
 use crate::sending::Splitting;
 use crate::settling::{Batching, Disposing, Resolving};
@@ -48,6 +48,10 @@ pub enum Task {
     Keep,
     /// An inbox is attached again with so many deliveries.
     Reattach,
+    /// A ledger sends a delivery of so many frames.
+    Frame,
+    /// A delivery of so many frames arrives at an inbox.
+    Stream,
     /// A pair sends, is cut, resumes, hands out and settles.
     Pair,
 }
@@ -85,6 +89,8 @@ impl Task {
             Task::Release => "ledger: send, accept",
             Task::Keep => "inbox: take, settle",
             Task::Reattach => "inbox: both attaches",
+            Task::Frame => "ledger: frames",
+            Task::Stream => "inbox: frames",
             Task::Pair => "pair through a cut",
         }
     }
@@ -97,6 +103,7 @@ impl Task {
             Task::Deliver => "pending",
             Task::Release => "a release",
             Task::Keep => "kept",
+            Task::Frame | Task::Stream => "frames",
             Task::Resolve | Task::BatchDispose | Task::DisposeAll => "deliveries",
             Task::Attach | Task::Exchange | Task::Reattach => "deliveries",
         }
@@ -111,6 +118,7 @@ impl Task {
             Task::Release => of(10, 10),
             Task::Resolve | Task::BatchDispose | Task::DisposeAll => of(10, 1),
             Task::Attach | Task::Exchange | Task::Reattach => of(10, 1),
+            Task::Frame | Task::Stream => of(10, 1),
         }
     }
 
@@ -131,14 +139,16 @@ impl Task {
             Task::Attach | Task::Exchange | Task::Reattach => {
                 [of(10, 1), of(1_000, 1), of(10_000, 1)]
             }
+            Task::Frame | Task::Stream => [of(10, 1), of(1_000, 1), of(10_000, 1)],
         }
     }
 
-    /// The operations in an amount: a payload or a delivery each.
+    /// The operations in an amount: a payload, a delivery or a frame each.
     pub fn operations(self, amount: Amount) -> u32 {
         match self {
             Task::Resolve | Task::BatchDispose | Task::DisposeAll => amount.size,
             Task::Attach | Task::Exchange | Task::Reattach => amount.size,
+            Task::Frame | Task::Stream => amount.size,
             _ => amount.count,
         }
     }
@@ -167,13 +177,15 @@ impl Task {
             Task::Release => measure(clock, Releasing::ready(alloc, length, count)?),
             Task::Keep => measure(clock, Keeping::ready(alloc, size, count)?),
             Task::Reattach => measure(clock, Reattaching::ready(alloc, size)?),
+            Task::Frame => measure(clock, Framing::ready(alloc, length)?),
+            Task::Stream => measure(clock, Streaming::ready(alloc, size)?),
             Task::Pair => measure(clock, Walking::ready(alloc, length, LIMIT, count)?),
         }
     }
 }
 
 /// All works, in the order in which they are printed.
-pub fn all() -> [Task; 19] {
+pub fn all() -> [Task; 21] {
     [
         Task::Split,
         Task::Merge,
@@ -193,6 +205,8 @@ pub fn all() -> [Task; 19] {
         Task::Release,
         Task::Keep,
         Task::Reattach,
+        Task::Frame,
+        Task::Stream,
         Task::Pair,
     ]
 }
