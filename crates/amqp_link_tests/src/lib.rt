@@ -1,6 +1,6 @@
 //! Tests by what `amqp_link` makes public: of a pair worked values, the smallest limits, refused growths and lists of
-//! calls; of a credit run worked values, a refused growth and a walk; and what an application sends, copies and makes of
-//! an outcome.
+//! calls; of a credit run worked values, a refused growth and a walk; what an application sends, copies and makes of an
+//! outcome; and refusals of links by their names.
 #![tactic(auto)]
 
 #[cfg(test)]
@@ -15,6 +15,8 @@ mod interrupted;
 mod limits;
 #[cfg(test)]
 mod pair;
+#[cfg(test)]
+mod refusals;
 #[cfg(test)]
 mod runs;
 #[cfg(test)]
