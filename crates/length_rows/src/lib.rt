@@ -4,11 +4,4 @@
 //! `row::compare` builds the value of a line, and compares its computed length with the one that the line states.
 #![tactic(auto)]
 
-pub mod error;
-mod fields;
-mod performative;
-mod reader;
 pub mod row;
-mod state;
-mod terminus;
-mod value;

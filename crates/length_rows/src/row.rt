@@ -1,10 +1,10 @@
 //! Rows: the type of a value, its length, the encoder that gave it or `hand`, and the value.
 ghost use Rattle.std.specs.Prelude.{◌≡◌, ◌↔◌, Some, IsTrue};
 
-use crate::error::RowError;
-use crate::reader::{ReadFrom, Reader, value_of};
 use amqp_link_types::types::{Attach, DeliveryState, Error, Source, Target, Transfer, Value};
 use amqp_link_values::length::EncodedLen;
+use performative_rows::error::RowError;
+use performative_rows::reader::{ReadFrom, Reader, value_of};
 use std::alloc::Global;
 use std::fmt;
 

@@ -3,44 +3,16 @@ ghost use Rattle.std.specs.Prelude.{◌≡◌, ◌≤◌, IfOk};
 ghost use Rattle.replay_lengths.specs.Report.{Concludes};
 
 use crate::tally::Tallies;
-use length_rows::error::RowError;
 use length_rows::row::{Compared, compare};
 use line_text::line::read_line;
+use performative_rows::error::RowError;
+use performative_rows::verdict::Verdict;
 use std::alloc::Global;
 use std::io;
 use std::io::{BufRead, Write};
 
 #[cfg(test)]
 mod tests;
-
-/// How a replay ended.
-#[derive(Clone, Copy)]
-pub enum Verdict {
-    /// All rows agree.
-    Agreed,
-    /// Some rows do not.
-    Disagreed,
-    /// A line is no row.
-    NotARow,
-    /// Reading or writing failed, or it was out of memory.
-    Failed,
-}
-
-impl Verdict {
-    ghost use Rattle.replay_lengths.specs.Report.{replay_status};
-
-    /// The exit status.
-    pub fn status(self) -> u8
-        ensures { result ≡ replay_status self }
-    {
-        match self {
-            Verdict::Agreed => 0,
-            Verdict::Disagreed => 1,
-            Verdict::NotARow => 2,
-            Verdict::Failed => 3,
-        }
-    }
-}
 
 /// Replays the rows in `input`. Empty lines and those that begin with `#` are skipped.
 ///

@@ -13,7 +13,7 @@ pub enum RowError {
 
 impl From<AllocError> for RowError {
     ghost use Rattle.std.specs.Prelude.{◌≡◌};
-    ghost use Rattle.length_rows.specs.declared.error.RowError.TheVariants.{OutOfMemory};
+    ghost use Rattle.performative_rows.specs.declared.error.RowError.TheVariants.{OutOfMemory};
 
     ghost from_gives = { λ _ error. error ≡ OutOfMemory };
 
@@ -24,7 +24,7 @@ impl From<AllocError> for RowError {
 
 impl<T: Drop> From<AllocFailed<T>> for RowError {
     ghost use Rattle.std.specs.Prelude.{◌≡◌};
-    ghost use Rattle.length_rows.specs.declared.error.RowError.TheVariants.{OutOfMemory};
+    ghost use Rattle.performative_rows.specs.declared.error.RowError.TheVariants.{OutOfMemory};
 
     ghost from_gives = { λ _ error. error ≡ OutOfMemory };
 
@@ -35,7 +35,7 @@ impl<T: Drop> From<AllocFailed<T>> for RowError {
 
 impl From<TryFromIntError> for RowError {
     ghost use Rattle.std.specs.Prelude.{◌≡◌};
-    ghost use Rattle.length_rows.specs.declared.error.RowError.TheVariants.{NotARow};
+    ghost use Rattle.performative_rows.specs.declared.error.RowError.TheVariants.{NotARow};
 
     ghost from_gives = { λ _ error. error ≡ NotARow };
 

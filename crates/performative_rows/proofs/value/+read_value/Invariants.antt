@@ -1,5 +1,5 @@
 use Rattle.std.proofs.Common.{◌+◌, ◌*◌}
-use Rattle.length_rows.proofs.value.+read_value.Given as goal
+use Rattle.performative_rows.proofs.value.+read_value.Given as goal
 
 -- what holds other values has one less to go for each of them
 abbrev pub decreases-read_value : goal.decreases-read_value
