@@ -143,7 +143,7 @@ impl IncompleteTransfer {
 
         ensures refused { AnswersThenOutOfMemory ReceiverTransferError.OutOfMemory
             result (append_tests self.old transfer payload) }
-        ensures err { OnErr result (self.new ≡ self.old) }
+        ensures left { OnErr result (self.new ≡ self.old) }
     {
         match self.append(transfer, payload) {
             Ok(()) => Ok(()),
@@ -163,7 +163,7 @@ impl IncompleteTransfer {
         ensures refused { AnswersThenOutOfMemory ReceiverTransferError.OutOfMemory
             (with_error result) (append_tests self.old transfer payload) }
         ensures back { IfErr result (λ refused. AreReturned transfer payload refused) }
-        ensures err { OnErr result (self.new ≡ self.old) }
+        ensures left { OnErr result (self.new ≡ self.old) }
     {
         if self.is_inconsistent_with(&transfer) {
             let error = ReceiverTransferError::InconsistentFieldInMultiFrameDelivery; // (2.7.5)
@@ -187,7 +187,7 @@ impl IncompleteTransfer {
         ensures refused { AnswersThenOutOfMemory ReceiverTransferError.OutOfMemory
             (with_error result) (long_test (held_bytes self.old ++ payload)) }
         ensures back { IfErr result (λ refused. AreReturned transfer payload refused) }
-        ensures err { OnErr result (self.new ≡ self.old) }
+        ensures left { OnErr result (self.new ≡ self.old) }
     {
         match push_piece(&mut self.pieces, self.carry, payload) {
             Ok(carry) => {

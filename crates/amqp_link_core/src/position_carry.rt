@@ -34,7 +34,7 @@ impl PositionCarry {
             → OnOk result (HasPushed self.new (F ++ payload.now)) }
         ensures refused { (F : List ℕ) → HasPushed self.old F
             → AnswersExactly result (long_test (F ++ payload.now)) }
-        ensures err { OnErr result (self.new ≡ self.old) }
+        ensures left { OnErr result (self.new ≡ self.old) }
     {
         let Some(sections) = self.sections.read(payload.as_slice()) else {
             return Err(ReceiverTransferError::PayloadTooLong);

@@ -192,7 +192,7 @@ pub fn resume_delivery(
 ) -> Result<Resolution, (AllocError, UnsettledMessage)>
     ensures ok { IfOk result (λ answer. answer ≡ resolution tag local remote) }
     ensures memory { OnErr result (IsTrue (is_resumed (resolution tag local remote))) }
-    ensures err { IfErr result (λ error. error.1 ≡ local) }
+    ensures back { IfErr result (λ error. error.1 ≡ local) }
 {
     match plan_resumption(&local, remote) {
         Ok(plan) => Ok(plan.resolve(Some(tag), local)),

@@ -3,9 +3,9 @@
 //! A delivery ended with a state of the peer's, without one, or for a reason why there will be none. An
 //! application's type has a value for each; `SendResult` is one such type.
 ghost use Rattle.std.specs.Prelude.{◌≡◌, Ok, Err, None, Some};
-ghost use Rattle.amqp_link_types.specs.declared.types.delivery_state.DeliveryState.{DeliveryState as State};
-ghost use Rattle.amqp_link_types.specs.declared.types.errors.LinkStateError.{LinkStateError as Failure};
-ghost use Rattle.amqp_link_types.specs.declared.types.stop_reason.SessionStopReason.{SessionStopReason as Stop};
+ghost use Rattle.amqp_link_types.specs.declared.types.delivery_state.DeliveryState.{DeliveryState as TheDeliveryState};
+ghost use Rattle.amqp_link_types.specs.declared.types.errors.LinkStateError.{LinkStateError as TheLinkStateError};
+ghost use Rattle.amqp_link_types.specs.declared.types.stop_reason.SessionStopReason.{SessionStopReason as TheSessionStopReason};
 
 use amqp_link_types::delivery::DeliveryOutcome;
 use amqp_link_types::types::{DeliveryState, LinkStateError, Outcome, SessionStopReason};
@@ -58,7 +58,7 @@ pub trait FromDeliveryState {
     ghost stateless: { Self };
 
     // The value for a state.
-    ghost ended_as: { State → Self };
+    ghost ended_as: { TheDeliveryState → Self };
 
     /// The value for a delivery that ended without a state.
     fn from_none() -> Self
@@ -75,10 +75,10 @@ pub trait FromDeliveryFailure {
     ghost unreported: { Self };
 
     // The value if the session has stopped.
-    ghost stopped: { Stop → Self };
+    ghost stopped: { TheSessionStopReason → Self };
 
     // The value if the link has failed.
-    ghost failed: { Failure → Self };
+    ghost failed: { TheLinkStateError → Self };
 
     /// The value for a delivery whose outcome nobody is left to return.
     fn from_oneshot_recv_error(error: RecvError) -> Self
@@ -162,9 +162,9 @@ impl FromDeliveryFailure for SendResult {
 
 /// The application's value for an outcome that a call of a sender or of a ledger has returned.
 pub fn outcome_of<O: FromDeliveryState + FromDeliveryFailure>(outcome: DeliveryOutcome) -> O
-    ensures state { (state : State) → outcome ≡ Ok (Some state) → result ≡ O.ended_as state }
+    ensures state { (state : TheDeliveryState) → outcome ≡ Ok (Some state) → result ≡ O.ended_as state }
     ensures none { outcome ≡ Ok None → result ≡ O.stateless }
-    ensures failed { (error : Failure) → outcome ≡ Err error → result ≡ O.failed error }
+    ensures failed { (error : TheLinkStateError) → outcome ≡ Err error → result ≡ O.failed error }
 {
     match outcome {
         Ok(state) => match state {

@@ -36,6 +36,6 @@ pub fn frames_name_what_is_kept<V>()
 /// listed, and no other is.
 pub fn each_ends_once()
     ensures once { (es : Entries UnsettledMessage) (tags : List Tag) → IsDistinct bytes_eq (keys_of (settled_of es tags)) }
-    ensures kept { (es : Entries UnsettledMessage) (tags : List Tag)
+    ensures entry { (es : Entries UnsettledMessage) (tags : List Tag)
         → AllByRecursion (λ ended. entry_at es ended.0 ≢ None) (settled_of es tags) }
 {}

@@ -239,7 +239,7 @@ pub trait LinkAttach: LinkDetach {
             → IfSome (refusal_of self.old attach) (λ error. Self.AttachError.is_listing error ≡ true) }
         ensures growth { IsErrOf result Self.AttachError.out_of_memory → allocates self.old attach ≡ true }
         ensures left { IfErr result (λ error. self.new ≡ left error self.old attach) }
-        ensures unchanged { IsErrOf result Self.AttachError.out_of_memory → self.new ≡ self.old }
+        ensures left_out_of_memory { IsErrOf result Self.AttachError.out_of_memory → self.new ≡ self.old }
         ensures shown { OnOk result (Self.shown self.new
             ≡ shown_taken (Self.shown self.old) (Self.shown self.new).target attach) }
         ensures terms { OnErr result (Self.shown self.new
@@ -249,7 +249,7 @@ pub trait LinkAttach: LinkDetach {
             (λ next. MatchResult result
             (λ _. (Self.shown self.new).local_state ≡ next)
             (λ error. (error ≡ Self.AttachError.out_of_memory) ⊎ ((Self.shown self.new).local_state ≡ next))) }
-        ensures kept { IfNone (next_of (Self.shown self.old).local_state attach)
+        ensures no_step { IfNone (next_of (Self.shown self.old).local_state attach)
             (self.new ≡ self.old) };
 }
 

@@ -31,7 +31,7 @@ fn send<L: LinkAttach>(link: &mut L) -> Result<LinkFrame, L::AttachError>
         × (next_state Call.SendAttach attach.incomplete_unsettled (L.shown link.old).local_state
         ≡ Some (L.shown link.new).local_state)) }
     ensures handle { OnOk result ((L.shown link.new).output_handle ≡ (L.shown link.old).output_handle) }
-    ensures kept { OnOk result (Keeps (L.shown link.old) (L.shown link.new)) }
+    ensures keeps { OnOk result (Keeps (L.shown link.old) (L.shown link.new)) }
     ensures left { OnErr result (link.new ≡ link.old) }
 {
     let (frame, outcomes) = link.send_attach(false)?;
@@ -68,7 +68,7 @@ fn take<L: LinkAttach>(link: &mut L, attach: Attach) -> Result<L::AttachExchange
         (L.shown link.new).local_state) }
     ensures handle { (L.shown link.new).output_handle ≡ (L.shown link.old).output_handle }
     ensures taken { OnOk result (Takes (L.shown link.old) (L.shown link.new)) }
-    ensures kept { OnErr result (Keeps (L.shown link.old) (L.shown link.new)) }
+    ensures keeps { OnErr result (Keeps (L.shown link.old) (L.shown link.new)) }
 {
     match link.on_incoming_attach(attach) {
         Ok(exchange) => Ok(exchange),
@@ -84,7 +84,7 @@ fn detach<L: LinkDetach>(link: &mut L, closed: bool) -> Result<LinkFrame, L::Det
         (λ next. ((L.shown link.new).local_state ≡ next) × ((L.shown link.new).output_handle ≡ None)) }
     ensures sent { IfOk result (λ frame. IsSomeAnd (L.shown link.old).output_handle (λ handle.
         frame ≡ detach_frame handle closed None)) }
-    ensures kept { Keeps (L.shown link.old) (L.shown link.new) }
+    ensures keeps { Keeps (L.shown link.old) (L.shown link.new) }
     ensures flow { (L.shown link.new).flow_state ≡ (L.shown link.old).flow_state }
 {
     link.send_detach(closed, None)
@@ -95,7 +95,7 @@ fn cut<L: LinkExt>(link: &mut L, handle: OutputHandle) -> Result<(), L::DetachEr
     ensures state { (L.shown link.old).local_state ≡ Attached
         → OnOk result ((L.shown link.new).local_state ≡ Detached) }
     ensures again { OnOk result ((L.shown link.new).output_handle ≡ Some handle) }
-    ensures kept { Keeps (L.shown link.old) (L.shown link.new) }
+    ensures keeps { Keeps (L.shown link.old) (L.shown link.new) }
     ensures flow { (L.shown link.new).flow_state ≡ (L.shown link.old).flow_state }
 {
     drop(detach(link, false)?);
@@ -112,7 +112,7 @@ fn cut<L: LinkExt>(link: &mut L, handle: OutputHandle) -> Result<(), L::DetachEr
 fn lose_session<L: LinkExt>(link: &mut L, handle: OutputHandle)
     ensures state { (L.shown link.new).local_state ≡ state_without_session (L.shown link.old).local_state }
     ensures again { (L.shown link.new).output_handle ≡ Some handle }
-    ensures kept { Keeps (L.shown link.old) (L.shown link.new) }
+    ensures keeps { Keeps (L.shown link.old) (L.shown link.new) }
     ensures flow { (L.shown link.new).flow_state ≡ (L.shown link.old).flow_state }
 {
     link.on_session_lost();
@@ -124,7 +124,7 @@ fn set_properties<L: LinkExt>(link: &mut L, properties: Option<Fields>)
     ensures given { (L.shown link.new).flow_state.properties ≡ properties }
     ensures state { (L.shown link.new).local_state ≡ (L.shown link.old).local_state }
     ensures handle { (L.shown link.new).output_handle ≡ (L.shown link.old).output_handle }
-    ensures kept { Keeps (L.shown link.old) (L.shown link.new) }
+    ensures keeps { Keeps (L.shown link.old) (L.shown link.new) }
 {
     drop(mem::replace(link.properties_mut(), properties));
 }

@@ -16,11 +16,11 @@ pub struct ResumingDeliveries {
 
 impl Model for ResumingDeliveries {
     ghost use Rattle.amqp_link_types.specs.Entries.{Entries};
-    ghost use Rattle.amqp_link_core.specs.declared.resumption.ResumingDelivery.{ResumingDelivery as Next};
+    ghost use Rattle.amqp_link_core.specs.declared.resumption.ResumingDelivery.{ResumingDelivery as TheResumingDelivery};
     ghost use Rattle.amqp_link_values.specs.contracts.fields.Fields as fields;
     ghost use Rattle.std.specs.Coded.{codes};
 
-    ghost Value = { Entries Next };
+    ghost Value = { Entries TheResumingDelivery };
 
     ghost coded = { Prim.hlevel (codes, fields.the_row.coded) };
 

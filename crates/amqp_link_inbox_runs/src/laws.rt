@@ -2,7 +2,7 @@
 //! nothing: its contract is the law.
 ghost use Rattle.std.specs.Prelude.{◌≡◌, ◌++◌, ℕ, List, None, Some, IfSome};
 ghost use Rattle.amqp_link_types.specs.Entries.{Tag};
-ghost use Rattle.amqp_link_types.specs.declared.delivery.UnsettledMessage.{UnsettledMessage as Entry};
+ghost use Rattle.amqp_link_types.specs.declared.delivery.UnsettledMessage.{UnsettledMessage as TheUnsettledMessage};
 ghost use Rattle.amqp_link_core.specs.Resuming.{resolution};
 ghost use Rattle.amqp_link_core.specs.declared.resumption.Resolution.TheVariants.{Resuming};
 ghost use Rattle.amqp_link_core.specs.declared.resumption.ResumingDelivery.TheVariants.{Resume};
@@ -21,7 +21,7 @@ use amqp_link_types::types::FromBody;
 /// rest: what is held and what is then to be sent, joined, are the payload. (`OutcomeLedger::on_incoming_attach` lists it so, and
 /// `send_unsettled_transfer` sends it.)
 pub fn a_position_gives_the_rest()
-    ensures { (tag : Tag) → (entry : Entry) → (held rest : List ℕ) → entry.state ≡ None → held ++ rest ≡ entry.payload
+    ensures { (tag : Tag) → (entry : TheUnsettledMessage) → (held rest : List ℕ) → entry.state ≡ None → held ++ rest ≡ entry.payload
         → resolution tag entry (Some (received held)) ≡ Resuming (Resume entry rest) }
 {
     front_and_rest_are_the_payload();

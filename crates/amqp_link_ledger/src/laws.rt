@@ -3,7 +3,7 @@
 //! Each function here does nothing: its contract is the law.
 ghost use Rattle.std.specs.Prelude.{Bool, List, Option};
 ghost use Rattle.std.specs.Option.{option_to_list};
-ghost use Rattle.amqp_link_types.specs.declared.delivery.UnsettledMessage.{UnsettledMessage as Message};
+ghost use Rattle.amqp_link_types.specs.declared.delivery.UnsettledMessage.{UnsettledMessage as TheUnsettledMessage};
 ghost use Rattle.amqp_link_types.specs.declared.types.definitions.Error.{Error};
 ghost use Rattle.amqp_link_types.specs.declared.types.delivery_state.DeliveryState.{DeliveryState};
 ghost use Rattle.amqp_link_types.specs.Entries.{Tag, Entries};
@@ -30,19 +30,19 @@ pub fn outcomes_are_of_pending_records<T>()
         → (settled : Bool) (tags : List Tag) → AreOfPending (ended_at s settled tags) records }
 
     // The receiver sends a disposition of one delivery.
-    ensures disposition { (own : Entries Message) (records : Records) → IsRecorded own records
+    ensures disposition { (own : Entries TheUnsettledMessage) (records : Records) → IsRecorded own records
         → (settled : Bool) (state : Option DeliveryState) (tag : Tag)
         → AreOfPending (option_to_list (ended_by settled state tag own)) records }
 
     // The peer closes the link.
-    ensures closed { (own : Entries Message) (records : Records) → IsRecorded own records
+    ensures closed { (own : Entries TheUnsettledMessage) (records : Records) → IsRecorded own records
         → (error : Option Error) → AreOfPending (all_closed error own) records }
 
     // The link attaches anew.
-    ensures attached_anew { (own : Entries Message) (records : Records) → IsRecorded own records
+    ensures attached_anew { (own : Entries TheUnsettledMessage) (records : Records) → IsRecorded own records
         → AreOfPending (all_illegal own) records }
 
     // The peer's attach was taken: the two unsettled maps are exchanged.
-    ensures exchanged { (own : Entries Message) (records : Records) → IsRecorded own records
+    ensures exchanged { (own : Entries TheUnsettledMessage) (records : Records) → IsRecorded own records
         → (remote : States) → AreOfPending (outcomes_returned own remote) records }
 {}

@@ -82,7 +82,7 @@ impl RecordList {
     pub(crate) fn reserve(&mut self) -> Result<(), AllocError>
         ensures records { self.new.records ≡ self.old.records }
         ensures room { OnOk result (IsTrue self.new.has_room) }
-        ensures kept { IsTrue self.old.has_room → IsTrue self.new.has_room }
+        ensures stays { IsTrue self.old.has_room → IsTrue self.new.has_room }
     {
         if self.len() == usize::MAX {
             return Err(AllocError);

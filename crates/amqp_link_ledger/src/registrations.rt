@@ -109,7 +109,7 @@ impl Registrations {
         ensures tag { IfOk result (λ reserved. reserved ≡ tag.now) }
         ensures room { OnOk result (IsTrue self.new.has_room) }
         ensures records { self.new.records ≡ self.old.records }
-        ensures kept { IsTrue self.old.has_room → IsTrue self.new.has_room }
+        ensures stays { IsTrue self.old.has_room → IsTrue self.new.has_room }
     {
         let key = DeliveryTag::copied(alloc, tag)?;
         let tag = DeliveryTag::copied(alloc, tag)?;

@@ -39,9 +39,9 @@ impl Model for Deliveries {
     ghost use Rattle.std.specs.Coded.{codes};
     ghost use Rattle.amqp_link_types.specs.Entries.{Entries};
     ghost use Rattle.amqp_link_values.specs.contracts.fields.Fields as fields;
-    ghost use Rattle.amqp_link_pair.specs.declared.deliveries.Kept.{Kept as Each};
+    ghost use Rattle.amqp_link_pair.specs.declared.deliveries.Kept.{Kept as TheKept};
 
-    ghost Value = { Entries Each };
+    ghost Value = { Entries TheKept };
 
     ghost coded = { Prim.hlevel (codes, fields.the_row.coded) };
 

@@ -61,7 +61,7 @@ pub fn go_on(
     requires can { CanReceive (Some held.old) id frame.now }
     requires turn { does_begin frame.now ≡ begins_delivery }
     ensures ok { OnOk result (held.new ≡ held_after (Some held.old) id frame.now) }
-    ensures err { OnErr result (held.new ≡ held.old) }
+    ensures left { OnErr result (held.new ≡ held.old) }
 {
     let (transfer, payload) = arriving(frame, id)?;
     held.try_add(begins_delivery, transfer, payload)

@@ -3,7 +3,7 @@
 ghost use Rattle.std.specs.Prelude.{◌≡◌, ◌∷◌, [], true, None, Some, false, IfOk, IfErr, IsSome, OnOk, OnErr};
 ghost use Rattle.amqp_link_types.specs.Entries.{entry_at};
 ghost use Rattle.amqp_link_types.specs.Refusals.{refusal};
-ghost use Rattle.amqp_link_types.specs.declared.delivery.UnsettledMessage.{UnsettledMessage as Message};
+ghost use Rattle.amqp_link_types.specs.declared.delivery.UnsettledMessage.{UnsettledMessage as TheUnsettledMessage};
 ghost use Rattle.amqp_link_types.specs.declared.types.definitions.SenderSettleMode.TheVariants.{Mixed};
 ghost use Rattle.amqp_link_split.specs.Fitting.{IsFitting};
 ghost use Rattle.amqp_link_split.specs.Room.{has_room};
@@ -172,7 +172,7 @@ pub(crate) fn resume(
         IsSent ledger.old.link resumption.transfer resumption.rest frames.items) }
     ensures fits { IfOk result (λ frames. IsFitting
         resumption.transfer ledger.old.link.max_frame_size resumption.rest frames.items) }
-    ensures done { (entry : Message) → entry_of next ≡ Some entry
+    ensures done { (entry : TheUnsettledMessage) → entry_of next ≡ Some entry
         → OnOk result (ledger.new ≡ after_registration ledger.old resumption.tag entry) }
     ensures back { IfErr result (λ back. back ≡ next) }
     ensures left { OnErr result (ledger.new ≡ ledger.old) }
@@ -197,7 +197,7 @@ pub(crate) fn put_back(
 ) -> Result<(), ResumingDelivery>
     requires entry { IsSome (entry_of next) }
     requires free { entry_at ledger.old.link.unsettled tag ≡ None }
-    ensures done { (entry : Message) → entry_of next ≡ Some entry
+    ensures done { (entry : TheUnsettledMessage) → entry_of next ≡ Some entry
         → OnOk result (ledger.new ≡ after_registration ledger.old tag entry) }
     ensures back { IfErr result (λ back. back ≡ next) }
     ensures left { OnErr result (ledger.new ≡ ledger.old) }

@@ -539,7 +539,7 @@ impl<T: LinkTarget> SenderLink<T> {
         payload: &Payload,
         message_format: MessageFormat,
     ) -> Result<(), AllocError>
-        ensures kept { OnOk result (self.new ≡ record self.old {
+        ensures after { OnOk result (self.new ≡ record self.old {
           unsettled = with_entry self.old.unsettled tag.now (new_entry message_format payload.now);
         }) }
         ensures left { OnErr result (self.new ≡ self.old) }

@@ -104,9 +104,9 @@ pub struct LinkFlowState<R> {
 impl<R> Model for LinkFlowState<R> {
     ghost use Rattle.std.specs.Coded.{codes};
     ghost use Rattle.amqp_link_values.specs.contracts.fields.Fields as fields;
-    ghost use Rattle.amqp_link_state.specs.declared.state.LinkFlowStateInner.{LinkFlowStateInner as Inner};
+    ghost use Rattle.amqp_link_state.specs.declared.state.LinkFlowStateInner.{LinkFlowStateInner as TheLinkFlowStateInner};
 
-    ghost Value = { Inner };
+    ghost Value = { TheLinkFlowStateInner };
 
     ghost coded = { Prim.hlevel (codes, fields.the_row.coded) };
 

@@ -149,7 +149,7 @@ impl Client {
     pub fn request(&mut self, payload: &Payload) -> Result<Vec<LinkFrame>, RequestError>
         ensures sent { IfOk result (λ frames. concat (map payload_of frames.items) ≡ payload.now) }
         ensures awaited { OnOk result (IsSome self.new.request) }
-        ensures kept { self.old.link.snd_settle_mode ≡ SenderSettleMode.Unsettled
+        ensures entry { self.old.link.snd_settle_mode ≡ SenderSettleMode.Unsettled
             → OnOk result (IfSome self.new.request (λ tag.
             self.new.link.unsettled ≡ with_entry self.old.link.unsettled tag (new_entry 0 payload.now))) }
         ensures busy { IsErrOf result RequestError.Busy ↔ IsSome self.old.request }

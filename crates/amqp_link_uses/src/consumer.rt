@@ -96,7 +96,7 @@ pub fn accept(
     inbox: &mut Inbox<Target>,
     tag: &DeliveryTag,
 ) -> Result<Option<LinkFrame>, DisposeError>
-    ensures kept { IfOk result (λ sent. IfNone sent (inbox.new ≡ record inbox.old {
+    ensures unsent { IfOk result (λ sent. IfNone sent (inbox.new ≡ record inbox.old {
       link = record inbox.old.link {
         unsettled = changed_at (λ _. Some DeliveryState.Accepted) (tag.now ∷ []) inbox.old.link.unsettled;
       };

@@ -131,7 +131,7 @@ pub fn send_rest(
     ensures resumed { IfOk result (λ frames. IsSomeAnd ledger.old.link.output_handle (λ handle.
         IsSent ledger.old.link (resuming_transfer ledger.old.link handle tag.now
         (delivery_of entry.message_format None None false)) rest.now frames.items)) }
-    ensures kept { OnOk result
+    ensures entry { OnOk result
         (ledger.new.link.unsettled ≡ with_entry ledger.old.link.unsettled tag.now entry) }
     ensures registered { OnOk result (ledger.new.records ≡ after (Change.Enters tag.now) ledger.old.records) }
     ensures refused { HandsBackOrOutOfMemory result entry (rest_tests ledger.old.link tag.now entry rest.now) }
@@ -176,7 +176,7 @@ pub fn send_again(
     ensures sent { IfOk result (λ frames. IsSomeAnd ledger.old.link.output_handle (λ handle.
         IsSent ledger.old.link (new_transfer ledger.old.link handle tag.now
         (delivery_of entry.message_format (Some false) None false)) entry.payload frames.items)) }
-    ensures kept { OnOk result
+    ensures entry { OnOk result
         (ledger.new.link.unsettled ≡ with_entry ledger.old.link.unsettled tag.now entry) }
     ensures registered { OnOk result (ledger.new.records ≡ after (Change.Enters tag.now) ledger.old.records) }
     ensures refused { HandsBackOrOutOfMemory result entry (again_tests ledger.old.link tag.now entry) }

@@ -88,7 +88,7 @@ pub fn receive_one(
 ) -> Result<Delivery<Whole>, ReceiveOneError>
     ensures whole { IfOk result (λ delivery. delivery.message.body.0 ≡ payload) }
     ensures not_whole { IsErrOf result ReceiveOneError.NotWhole ↔ (Shorts.is_whole link.old transfer ≡ false) }
-    ensures kept { IsErrOf result ReceiveOneError.NotWhole → link.new ≡ link.old }
+    ensures left { IsErrOf result ReceiveOneError.NotWhole → link.new ≡ link.old }
     ensures refused { ReceivesOrRefuses result (start_tests transfer payload)
         (hand_out_refusal (came transfer link.old) (of_one_transfer transfer payload)) link.new }
 {

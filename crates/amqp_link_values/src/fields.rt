@@ -106,7 +106,7 @@ impl Fields {
     ) -> Result<Option<Value>, AllocFailed<(Symbol, Value)>>
         ensures ok { OnOk result (self.new ≡ insert_entry bytes_eq self.old name (view value)) }
         ensures replaced { IfOk result (λ v. option_map view v ≡ lookup (bytes_eq name) self.old) }
-        ensures err { OnErr result (self.new ≡ self.old) }
+        ensures left { OnErr result (self.new ≡ self.old) }
         ensures absent { OnErr result (lookup (bytes_eq name) self.old ≡ None) }
         ensures back { IfErr result (λ failed. failed.value ≡ (name, value)) }
     {

@@ -1,7 +1,7 @@
 //! The source of the peer's attach (3.5.3).
 ghost use Rattle.std.specs.Prelude.{◌≡◌, ◌⊎◌, List, ℕ, Option, Some, None, MatchResult, IsErrOf};
-ghost use Rattle.amqp_link_types.specs.declared.types.errors.SenderAttachError.{SenderAttachError as SenderError};
-ghost use Rattle.amqp_link_types.specs.declared.types.errors.ReceiverAttachError.{ReceiverAttachError as ReceiverError};
+ghost use Rattle.amqp_link_types.specs.declared.types.errors.SenderAttachError.{SenderAttachError as TheSenderAttachError};
+ghost use Rattle.amqp_link_types.specs.declared.types.errors.ReceiverAttachError.{ReceiverAttachError as TheReceiverAttachError};
 ghost use Rattle.amqp_link_verification.specs.Termini.{verdict};
 
 use crate::filter::verify_filter;
@@ -10,10 +10,10 @@ use amqp_link_types::types::{ReceiverAttachError, SenderAttachError, Source};
 /// A source that can be verified when it arrives in an attach.
 pub trait VerifySource {
     // Why a sender with the first source refuses the second, its peer's.
-    ghost refused_by_sender: { Self → Self → Option SenderError };
+    ghost refused_by_sender: { Self → Self → Option TheSenderAttachError };
 
     // Why a receiver with the first source refuses the second, its peer's.
-    ghost refused_by_receiver: { Self → Self → Option ReceiverError };
+    ghost refused_by_receiver: { Self → Self → Option TheReceiverAttachError };
 
     /// Whether a sender with this source accepts its peer's, `other`. Does not allocate.
     ///
@@ -30,11 +30,11 @@ pub trait VerifySource {
     fn verify_as_receiver(&self, other: &Self) -> Result<(), ReceiverAttachError>
         ensures refused { MatchResult result
             (λ _. refused_by_receiver self.now other.now ≡ None)
-            (λ error. (error ≡ ReceiverError.OutOfMemory)
+            (λ error. (error ≡ TheReceiverAttachError.OutOfMemory)
             ⊎ (refused_by_receiver self.now other.now ≡ Some error)) }
-        ensures memory { IsErrOf result ReceiverError.OutOfMemory → (names : List (List ℕ))
+        ensures memory { IsErrOf result TheReceiverAttachError.OutOfMemory → (names : List (List ℕ))
             × (refused_by_receiver self.now other.now
-            ≡ Some (ReceiverError.DesiredFilterNotSupported names)) };
+            ≡ Some (TheReceiverAttachError.DesiredFilterNotSupported names)) };
 }
 
 impl VerifySource for Source {

@@ -1,7 +1,7 @@
 //! The target of the peer's attach (3.5.4).
 ghost use Rattle.std.specs.Prelude.{◌≡◌, Bool, Option, IsErrOf};
-ghost use Rattle.amqp_link_types.specs.declared.types.errors.SenderAttachError.{SenderAttachError as SenderError};
-ghost use Rattle.amqp_link_types.specs.declared.types.errors.ReceiverAttachError.{ReceiverAttachError as ReceiverError};
+ghost use Rattle.amqp_link_types.specs.declared.types.errors.SenderAttachError.{SenderAttachError as TheSenderAttachError};
+ghost use Rattle.amqp_link_types.specs.declared.types.errors.ReceiverAttachError.{ReceiverAttachError as TheReceiverAttachError};
 ghost use Rattle.amqp_link_verification.specs.Termini.{verdict};
 
 use amqp_link_types::types::{
@@ -11,10 +11,10 @@ use amqp_link_types::types::{
 /// A target that can be verified when it arrives in an attach. Nothing here allocates.
 pub trait VerifyTargetArchetype {
     // Why a sender with the first target refuses the second, its peer's.
-    ghost refused_by_sender: { Self → Self → Option SenderError };
+    ghost refused_by_sender: { Self → Self → Option TheSenderAttachError };
 
     // Why a receiver with the first target refuses the second, its peer's.
-    ghost refused_by_receiver: { Self → Self → Option ReceiverError };
+    ghost refused_by_receiver: { Self → Self → Option TheReceiverAttachError };
 
     /// Whether a sender with this target accepts its peer's, `other`.
     ///
@@ -22,7 +22,7 @@ pub trait VerifyTargetArchetype {
     /// properties of a dynamic node, though it is not dynamic.
     fn verify_as_sender(&self, other: &Self) -> Result<(), SenderAttachError>
         ensures refused { result ≡ verdict (refused_by_sender self.now other.now) }
-        ensures memory { IsErrOf result SenderError.OutOfMemory → ⊥ };
+        ensures memory { IsErrOf result TheSenderAttachError.OutOfMemory → ⊥ };
 
     /// Whether a receiver with this target accepts its peer's, `other`.
     ///
@@ -30,7 +30,7 @@ pub trait VerifyTargetArchetype {
     /// has properties of a dynamic node, though it is not dynamic.
     fn verify_as_receiver(&self, other: &Self) -> Result<(), ReceiverAttachError>
         ensures refused { result ≡ verdict (refused_by_receiver self.now other.now) }
-        ensures memory { IsErrOf result ReceiverError.OutOfMemory → ⊥ };
+        ensures memory { IsErrOf result TheReceiverAttachError.OutOfMemory → ⊥ };
 }
 
 /// A target that can be asked for its kind. Nothing here allocates.

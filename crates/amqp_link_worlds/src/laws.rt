@@ -25,7 +25,7 @@ ghost use Rattle.amqp_link_worlds.specs.PairRuns.{Does, FatesMoveOnce, HoldsWhat
 ghost use Rattle.amqp_link_worlds.specs.Steps.{new_world, items_to_resume, list_to_resume, later, sender_asking, receiver_at_limit, receiver_half_attached, receiver_together, Attaches, AttachStop, StopsAt, Grants, Sends, Arrives, Cuts, Resumes, PutsBack, HandsOutDelivery, Settles, after_hand_out, has_flag, attach_tests, send_tests, arrive_tests, cut_tests, next_tests, hand_out_tests, settle_tests, withdraw_tests, WithdrawsDelivery, SendsAbort, DropsAbort, AbortArrives};
 ghost use Rattle.amqp_link_worlds.specs.Wires.{OnWire, does_begin};
 ghost use Rattle.amqp_link_worlds.specs.Worlds.{World, is_out_at, Apart, Halfway, Good, IsOpen, IsRegistered, is_together, standing, entry_in, held_at, bytes_in, receiver_entry};
-ghost use Rattle.amqp_link_worlds.specs.declared.error.PairError.{PairError as Refusal};
+ghost use Rattle.amqp_link_worlds.specs.declared.error.PairError.{PairError as ThePairError};
 ghost use Rattle.amqp_link_worlds.specs.declared.event.AnswerOf.{AnswerOf};
 ghost use Rattle.amqp_link_worlds.specs.declared.event.Event.{Event};
 ghost use Rattle.amqp_link_worlds.specs.declared.event.Event.TheVariants.{Settle};
@@ -33,7 +33,7 @@ ghost use Rattle.amqp_link_worlds.specs.declared.progress.Progress.{Progress as 
 ghost use Rattle.amqp_link_worlds.specs.Resumptions.{entry_of};
 ghost use Rattle.amqp_link_core.specs.declared.resumption.ResumingDelivery.TheVariants.{Abort};
 ghost use Rattle.amqp_link_types.specs.Frames.{performative_of};
-ghost use Rattle.amqp_link_types.specs.declared.delivery.UnsettledMessage.{UnsettledMessage as Entry};
+ghost use Rattle.amqp_link_types.specs.declared.delivery.UnsettledMessage.{UnsettledMessage as TheUnsettledMessage};
 
 /// A new pair has the invariant (`IsWorld`).
 pub fn a_new_pair_is_kept()
@@ -92,8 +92,8 @@ pub fn endpoints_refuse_only_for_memory()
     ensures report { (w : World) (tag : Tag) (held : Held) → IsWorld w → held_at w tag ≡ Some held
         → entry_at w.receiver.unsettled tag ≡ receiver_entry (Some held) }
     ensures listed { (w : World) (tag : Tag) (next : ResumingDelivery) (others : Entries ResumingDelivery) → IsWorld w
-        → w.resuming ≡ (tag, next) ∷ others → ((entry : Entry) × (entry_of next ≡ Some entry)) ⊎ (next ≡ Abort 0 None) }
-    ensures resume_next { (w : World) (tag : Tag) (next : ResumingDelivery) (others : Entries ResumingDelivery) (entry : Entry) → IsWorld w
+        → w.resuming ≡ (tag, next) ∷ others → ((entry : TheUnsettledMessage) × (entry_of next ≡ Some entry)) ⊎ (next ≡ Abort 0 None) }
+    ensures resume_next { (w : World) (tag : Tag) (next : ResumingDelivery) (others : Entries ResumingDelivery) (entry : TheUnsettledMessage) → IsWorld w
         → is_together w.phase ≡ true → w.resuming ≡ (tag, next) ∷ others → entry_of next ≡ Some entry → CanResume w tag next }
     ensures resume_next_abort { (w : World) (tag : Tag) (others : Entries ResumingDelivery) → IsWorld w
         → is_together w.phase ≡ true → w.resuming ≡ (tag, Abort 0 None) ∷ others → CanAbort w tag }
@@ -140,11 +140,11 @@ pub fn an_attach_hands_out_each_delivery_once()
 /// Each step and each run keeps the invariant.
 pub fn each_run_keeps_a_pair<B>()
     ensures step { (decoded : List ℕ → Result (TheMessage B) DecodeError) (old new : World) (e : Event)
-        (r : Result (AnswerOf B) Refusal) → IsWorld old → Step decoded old e r new → IsWorld new }
+        (r : Result (AnswerOf B) ThePairError) → IsWorld old → Step decoded old e r new → IsWorld new }
     ensures run { (decoded : List ℕ → Result (TheMessage B) DecodeError) (old new : World)
         (moments : List (Moment decoded)) → IsWorld old → IsRun decoded old moments new → IsWorld new }
     ensures events { (decoded : List ℕ → Result (TheMessage B) DecodeError) (old new : World) (events : List Event)
-        (answers : List (Result (AnswerOf B) Refusal)) (finished : Bool) → IsWorld old
+        (answers : List (Result (AnswerOf B) ThePairError)) (finished : Bool) → IsWorld old
         → RunsEvents decoded old events answers finished new → IsWorld new }
 {}
 
@@ -161,7 +161,7 @@ pub fn fates_move_once_in_a_run<B>()
 
 /// Only a settlement resolves a registration: one of its own tag, with the outcome accepted.
 pub fn only_a_settlement_resolves<B>()
-    ensures { (decoded : List ℕ → Result (TheMessage B) DecodeError) (old new : World) (e : Event) (r : Result (AnswerOf B) Refusal)
+    ensures { (decoded : List ℕ → Result (TheMessage B) DecodeError) (old new : World) (e : Event) (r : Result (AnswerOf B) ThePairError)
         → IsWorld old → Step decoded old e r new
         → (n : ℕ) (tag : Tag) (outcome : Result (Option DeliveryState) LinkStateError)
         → slice_get old.ledger.records n ≡ Some (tag, Pending) → slice_get new.ledger.records n ≡ Some (tag, Resolved outcome)
@@ -171,7 +171,7 @@ pub fn only_a_settlement_resolves<B>()
 /// No step changes the payload of a delivery, unless it sends a new delivery with the tag.
 pub fn no_payload_changes<B>()
     ensures { (decoded : List ℕ → Result (TheMessage B) DecodeError) (tag : Tag) (old new : World) (e : Event)
-        (r : Result (AnswerOf B) Refusal) → IsWorld old → Step decoded old e r new → is_send_of tag r ≡ false
+        (r : Result (AnswerOf B) ThePairError) → IsWorld old → Step decoded old e r new → is_send_of tag r ≡ false
         → IsOpen (latest (fates_of tag new.ledger.records)) → entry_in (standing new tag) ≡ entry_in (standing old tag) }
 {}
 
@@ -183,7 +183,7 @@ pub fn held_is_what_was_sent<B>()
     ensures sent { (old new : World) (payload tag : List ℕ) (count : ℕ) → Sends old payload tag count new
         → IsRegistered new tag payload }
     ensures stays { (decoded : List ℕ → Result (TheMessage B) DecodeError) (tag payload : List ℕ) (old new : World) (e : Event)
-        (r : Result (AnswerOf B) Refusal) → IsWorld old → Step decoded old e r new → is_send_of tag r ≡ false
+        (r : Result (AnswerOf B) ThePairError) → IsWorld old → Step decoded old e r new → is_send_of tag r ≡ false
         → IsRegistered old tag payload → IsRegistered new tag payload }
     ensures whole { (w : World) (tag payload : List ℕ) → IsWorld w → IsRegistered w tag payload
         → has_flag (λ p. p.whole) w tag ≡ true → bytes_in (held_at w tag) ≡ payload }
@@ -206,7 +206,7 @@ pub fn only_arrivals_and_settlements_change_what_is_held<B>()
         (answer : AnswerOf B) → IsWorld old → refusal (tests_of decoded old e) ≡ None → Does decoded old e answer new
         → changes_held tag e answer ≡ false → held_at new tag ≡ held_at old tag }
     ensures refused { (decoded : List ℕ → Result (TheMessage B) DecodeError) (tag : Tag) (old new : World) (e : Event)
-        (error : Refusal) → Step decoded old e (Err error) new → held_at new tag ≡ held_at old tag }
+        (error : ThePairError) → Step decoded old e (Err error) new → held_at new tag ≡ held_at old tag }
 {}
 
 /// A delivery is out from its send or its resumption until a cut, an attach or its settlement: no other call
@@ -216,5 +216,5 @@ pub fn out_from_send_or_resumption_on<B>()
         (answer : AnswerOf B) → IsWorld old → refusal (tests_of decoded old e) ≡ None → Does decoded old e answer new
         → is_out_at new tag ≡ is_out_after tag e answer (is_out_at old tag) }
     ensures refused { (decoded : List ℕ → Result (TheMessage B) DecodeError) (tag : Tag) (old new : World) (e : Event)
-        (error : Refusal) → Step decoded old e (Err error) new → is_out_at new tag ≡ is_out_at old tag }
+        (error : ThePairError) → Step decoded old e (Err error) new → is_out_at new tag ≡ is_out_at old tag }
 {}

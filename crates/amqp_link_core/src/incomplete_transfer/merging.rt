@@ -1,6 +1,6 @@
 //! The merged fields of the transfers of one delivery (2.7.5).
 ghost use Rattle.std.specs.Prelude.{◌≡◌, ◌++◌, [], ◌∷◌, List, Option, Bool};
-ghost use Rattle.amqp_link_types.specs.declared.types.delivery_state.DeliveryState.{DeliveryState as State};
+ghost use Rattle.amqp_link_types.specs.declared.types.delivery_state.DeliveryState.{DeliveryState as TheDeliveryState};
 ghost use Rattle.amqp_link_core.specs.Merging.{Came, Merged, present, settled_by, state_by};
 
 use amqp_link_types::types::{DeliveryState, Transfer, has_ended};
@@ -21,7 +21,7 @@ fn settled_with(known: Option<bool>, carried: Option<bool>) -> Option<bool>
 // The state of a delivery after merging one transfer.
 #[tactic(auto, using(crate::proofs::MergeLemmas::state_steps))]
 fn state_with(known: Option<DeliveryState>, carried: Option<DeliveryState>) -> Option<DeliveryState>
-    ensures { (states : List (Option State)) → known ≡ state_by (present states)
+    ensures { (states : List (Option TheDeliveryState)) → known ≡ state_by (present states)
         → result ≡ state_by (present (states ++ carried ∷ [])) }
 {
     if has_ended(&known) {

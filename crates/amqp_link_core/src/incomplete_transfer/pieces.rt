@@ -20,11 +20,11 @@ pub(crate) fn push_piece(
 ) -> Result<PositionCarry, (ReceiverTransferError, Payload)>
     requires { HasPushed carry (concat pieces.old.items) }
     ensures pushed { OnOk result (pieces.new.items ≡ pieces.old.items ++ piece ∷ []) }
-    ensures kept { IfOk result (λ next. IsKept next (concat pieces.new.items)) }
+    ensures carry { IfOk result (λ next. IsKept next (concat pieces.new.items)) }
     ensures refused { AnswersThenOutOfMemory ReceiverTransferError.OutOfMemory
         (first_error result) (long_test (concat pieces.old.items ++ piece)) }
     ensures back { IfErr result (λ refused. refused.1 ≡ piece) }
-    ensures err { OnErr result (pieces.new.items ≡ pieces.old.items) }
+    ensures left { OnErr result (pieces.new.items ≡ pieces.old.items) }
 {
     let mut next = carry;
     if let Err(refused) = next.push(&piece) {
@@ -54,8 +54,8 @@ pub(crate) fn carry_of(pieces: &[Payload]) -> PositionCarry
 // memory the pieces stay as they are.
 pub(crate) fn cut_pieces(pieces: &mut Vec<Payload>, size: u64) -> Result<(), AllocError>
     requires { size ≤ length (concat pieces.old.items) }
-    ensures kept { OnOk result (concat pieces.new.items ≡ take size (concat pieces.old.items)) }
-    ensures err { OnErr result (pieces.new.items ≡ pieces.old.items) }
+    ensures prefix { OnOk result (concat pieces.new.items ≡ take size (concat pieces.old.items)) }
+    ensures left { OnErr result (pieces.new.items ≡ pieces.old.items) }
 {
     let (whole, rest) = cut_at(pieces.as_slice(), size);
     if rest > 0 {

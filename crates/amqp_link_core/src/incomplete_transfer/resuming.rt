@@ -43,7 +43,7 @@ impl IncompleteTransfer {
 
         ensures refused { AnswersThenOutOfMemory ReceiverTransferError.OutOfMemory
             result (resume_tests self.old transfer payload) }
-        ensures err { OnErr result (self.new ≡ self.old) }
+        ensures left { OnErr result (self.new ≡ self.old) }
     {
         match self.resume(transfer, payload) {
             Ok(()) => Ok(()),
@@ -59,7 +59,7 @@ impl IncompleteTransfer {
         ensures refused { AnswersThenOutOfMemory ReceiverTransferError.OutOfMemory
             (with_error result) (resume_tests self.old transfer payload) }
         ensures back { IfErr result (λ refused. AreReturned transfer payload refused) }
-        ensures err { OnErr result (self.new ≡ self.old) }
+        ensures left { OnErr result (self.new ≡ self.old) }
     {
         if transfer.delivery_id.is_none() {
             let error = ReceiverTransferError::DeliveryIdIsNone; // asked of a first transfer (2.7.5)
@@ -90,7 +90,7 @@ impl IncompleteTransfer {
         ensures refused { AnswersThenOutOfMemory ReceiverTransferError.OutOfMemory
             (with_error result) (add_tests begins_delivery self.old transfer payload) }
         ensures back { IfErr result (λ refused. AreReturned transfer payload refused) }
-        ensures err { OnErr result (self.new ≡ self.old) }
+        ensures left { OnErr result (self.new ≡ self.old) }
     {
         if !begins_delivery {
             return self.append(transfer, payload);
@@ -129,7 +129,7 @@ impl IncompleteTransfer {
 
         ensures refused { AnswersThenOutOfMemory ReceiverTransferError.OutOfMemory
             result (add_tests begins_delivery self.old transfer payload) }
-        ensures err { OnErr result (self.new ≡ self.old) }
+        ensures left { OnErr result (self.new ≡ self.old) }
     {
         if begins_delivery {
             self.try_resume(transfer, payload)
@@ -157,10 +157,10 @@ impl IncompleteTransfer {
         number: u32,
         offset: u64,
     ) -> Result<(), AllocError>
-        ensures kept { OnOk result (MatchOption (place (held_bytes self.old) number offset)
+        ensures prefix { OnOk result (MatchOption (place (held_bytes self.old) number offset)
             (self.new ≡ self.old) (λ place. KeepsFront self.old self.new place)) }
         ensures memory { OnErr result (IsSome (place (held_bytes self.old) number offset)) }
-        ensures err { OnErr result (self.new ≡ self.old) }
+        ensures left { OnErr result (self.new ≡ self.old) }
     {
         let Some(place) = place_in(self.pieces.as_slice(), number, offset) else {
             return Ok(());

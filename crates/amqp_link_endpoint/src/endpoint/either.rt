@@ -4,10 +4,10 @@ ghost use Rattle.std.specs.Borrow.{Lends, sem};
 ghost use Rattle.amqp_link_state.specs.declared.state.LinkState.{LinkState as TheState};
 ghost use Rattle.amqp_link_types.specs.declared.types.definitions.OutputHandle.{OutputHandle as TheHandle};
 ghost use Rattle.amqp_link_types.specs.Entries.{Entries};
-ghost use Rattle.amqp_link_endpoint.specs.declared.link_inner.LinkInner.{LinkInner as Inner};
+ghost use Rattle.amqp_link_endpoint.specs.declared.link_inner.LinkInner.{LinkInner as TheLinkInner};
 ghost use Rattle.amqp_link_endpoint.specs.contracts.link_inner.LinkInner.{the_row as inner_row};
 ghost use Rattle.std.proofs.Common.{◌∙◌};
-ghost use Rattle.amqp_link_endpoint.specs.Links.{with_properties as put_properties, without_session};
+ghost use Rattle.amqp_link_endpoint.specs.Links.{with_properties as the_with_properties, without_session};
 ghost use Rattle.amqp_link_endpoint.specs.Shown.{shown_from, shown_of};
 
 use crate::endpoint::attached::sent_limit;
@@ -40,9 +40,9 @@ pub trait EitherEnd {
     type Target: LinkTarget;
 
     // What it holds as an endpoint of the other role does, and the endpoint with another such part.
-    ghost inner: { Self → Inner Self.Marker Self.Target };
+    ghost inner: { Self → TheLinkInner Self.Marker Self.Target };
 
-    ghost with_inner: { Self → Inner Self.Marker Self.Target → Self };
+    ghost with_inner: { Self → TheLinkInner Self.Marker Self.Target → Self };
 
     // Its unsettled deliveries.
     ghost kept: { Self → Entries Self.Marker.Entry };
@@ -69,7 +69,7 @@ pub trait EitherEnd {
         ensures { self.new ≡ at_rest self.old };
 
     // What it holds, and its unsettled deliveries, change by themselves.
-    ghost apart: { (l : Self) (i : Inner Self.Marker Self.Target)
+    ghost apart: { (l : Self) (i : TheLinkInner Self.Marker Self.Target)
         → (inner (with_inner l i) ≡ i) × (kept (with_inner l i) ≡ kept l)
         × (inner (at_rest l) ≡ inner l) × (kept (at_rest l) ≡ kept l) };
 }
@@ -159,12 +159,12 @@ impl<L: EitherEnd> LinkDetach for L {
 impl<L: EitherEnd> LinkExt for L {
     type Marker = L::Marker;
 
-    ghost with_properties = { λ l properties. L.with_inner l (put_properties properties (L.inner l)) };
+    ghost with_properties = { λ l properties. L.with_inner l (the_with_properties properties (L.inner l)) };
 
     ghost with_frame_limit = { λ l limit. L.with_inner l (record (L.inner l) { max_frame_size = limit }) };
 
     ghost shown_with_properties = { λ l properties.
-        let p = L.apart l (put_properties properties (L.inner l)) in
+        let p = L.apart l (the_with_properties properties (L.inner l)) in
         shown_from L.Marker.role L.Target.sent_as L.Marker.stated L.Marker.ended p.0 p.1 };
 
     ghost shown_with_frame_limit = { λ l limit.

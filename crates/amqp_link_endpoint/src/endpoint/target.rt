@@ -1,6 +1,6 @@
 //! The targets that a link can have (3.5.4).
 ghost use Rattle.std.specs.Prelude.{◌≡◌, Option, Some};
-ghost use Rattle.amqp_link_types.specs.declared.types.terminus.TargetArchetype.{TargetArchetype as Archetype};
+ghost use Rattle.amqp_link_types.specs.declared.types.terminus.TargetArchetype.{TargetArchetype as TheTargetArchetype};
 
 use amqp_link_types::types::{Target, TargetArchetype};
 use amqp_link_verification::VerifyTargetArchetype;
@@ -9,10 +9,10 @@ use amqp_link_verification::VerifyTargetArchetype;
 /// of the link's kind; it can be verified.
 pub trait LinkTarget: Clone + Drop + VerifyTargetArchetype {
     // What is sent for it.
-    ghost sent_as: { Self → Archetype };
+    ghost sent_as: { Self → TheTargetArchetype };
 
     // What a target that arrives is taken as, if it is of this kind.
-    ghost admitted: { Archetype → Option Self };
+    ghost admitted: { TheTargetArchetype → Option Self };
 
     /// What is sent for the target. Does not allocate.
     fn into_archetype(self) -> TargetArchetype

@@ -81,7 +81,7 @@ impl<T: LinkTarget> Inbox<T> {
             ⊎ (receiver_refusal T.admitted T.refused_by_receiver self.old.link attach ≡ Some error)) }
         ensures left { IfErr result (λ error. self.new ≡ refused_by error
             (receiver_left T.admitted T.refused_by_receiver error self.old.link attach) self.old) }
-        ensures unchanged { IsErrOf result ReceiverAttachError.OutOfMemory → self.new ≡ self.old }
+        ensures left_out_of_memory { IsErrOf result ReceiverAttachError.OutOfMemory → self.new ≡ self.old }
     {
         let Ok(forgotten) = self.deliveries.forgotten_by(self.alloc, &attach) else {
             drop(attach);

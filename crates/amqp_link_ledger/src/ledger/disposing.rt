@@ -2,7 +2,7 @@
 ghost use Rattle.std.specs.Prelude.{◌≡◌, ◌≢◌, ◌∷◌, [], false, map, IfOk, OnOk, OnErr};
 ghost use Rattle.std.specs.List.{filter_map};
 ghost use Rattle.std.specs.Option.{option_map, option_to_list};
-ghost use Rattle.amqp_link_types.specs.declared.delivery.UnsettledMessage.{UnsettledMessage as Message};
+ghost use Rattle.amqp_link_types.specs.declared.delivery.UnsettledMessage.{UnsettledMessage as TheUnsettledMessage};
 ghost use Rattle.amqp_link_types.specs.Entries.{Entries};
 ghost use Rattle.amqp_link_dispositions.specs.Ending.{settled_at};
 ghost use Rattle.amqp_link_dispositions.specs.Listed.{tags_in_order};
@@ -206,7 +206,7 @@ fn resolve_listed(
     outcomes: Vec<Option<DeliveryOutcome>>,
 )
     ensures none { outcomes.items ≡ [] → registrations.new.records ≡ registrations.old.records }
-    ensures each { (own : Entries Message) → outcomes.items ≡ map (λ pair. settled_outcome own pair.1) listed.now
+    ensures each { (own : Entries TheUnsettledMessage) → outcomes.items ≡ map (λ pair. settled_outcome own pair.1) listed.now
         → registrations.new.records ≡ after (Change.Resolves
         (filter_map (settled_at own) (map (λ pair. pair.1) listed.now))) registrations.old.records }
 {

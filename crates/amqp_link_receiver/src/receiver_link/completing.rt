@@ -121,7 +121,7 @@ impl<T: LinkTarget> ReceiverLink<T> {
             × ((number offset : ℕ) → completion_refusal self.now transfer.now number offset
             (B.decoded (concat pieces.now))
             ≡ Some (error, spent (reported (option_copied completion.key) number offset self.now))))) }
-        ensures kept { IfOk result (λ completion. IsSome completion.key
+        ensures admitted { IfOk result (λ completion. IsSome completion.key
             → transfer_refusal self.now transfer.now ≡ None) }
         ensures memory { OnErr result (transfer_refusal self.now transfer.now ≡ None) }
     {

@@ -47,7 +47,7 @@ impl<T: LinkTarget> ReceiverLink<T> {
               delivery_info.now.delivery_tag self.old.unsettled;
         }) }
         ensures memory { OnErr result (is_settled_one settled self.old.rcv_settle_mode delivery_info.now ≡ false) }
-        ensures kept { OnErr result (IsSome (entry_at self.old.unsettled delivery_info.now.delivery_tag)) }
+        ensures known { OnErr result (IsSome (entry_at self.old.unsettled delivery_info.now.delivery_tag)) }
         ensures left { OnErr result (self.new ≡ self.old) }
     {
         let how = Settling {

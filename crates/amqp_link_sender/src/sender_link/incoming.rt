@@ -90,7 +90,7 @@ pub fn plan_incoming_attach<T: LinkTarget>(
     attach: Attach,
 ) -> Result<AttachPlan<T>, SenderAttachError>
     ensures planned { IfOk result (λ plan. IsAttachPlan T.admitted link.old attach plan) }
-    ensures kept { OnOk result (link.new ≡ link.old) }
+    ensures same { OnOk result (link.new ≡ link.old) }
     ensures refused { MatchResult result
         (λ _. sender_refusal T.admitted T.refused_by_sender link.old attach ≡ None)
         (λ error. (error ≡ SenderAttachError.OutOfMemory)
@@ -202,7 +202,7 @@ impl<T: LinkTarget> SenderLink<T> {
         attach: Attach,
     ) -> Result<AttachPlan<T>, SenderAttachError>
         ensures planned { IfOk result (λ plan. IsAttachPlan T.admitted self.old attach plan) }
-        ensures kept { OnOk result (self.new ≡ self.old) }
+        ensures same { OnOk result (self.new ≡ self.old) }
         ensures refused { MatchResult result
             (λ _. sender_refusal T.admitted T.refused_by_sender self.old attach ≡ None)
             (λ error. (error ≡ SenderAttachError.OutOfMemory)
@@ -215,7 +215,7 @@ impl<T: LinkTarget> SenderLink<T> {
             (IsErrAnd result (λ error. error ≡ SenderAttachError.IllegalState))
             (λ next. IfErr result (λ error. (error ≡ SenderAttachError.OutOfMemory)
             ⊎ (self.new.local_state ≡ next))) }
-        ensures same { IfNone (next_of self.old.local_state attach) (self.new ≡ self.old) }
+        ensures no_step { IfNone (next_of self.old.local_state attach) (self.new ≡ self.old) }
     {
         let came = read(attach);
         let Some(next) = after_incoming_attach(self.inner.local_state, came.incomplete_unsettled)

@@ -104,7 +104,7 @@ impl LinkFlowState<SenderMarker> {
         ensures spent { OnOk result (self.new ≡ after_consuming n self.old) }
         ensures limit { OnOk result (count_limit self.new ≡ count_limit self.old) }
         ensures refused { IsErr result ↔ (self.old.link_credit < n) }
-        ensures kept { OnErr result (self.new ≡ self.old) }
+        ensures left { OnErr result (self.new ≡ self.old) }
     {
         let state = &mut self.inner;
         if state.link_credit < n {
@@ -210,7 +210,7 @@ impl LinkFlowState<SenderMarker> {
             flow ≡ sender_flow self.new output_handle echo include_properties) }
         ensures memory { OnErr result
             ((include_properties ≡ true) × (is_some self.old.properties ≡ true)) }
-        ensures kept { OnErr result (self.new ≡ self.old) }
+        ensures left { OnErr result (self.new ≡ self.old) }
     {
         let state = &mut self.inner;
         let properties = if include_properties {
@@ -236,7 +236,7 @@ impl LinkFlowState<ReceiverMarker> {
         ensures limit { OnOk result (count_limit self.new ≡ count_limit self.old) }
         ensures refused { IsErr result ↔ (self.old.link_credit < n) }
         ensures error { IfErr result (λ error. error ≡ ReceiverTransferError.TransferLimitExceeded) }
-        ensures kept { OnErr result (self.new ≡ self.old) }
+        ensures left { OnErr result (self.new ≡ self.old) }
     {
         let state = &mut self.inner;
         if state.link_credit < n {
@@ -274,7 +274,7 @@ impl LinkFlowState<ReceiverMarker> {
             flow ≡ stated_flow self.new output_handle echo include_properties) }
         ensures memory { OnErr result
             ((include_properties ≡ true) × (is_some self.old.properties ≡ true)) }
-        ensures kept { OnErr result (self.new ≡ self.old) }
+        ensures left { OnErr result (self.new ≡ self.old) }
     {
         let state = &mut self.inner;
         let properties = if include_properties {

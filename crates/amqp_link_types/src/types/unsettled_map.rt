@@ -144,7 +144,7 @@ impl<V> UnsettledMap<V> {
         ensures old { IfOk result (λ old. old ≡ entry_at self.old tag) }
         ensures put { OnOk result (self.new ≡ with_entry self.old tag value) }
         ensures back { IfErr result (λ failed. failed.value ≡ (tag, value)) }
-        ensures kept { OnErr result (self.new ≡ self.old) }
+        ensures left { OnErr result (self.new ≡ self.old) }
         ensures absent { OnErr result (entry_at self.old tag ≡ None) }
     {
         self.map.insert(tag, value)
@@ -174,7 +174,7 @@ impl<V> UnsettledMap<V> {
         ensures put { OnOk result (self.new ≡ with_entry self.old tag.now value) }
         ensures back { IfErr result (λ back. back ≡ value) }
         ensures absent { OnErr result (entry_at self.old tag.now ≡ None) }
-        ensures kept { OnErr result (self.new ≡ self.old) }
+        ensures left { OnErr result (self.new ≡ self.old) }
     {
         let Some(place) = self.map.get_mut(tag) else {
             return Err(value);

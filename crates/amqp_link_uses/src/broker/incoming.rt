@@ -101,7 +101,7 @@ impl Incoming {
             ⊎ ((why : _) × (error ≡ SettleError.Inbox why)
             × (info_to_dispose self.old.inbox.link.local_state (entry_at self.old.inbox.deliveries tag.now) tag.now ≡ Err why))) }
         ensures left { (why : _) → result ≡ Err (SettleError.Inbox why) → self.new ≡ left_unsettled why tag.now self.old }
-        ensures kept { result ≡ Err SettleError.NoOutcome → self.new ≡ self.old }
+        ensures left_unknown { result ≡ Err SettleError.NoOutcome → self.new ≡ self.old }
     {
         let state = self.outcome_of(tag)?;
         match self.inbox.dispose(tag, Some(true), state, false) {

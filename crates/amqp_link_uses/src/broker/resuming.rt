@@ -7,7 +7,7 @@ ghost use Rattle.amqp_link.specs.Unsettled.{states_of};
 ghost use Rattle.amqp_link.specs.Targets.{plain_target};
 ghost use Rattle.amqp_link.specs.Termini.{sender_refuses_target};
 ghost use Rattle.amqp_link.specs.declared.state.LinkState.{LinkState as TheState};
-ghost use Rattle.amqp_link.specs.declared.types.TargetArchetype.TheVariants.{Target as PlainTarget};
+ghost use Rattle.amqp_link.specs.declared.types.TargetArchetype.TheVariants.{Target as TheTarget};
 ghost use Rattle.amqp_link_uses.specs.Brokers;
 ghost use Rattle.amqp_link_uses.specs.Brokers.{DoesOf, Resumes, StepsBy, StopsNext, StopsStep, attached_by, attaching, is_resuming, left_as, step_tests, with_outgoing};
 
@@ -314,7 +314,7 @@ impl Broker {
         is_reattaching: bool,
     ) -> Result<LinkFrame, AttachError>
         ensures sent { IfOk result (λ frame. IsSomeAnd (slice_get self.old.outgoing link) (λ o. (next : TheState)
-            × SendsAttach (sender_shown PlainTarget o.ledger.link)
+            × SendsAttach (sender_shown TheTarget o.ledger.link)
             (if is_reattaching then [] else states_of o.ledger.link.unsettled) frame next
             × (self.new ≡ with_outgoing link (attaching is_reattaching next o) self.old))) }
         ensures no_such_link { result ≡ Err AttachError.NoSuchLink ↔ (slice_get self.old.outgoing link ≡ None) }
@@ -359,7 +359,7 @@ impl Broker {
                 link = sender_left plain_target (λ own theirs. sender_refuses_target theirs) error o.ledger.link theirs;
               };
             }) self.old) }
-        ensures kept { (result ≡ Err AttachError.NoSuchLink) ⊎ (result ≡ Err AttachError.StillResuming) → self.new ≡ self.old }
+        ensures left_unasked { (result ≡ Err AttachError.NoSuchLink) ⊎ (result ≡ Err AttachError.StillResuming) → self.new ≡ self.old }
     {
         let Some(outgoing) = self.outgoing.get_mut(link) else {
             drop(theirs);

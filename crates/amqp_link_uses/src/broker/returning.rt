@@ -5,7 +5,7 @@ ghost use Rattle.amqp_link.specs.Disposing.{info_to_dispose};
 ghost use Rattle.amqp_link.specs.DispositionFrames.{disposition_frame};
 ghost use Rattle.amqp_link.specs.Entries.{entry_at};
 ghost use Rattle.amqp_link.specs.declared.errors.DispositionError.TheVariants.{OutOfMemory};
-ghost use Rattle.amqp_link.specs.declared.inbox.DisposeError.TheVariants.{OutOfMemory as DisposeOutOfMemory};
+ghost use Rattle.amqp_link.specs.declared.inbox.DisposeError.TheVariants.{OutOfMemory as TheOutOfMemory};
 ghost use Rattle.amqp_link.specs.declared.types.DeliveryState.TheVariants.{Released};
 ghost use Rattle.amqp_link.specs.declared.types.Role.TheVariants.{Receiver};
 ghost use Rattle.amqp_link_uses.specs.Brokers.{Disposes, left_unsettled, origin_at, outcome_known, returned, returned_to, settled_on, state_for, with_incoming};
@@ -140,12 +140,12 @@ impl Broker {
         ensures no_outcome { result ≡ Err SettleError.NoOutcome
             ↔ IsSomeAnd (slice_get self.old.incoming link) (λ s. outcome_known tag.now s ≡ None) }
         ensures refused { (error : _) → result ≡ Err (SettleError.Inbox error)
-            → IsSomeAnd (slice_get self.old.incoming link) (λ s. (error ≡ DisposeOutOfMemory)
+            → IsSomeAnd (slice_get self.old.incoming link) (λ s. (error ≡ TheOutOfMemory)
             ⊎ (info_to_dispose s.inbox.link.local_state (entry_at s.inbox.deliveries tag.now) tag.now ≡ Err error)) }
         ensures left { (error : _) → result ≡ Err (SettleError.Inbox error)
             → IsSomeAnd (slice_get self.old.incoming link) (λ s.
             self.new ≡ with_incoming link (left_unsettled error tag.now s) self.old) }
-        ensures kept { (result ≡ Err SettleError.NoSuchLink) ⊎ (result ≡ Err SettleError.NoOutcome) → self.new ≡ self.old }
+        ensures left_unasked { (result ≡ Err SettleError.NoSuchLink) ⊎ (result ≡ Err SettleError.NoOutcome) → self.new ≡ self.old }
     {
         match self.incoming.get_mut(link) {
             Some(from) => from.settle(tag),

@@ -4,5 +4,5 @@ use Rattle.amqp_link_dispositions.proofs.laws.each_ends_once.Goals as goal
 pub returns-clause-once : goal.returns-clause-once
 returns-clause-once c = each_once
 
-pub returns-clause-kept : goal.returns-clause-kept
-returns-clause-kept c = each_kept
+pub returns-clause-entry : goal.returns-clause-entry
+returns-clause-entry c = each_kept

@@ -10,4 +10,4 @@ returns-in-Err-clause-refused g c =
     stays_or_moves g.L.AttachError.AttachFailure.illegal_state g.L.AttachError.AttachFailure.out_of_memory c.in-Err.refused old now
     (g.L.LinkDetach.shown now).local_state
     (next_of (g.L.LinkDetach.shown old).local_state c.args.attach)
-    c.in-Err.ensures.step c.in-Err.ensures.kept (λ is. c.in-Err.ensures.unchanged (ap Err is))
+    c.in-Err.ensures.step c.in-Err.ensures.no_step (λ is. c.in-Err.ensures.left_out_of_memory (ap Err is))

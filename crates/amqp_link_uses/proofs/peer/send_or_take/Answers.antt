@@ -17,7 +17,7 @@ returns-in-Attach-clause-leads g c =
     let handle = keeps_handle g.L.LinkDetach.shown old now (g.L.LinkDetach.shown now).target attach call.result call.ensures.shown call.ensures.terms in
     rw c.in-Attach.is (λ _. stays_or_moves g.L.LinkDetach.shown old now g.L.AttachError.AttachFailure.illegal_state g.L.AttachError.AttachFailure.out_of_memory
     call.result (next_of (g.L.LinkDetach.shown old).local_state attach) handle
-    call.ensures.step call.ensures.kept call.ensures.unchanged)
+    call.ensures.step call.ensures.no_step call.ensures.left_out_of_memory)
 
 pub returns-in-SendDetach-clause-leads : goal.returns-in-SendDetach-clause-leads
 returns-in-SendDetach-clause-leads g c =

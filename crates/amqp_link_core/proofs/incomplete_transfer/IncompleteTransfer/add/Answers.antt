@@ -6,5 +6,5 @@ use Rattle.amqp_link_core.proofs.incomplete_transfer.IncompleteTransfer.add.Goal
 pub invariant_of-self : goal.invariant_of-self
 invariant_of-self c = (
   ap is_some (tag_kept (record { opens = c.args.opens; transfer = c.args.transfer }) _ _ c.merge.ensures) ∙ c.self.invariant.0,
-  c.in-Ok.ensures.kept,
+  c.in-Ok.ensures.carry,
 )

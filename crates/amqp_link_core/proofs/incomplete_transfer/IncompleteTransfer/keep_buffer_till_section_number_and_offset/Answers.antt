@@ -8,4 +8,4 @@ pub carry_of-self-inside-requires : goal.carry_of-self-inside-requires
 carry_of-self-inside-requires c =
     subst (λ pieces. is_too_long (concat pieces) ≡ false) (sym c.as_slice-2.ensures.value)
     (cut_not_long (concat c.self.inside.pieces.items) (concat c.cut_pieces.new.pieces.items) c.in-Some.place
-    c.in_ok-cut_pieces.ensures.kept c.self.invariant.1.counted)
+    c.in_ok-cut_pieces.ensures.prefix c.self.invariant.1.counted)

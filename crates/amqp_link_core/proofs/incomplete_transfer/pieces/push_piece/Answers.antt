@@ -5,8 +5,8 @@ use Rattle.amqp_link_core.specs.Carries.{IsKept}
 use Rattle.amqp_link_core.proofs.CountLemmas.{not_refused}
 use Rattle.amqp_link_core.proofs.incomplete_transfer.pieces.push_piece.Goals as goal
 
-pub returns-in-Ok-clause-kept : goal.returns-in-Ok-clause-kept
-returns-in-Ok-clause-kept c =
+pub returns-in-Ok-clause-carry : goal.returns-in-Ok-clause-carry
+returns-in-Ok-clause-carry c =
     let front = concat c.args.pieces.now.items in
     let all : concat c.push-2.new.self.items ≡ front ++ c.args.piece
     = ap concat c.in-Ok.ensures.items ∙ concat_push c.args.pieces.now.items c.args.piece in

@@ -10,8 +10,8 @@ returns-in-Err-clause-step g c =
     rw (← c.self.view_is, c.in-Err.ensures.left)
     (step_refused g.T.LinkTarget.admitted g.T.VerifyTargetArchetype.refused_by_sender c.self.inside.link c.args.attach c.in-Err.refused c.in-Err.ensures.refused (λ is. c.in-Err.ensures.memory (ap Err is)) _ refl)
 
-pub returns-in-Err-clause-kept : goal.returns-in-Err-clause-kept
-returns-in-Err-clause-kept g c =
+pub returns-in-Err-clause-no_step : goal.returns-in-Err-clause-no_step
+returns-in-Err-clause-no_step g c =
     rw (← c.self.view_is, c.in-Err.ensures.left)
     (kept_refused g.T.LinkTarget.admitted g.T.VerifyTargetArchetype.refused_by_sender c.self.inside.link c.args.attach c.in-Err.refused c.in-Err.ensures.refused (λ is. c.in-Err.ensures.memory (ap Err is)) c.self.inside.registrations.records _ refl)
 
@@ -31,7 +31,7 @@ invariant_of-self-in-Err g c =
 pub returns-in_ok-take_planned-in-Ok-clause-taken : goal.returns-in_ok-take_planned-in-Ok-clause-taken
 returns-in_ok-take_planned-in-Ok-clause-taken g c =
     let at = c.args.attach in
-    let kept = c.in-Ok.ensures.kept in
+    let kept = c.in-Ok.ensures.same in
     let planned = subst (λ (l : Sender g.row.T.Denot). IsAttachPlan g.T.LinkTarget.admitted l at c.in-Ok.plan) (sym kept) c.in-Ok.ensures.planned in
     rw (← c.self.view_is, ← kept)
     (taken_by_plan g.T.LinkTarget.admitted _ c.take_planned.new.self at c.in-Ok.plan c.in_ok-take_planned-in-Ok.field-0.0 c.in_ok-take_planned-in-Ok.field-0.1.items
