@@ -1,9 +1,10 @@
 //! Values behind a pointer.
 ghost use Rattle.std.specs.Prelude.{◌≡◌, IfOk, IfErr};
+ghost use Rattle.std.specs.Borrow.{Lends, sem};
 
 use std::alloc::{AllocError, AllocFailed, Global};
 use std::marker::Model;
-use std::ops::Deref;
+use std::ops::{Deref, DerefMut};
 
 /// A value in memory of its own, so that what holds it stays narrow.
 ///
@@ -47,6 +48,19 @@ impl<T> Deref for Boxed<T> {
         ensures { result.now ≡ self.now }
     {
         &self.inner
+    }
+}
+
+impl<T> DerefMut for Boxed<T> {
+    ghost use Rattle.amqp_link_values.specs.contracts.boxed.Boxed.{the_row};
+
+    ghost deref_mut_gives = { λ boxed value. value ≡ boxed };
+
+    fn deref_mut(&mut self) -> &mut T
+        ensures value { result.now ≡ self.old }
+        ensures* lends { sem 𝓛 (Lends (the_row T.row) T.row self.entry result (λ value. value)) }
+    {
+        &mut self.inner
     }
 }
 
