@@ -11,6 +11,16 @@ use crate::position_carry::PositionCarry;
 use amqp_link_types::types::{Payload, ReceiverTransferError};
 use std::alloc::AllocError;
 
+// Makes room for the first piece, and for no other: most deliveries arrive in one transfer.
+fn reserve_first(pieces: &mut Vec<Payload>) -> Result<(), AllocError>
+    ensures { pieces.new.items ≡ pieces.old.items }
+{
+    if pieces.is_empty() {
+        pieces.reserve_exact(1)?;
+    }
+    Ok(())
+}
+
 // Adds a piece to pieces with this position, and returns the new position. If it is refused it is handed back, and the
 // pieces stay as they are. Reads the new piece alone.
 pub(crate) fn push_piece(
@@ -29,6 +39,9 @@ pub(crate) fn push_piece(
     let mut next = carry;
     if let Err(refused) = next.push(&piece) {
         return Err((refused, piece));
+    }
+    if reserve_first(pieces).is_err() {
+        return Err((ReceiverTransferError::OutOfMemory, piece));
     }
     match pieces.push(piece) {
         Ok(()) => Ok(next),
