@@ -676,7 +676,10 @@ impl Pair {
         ensures good { Good self.now }
         ensures kept { IsWorld self.now }
     {
-        self.deliveries.get(tag)?.progress.held.as_ref()
+        match &self.deliveries.get(tag)?.progress.held {
+            Some(held) => Some(held),
+            None => None,
+        }
     }
 
     /// The sender, with the fate of each of its registrations.

@@ -1,10 +1,11 @@
 //! Whole runs of a pair.
 use crate::measured::Work;
 use crate::payloads::message_of;
-use crate::refused::{Refused, done};
+use crate::refused::{Refused, completed, done};
 use crate::unread::Unread;
+use amqp_link::LinkExt;
+use amqp_link::pair::{OrAborted, Pair};
 use amqp_link::types::{DeliveryTag, Payload};
-use amqp_link::{OrAborted, Pair};
 use std::alloc::Global;
 
 /// A delivery is sent, cut off after its first transfer, resumed, handed out and settled.
@@ -108,9 +109,74 @@ fn arrive(pair: &mut Pair) -> Result<u64, Refused> {
     offset
 }
 
+// Hands the delivery out and settles it.
+fn take(pair: &mut Pair, tag: &DeliveryTag) -> Result<(), Refused> {
+    drop(done(pair.hand_out::<Unread>(tag))?);
+    done(pair.settle(tag))
+}
+
 // Hands the delivery out and settles it, and cuts the link.
 fn settle(pair: &mut Pair, tag: &DeliveryTag) -> Result<(), Refused> {
-    drop(done(pair.hand_out::<Unread>(tag))?);
-    done(pair.settle(tag))?;
+    take(pair, tag)?;
     done(pair.cut())
+}
+
+/// Deliveries of 64 bytes are sent, arrive, are handed out and settled, while so many are pending.
+#[derive(Drop)]
+pub struct Holding {
+    alloc: Global,
+    pair: Pair,
+    payload: Payload,
+    // The number of the delivery that is settled next.
+    oldest: u32,
+    count: u32,
+}
+
+impl Holding {
+    /// So many that are pending, and so many that are sent and settled beside them.
+    pub fn ready(alloc: Global, size: u32, limit: u32, count: u32) -> Result<Holding, Refused> {
+        let payload = message_of(alloc, 64)?;
+        let mut holding = Holding {
+            alloc,
+            pair: done(Pair::new(alloc, 0))?,
+            payload,
+            oldest: 0,
+            count,
+        };
+        let answer = holding.fill(size, limit);
+        completed(holding, answer)
+    }
+
+    fn fill(&mut self, size: u32, limit: u32) -> Result<(), Refused> {
+        done(self.pair.attach(limit))?;
+        done(self.pair.grant(u32::MAX))?;
+        for _ in 0..size {
+            self.send()?;
+        }
+        Ok(())
+    }
+
+    fn send(&mut self) -> Result<(), Refused> {
+        drop(done(self.pair.send(&self.payload))?);
+        drop(done(self.pair.arrive(0))?);
+        Ok(())
+    }
+
+    fn settle_oldest(&mut self) -> Result<(), Refused> {
+        let tag = DeliveryTag::copied(self.alloc, &self.oldest.to_be_bytes())?;
+        self.oldest = self.oldest.wrapping_add(1);
+        let settled = take(&mut self.pair, &tag);
+        drop(tag);
+        settled
+    }
+}
+
+impl Work for Holding {
+    fn perform(&mut self) -> Result<u64, Refused> {
+        for _ in 0..self.count {
+            self.send()?;
+            self.settle_oldest()?;
+        }
+        Ok(self.pair.receiver().unsettled().len() as u64)
+    }
 }

@@ -3,7 +3,7 @@ use crate::exchanging::{Attaching, Exchanging};
 use crate::inboxes::{Keeping, Reattaching, Streaming};
 use crate::measured::{Measured, measure};
 use crate::merging::Merging;
-use crate::pairs::Walking;
+use crate::pairs::{Holding, Walking};
 use crate::payloads::Kind;
 use crate::receiving::{Flowing, Receiving};
 use crate::refused::Refused;
@@ -54,6 +54,8 @@ pub enum Task {
     Stream,
     /// A pair sends, is cut, resumes, hands out and settles.
     Pair,
+    /// A pair sends, hands out and settles deliveries of 64 bytes while so many are pending.
+    Hold,
 }
 
 /// How much is done: a work of this size, so often.
@@ -92,6 +94,7 @@ impl Task {
             Task::Frame => "ledger: frames",
             Task::Stream => "inbox: frames",
             Task::Pair => "pair through a cut",
+            Task::Hold => "pair: send, settle",
         }
     }
 
@@ -100,7 +103,7 @@ impl Task {
         match self {
             Task::Split | Task::Merge | Task::Receive | Task::Pair => "bytes",
             Task::Scan(_) | Task::Position => "bytes",
-            Task::Deliver => "pending",
+            Task::Deliver | Task::Hold => "pending",
             Task::Release => "a release",
             Task::Keep => "kept",
             Task::Frame | Task::Stream => "frames",
@@ -114,7 +117,7 @@ impl Task {
         match self {
             Task::Split | Task::Merge | Task::Receive | Task::Pair => of(10_000, 1),
             Task::Scan(_) | Task::Position => of(1_000, 1),
-            Task::Deliver | Task::Keep => of(1, 1),
+            Task::Deliver | Task::Keep | Task::Hold => of(1, 1),
             Task::Release => of(10, 10),
             Task::Resolve | Task::BatchDispose | Task::DisposeAll => of(10, 1),
             Task::Attach | Task::Exchange | Task::Reattach => of(10, 1),
@@ -131,7 +134,9 @@ impl Task {
             Task::Scan(_) | Task::Position => {
                 [of(64, 100_000), of(65_536, 100), of(1_048_576, 10)]
             }
-            Task::Deliver | Task::Keep => [of(1, 10_000), of(100, 10_000), of(10_000, 1_000)],
+            Task::Deliver | Task::Keep | Task::Hold => {
+                [of(1, 10_000), of(100, 10_000), of(10_000, 1_000)]
+            }
             Task::Release => [of(1, 10_000), of(1_000, 100_000), of(1_000, 1_000_000)],
             Task::Resolve | Task::BatchDispose | Task::DisposeAll => {
                 [of(10, 1), of(1_000, 1), of(10_000, 1)]
@@ -180,12 +185,13 @@ impl Task {
             Task::Frame => measure(clock, Framing::ready(alloc, length)?),
             Task::Stream => measure(clock, Streaming::ready(alloc, size)?),
             Task::Pair => measure(clock, Walking::ready(alloc, length, LIMIT, count)?),
+            Task::Hold => measure(clock, Holding::ready(alloc, size, LIMIT, count)?),
         }
     }
 }
 
 /// All works, in the order in which they are printed.
-pub fn all() -> [Task; 21] {
+pub fn all() -> [Task; 22] {
     [
         Task::Split,
         Task::Merge,
@@ -208,5 +214,6 @@ pub fn all() -> [Task; 21] {
         Task::Frame,
         Task::Stream,
         Task::Pair,
+        Task::Hold,
     ]
 }

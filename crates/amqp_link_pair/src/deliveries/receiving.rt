@@ -16,7 +16,7 @@ use crate::receiving::{begin, go_on};
 use amqp_link_core::incomplete_transfer::IncompleteTransfer;
 use amqp_link_receiver::receiver_link::ReceiverLink;
 use amqp_link_types::frame::LinkFrame;
-use amqp_link_types::types::{DeliveryNumber, DeliveryTag, Target};
+use amqp_link_types::types::{Boxed, DeliveryNumber, DeliveryTag, Target};
 use std::alloc::{AllocError, Global};
 
 // Makes the receiver report a front of a delivery. Allocates only if there was no report of it.
@@ -32,10 +32,23 @@ fn report(
     receiver.on_incomplete_transfer(tag, place.0, place.1)
 }
 
+// Begins a delivery with its first transfer, which has this id, in memory of its own.
+fn begin_boxed(
+    alloc: Global,
+    frame: &LinkFrame,
+    id: DeliveryNumber,
+) -> Result<Boxed<IncompleteTransfer>, AllocError>
+    requires { CanReceive None id frame.now }
+    ensures { IfOk result (λ held. held ≡ held_after None id frame.now) }
+{
+    let begun = begin(alloc, frame, id)?;
+    Ok(Boxed::new(alloc, begun)?)
+}
+
 // What is held once a transfer has arrived, and the receiver's report of it. Returns the position of what is
 // held.
 fn hold(
-    held: &mut Option<IncompleteTransfer>,
+    held: &mut Option<Boxed<IncompleteTransfer>>,
     receiver: &mut ReceiverLink<Target>,
     alloc: Global,
     tag: &DeliveryTag,
@@ -59,7 +72,7 @@ fn hold(
             Ok(place)
         }
         None => {
-            let begun = begin(alloc, frame, id)?;
+            let begun = begin_boxed(alloc, frame, id)?;
             let place = begun.position();
             if let Err(refused) = report(receiver, tag, place) {
                 drop(begun);
