@@ -17,7 +17,7 @@
 //! - `position`, how far into a message a number of bytes reaches; `verification` of sources and targets; `laws`,
 //!   what holds over the definitions that contracts cite.
 //!
-//! The names that most callers need are re-exported here as well.
+//! The names that a caller of links needs are re-exported here as well.
 #![tactic(auto)]
 
 pub mod credit_run;
@@ -38,14 +38,12 @@ pub mod state;
 pub mod types;
 pub mod verification;
 
-pub use credit_run::{Arrival, CreditRun, CreditRunError};
 pub use delivery::{Delivery, DeliveryInfo, Sendable};
 pub use endpoint::{Link, LinkAttach, LinkDetach, LinkExt, LinkParts};
 pub use frame::{LinkFrame, LinkTransfer};
 pub use inbox::Inbox;
 pub use incomplete_transfer::IncompleteTransfer;
 pub use ledger::{Fate, OutcomeLedger};
-pub use pair::{Answer, Arrived, Event, OrAborted, Pair, PairError, Progress, Resumed, Sent};
 pub use receiver_link::ReceiverLink;
 pub use sender_link::{SenderLink, Sending, Waiting};
 pub use types::{DeliveryState, DeliveryTag, Payload, Whole};

@@ -1,6 +1,7 @@
 //! Worked values of a credit run, and a walk of 1,000 calls past the wrap of delivery-counts.
 use crate::assertions::{assert_equal, assert_equal_at};
-use amqp_link::{Arrival, CreditRun, CreditRunError, LinkExt, Payload};
+use amqp_link::credit_run::{Arrival, CreditRun, CreditRunError};
+use amqp_link::{LinkExt, Payload};
 use std::alloc::{AllocError, Global};
 use std::process::Abort;
 

@@ -5,7 +5,8 @@ use crate::script::{
     CUT_OFF, Call, RESUMED, SENT_AGAIN, Sample, Seen, TWELVE, WITHDRAWN, new_sample,
 };
 use amqp_link::errors::LinkStateError;
-use amqp_link::{DeliveryState, DeliveryTag, Fate, LinkExt, OrAborted, Pair, PairError, Whole};
+use amqp_link::pair::{OrAborted, Pair, PairError};
+use amqp_link::{DeliveryState, DeliveryTag, Fate, LinkExt, Whole};
 use std::process::Abort;
 
 fn arrive(pair: &mut Pair, id: u32, sample: &Sample) -> Result<Seen, PairError> {

@@ -1,7 +1,8 @@
 //! The smallest frame limits, at both ends of the delivery-count, and a long run at a small one.
 use crate::assertions::{assert_equal, assert_equal_at};
 use crate::script::TWELVE;
-use amqp_link::{DeliveryState, DeliveryTag, Fate, LinkExt, OrAborted, Pair, PairError, Payload};
+use amqp_link::pair::{OrAborted, Pair, PairError};
+use amqp_link::{DeliveryState, DeliveryTag, Fate, LinkExt, Payload};
 use std::process::Abort;
 
 // The calls of a pair stand in functions without a contract: each call in a test is proved with all that the

@@ -1,8 +1,9 @@
 //! Worked values of a pair.
 use crate::assertions::assert_equal;
 use crate::script::{TWELVE, tag};
+use amqp_link::pair::{OrAborted, Pair, PairError};
 use amqp_link::types::DataBody;
-use amqp_link::{DeliveryTag, LinkExt, OrAborted, Pair, PairError, Payload};
+use amqp_link::{DeliveryTag, LinkExt, Payload};
 
 // The calls of a pair stand in functions without a contract: each call in a test is proved with all that the
 // contracts of those before it say.

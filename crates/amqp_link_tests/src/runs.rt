@@ -3,7 +3,8 @@ use crate::assertions::{assert_equal, assert_equal_at, assert_holds_at};
 use crate::script::{
     CUT_OFF, Call, RESUMED, SENT_AGAIN, Sample, Seen, TWELVE, WITHDRAWN, new_sample,
 };
-use amqp_link::{Answer, DeliveryTag, Event, Fate, Pair, PairError, Payload};
+use amqp_link::pair::{Answer, Event, Pair, PairError};
+use amqp_link::{DeliveryTag, Fate, Payload};
 use std::alloc::{AllocError, Global};
 use std::process::Abort;
 

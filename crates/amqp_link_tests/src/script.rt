@@ -1,7 +1,8 @@
 //! Scripts of a delivery of twelve bytes that is cut off, with what each call returns: before it arrives, to be put
 //! back, sent again, handed out and settled; after ten bytes, to be resumed and handed out; and after five, to be
 //! withdrawn and aborted.
-use amqp_link::{DeliveryTag, PairError, Payload};
+use amqp_link::pair::PairError;
+use amqp_link::{DeliveryTag, Payload};
 use std::alloc::{AllocError, Global};
 use std::process::Abort;
 

@@ -2,7 +2,7 @@
 use Rattle.std.specs.Prelude.{ℕ, ◌/◌, ◌^◌, ◌-◌, ◌&&◌, Bool, not, nat_lt, [], ◌∷◌, ◌++◌}
 use Rattle.amqp_link.specs.CreditCalls.{RunTests, forward_tests, is_lowered}
 use Rattle.amqp_link.specs.CreditWorlds.{CreditWorld}
-use Rattle.amqp_link.specs.declared.CreditRunError.TheVariants as error
+use Rattle.amqp_link.specs.declared.credit_run.CreditRunError.TheVariants as error
 
 -- at most half of the window's credits are left: the window is stated again
 abbrev pub is_due : CreditWorld → ℕ → Bool

@@ -7,7 +7,8 @@ ghost use Rattle.amqp_link.specs.Worlds.{IsRegistered, bytes_in, held_at};
 ghost use Rattle.amqp_link_uses.specs.Walks.{KeepsRegistered};
 
 use amqp_link::laws::held_is_what_was_sent;
-use amqp_link::{DeliveryTag, OrAborted, Pair, PairError, Payload, Whole};
+use amqp_link::pair::{OrAborted, Pair, PairError};
+use amqp_link::{DeliveryTag, Payload, Whole};
 use std::alloc::Global;
 
 /// Sends a payload over a new pair, whose link is cut after its first transfer, and returns what the receiver hands

@@ -8,7 +8,8 @@ ghost use Rattle.amqp_link.specs.CreditWorlds.{IsCreditWorld, under_way};
 ghost use Rattle.amqp_link_uses.specs.Windows.{taking_tests, window_tests};
 ghost use Rattle.amqp_link.specs.Refusals.{AnswersOrOutOfMemory, AnswersThenOutOfMemory, refusal};
 
-use amqp_link::{Arrival, CreditRun, CreditRunError, Delivery, LinkExt, Whole};
+use amqp_link::credit_run::{Arrival, CreditRun, CreditRunError};
+use amqp_link::{Delivery, LinkExt, Whole};
 
 /// States the whole window again, if at most half of its credits are left. Returns whether it did.
 ///

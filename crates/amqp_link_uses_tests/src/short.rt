@@ -3,11 +3,10 @@ use crate::assertions::{assert_equal, assert_equal_at, assert_holds};
 use crate::samples::{
     attach_of, attached_receiver, attaching_sender, flow_of, payload, resuming, transfer,
 };
+use amqp_link::credit_run::{CreditRun, CreditRunError};
 use amqp_link::errors::SenderAttachError;
 use amqp_link::types::{Attach, Role, SenderSettleMode, Target, Transfer};
-use amqp_link::{
-    CreditRun, CreditRunError, Delivery, LinkExt, LinkFrame, Payload, ReceiverLink, Whole,
-};
+use amqp_link::{Delivery, LinkExt, LinkFrame, Payload, ReceiverLink, Whole};
 use amqp_link_uses::short::{ReceiveOneError, SendOneError, accept, receive_one, send_one};
 use amqp_link_uses::walk::deliver_through_a_cut;
 use amqp_link_uses::window::{keep_open, take_next};

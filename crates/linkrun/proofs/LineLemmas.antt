@@ -8,7 +8,7 @@ use Rattle.line_text.specs.Hex.{IsHexText, hex_bytes}
 use Rattle.linkrun.specs.Line.{IsNumber, IsBytes, Begins, Denotes, DenotesNoWord, DenotesNoNumber, DenotesNoBytes}
 use Rattle.linkrun.specs.declared.event.Event.{Event}
 use Rattle.linkrun.specs.declared.event.Event.TheVariants.{Call, Show, Fate}
-use Rattle.amqp_link.specs.declared.Event.TheVariants as call
+use Rattle.amqp_link.specs.declared.pair.Event.TheVariants as call
 
 -- behind the word stands nothing but the text
 pub begins_not : (word line text : List ℕ) (P : List ℕ → Type 0) → line ≡ word ++ text → ¬ (P text) → ¬ (Begins word P line)

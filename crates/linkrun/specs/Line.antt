@@ -4,7 +4,7 @@ use Rattle.std.specs.Str.Parse.{IsNumeral, digits_value}
 use Rattle.line_text.specs.Hex.{IsHexText, hex_bytes}
 use Rattle.linkrun.specs.declared.event.Event.{Event}
 use Rattle.linkrun.specs.declared.event.Event.TheVariants.{Call, Show, Fate}
-use Rattle.amqp_link.specs.declared.Event.TheVariants as call
+use Rattle.amqp_link.specs.declared.pair.Event.TheVariants as call
 
 -- the text is the number n, in decimal digits and nothing else
 pub record IsNumber (text : List ℕ) (n : ℕ) : Type 0 where

@@ -1,10 +1,8 @@
 //! The answer of the pair to an event, as it is printed.
 use crate::event::Event;
 use crate::hex::{Hex, HexPieces};
-use amqp_link::{
-    Answer as Returned, Delivery, DeliveryState, DeliveryTag, Event as Call, Fate, Pair, PairError,
-    Payload, Whole,
-};
+use amqp_link::pair::{Answer as Returned, Event as Call, Pair, PairError};
+use amqp_link::{Delivery, DeliveryState, DeliveryTag, Fate, Payload, Whole};
 use std::{array, fmt};
 
 /// The answer to an event.

@@ -4,7 +4,8 @@ ghost use Rattle.linkrun.specs.declared.event.Event.{Event};
 ghost use Rattle.linkrun.specs.Line.{IsNumber, IsBytes, Begins, Denotes, DenotesNoWord, DenotesNoNumber, DenotesNoBytes};
 
 use crate::number::parse_number;
-use amqp_link::{DeliveryTag, Event as Call, Payload};
+use amqp_link::pair::Event as Call;
+use amqp_link::{DeliveryTag, Payload};
 use line_text::hex::parse_bytes;
 use std::alloc::{AllocError, Global};
 

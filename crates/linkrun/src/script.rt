@@ -3,7 +3,7 @@ use crate::answer::perform;
 use crate::event::{Event, parse_event};
 use crate::fault::Fault;
 use crate::status::Status;
-use amqp_link::{Pair, PairError};
+use amqp_link::pair::{Pair, PairError};
 use line_text::line::read_line;
 use std::alloc::Global;
 use std::io;

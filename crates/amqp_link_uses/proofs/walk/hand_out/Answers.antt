@@ -3,7 +3,7 @@ use Rattle.amqp_link.specs.Bodies.{whole_message}
 use Rattle.amqp_link.specs.Refusals.{refusal}
 use Rattle.amqp_link.specs.Steps.{has_flag, hand_out_tests, is_unknown}
 use Rattle.amqp_link.specs.Worlds.{World, is_together}
-use Rattle.amqp_link.specs.declared.PairError.TheVariants as error
+use Rattle.amqp_link.specs.declared.pair.PairError.TheVariants as error
 use Rattle.amqp_link_uses.proofs.walk.hand_out.Goals as goal
 
 some_is_not_none : {A : Type 0} {a : A} → Some a ≡ None → ⊥

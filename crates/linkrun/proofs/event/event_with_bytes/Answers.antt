@@ -1,7 +1,7 @@
 use Rattle.std.proofs.lemmas.Option.{MatchOption-at_none}
 use Rattle.linkrun.specs.Line.{Denotes}
 use Rattle.linkrun.specs.declared.event.Event.TheVariants.{Call, Show}
-use Rattle.amqp_link.specs.declared.Event.TheVariants as call
+use Rattle.amqp_link.specs.declared.pair.Event.TheVariants as call
 use Rattle.linkrun.proofs.LineLemmas.{event_denoted}
 use Rattle.linkrun.proofs.event.event_with_bytes.Goals as goal
 
