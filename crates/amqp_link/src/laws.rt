@@ -24,5 +24,5 @@ pub use amqp_link_worlds::laws::{
     an_attach_hands_out_each_delivery_once, each_call_keeps_a_pair, each_run_keeps_a_pair,
     endpoints_refuse_only_for_memory, fates_move_once_in_a_run, held_is_what_arrived,
     held_is_what_was_sent, no_payload_changes, only_a_settlement_resolves,
-    out_from_send_or_resumption_on,
+    only_arrivals_and_settlements_change_what_is_held, out_from_send_or_resumption_on,
 };

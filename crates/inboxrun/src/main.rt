@@ -1,6 +1,7 @@
 //! Takes one delivery through two interruptions at an inbox, and prints what each call returns, one a line.
 //!
-//! The frames are those of a peer, written by hand. The exit status is 0, or 1 if it is out of memory or writing fails.
+//! The frames are those of a peer, written by hand. A call that is refused, out of memory too, has the answer `refused`. The exit
+//! status is 0; it is 1 if writing fails, or if there is no memory for the calls and their answers.
 #![tactic(auto)]
 
 mod calls;
