@@ -4,7 +4,8 @@
 //! a delivery from the position that the peer reported (`send_rest`), or all of it if the peer has nothing
 //! (`send_again`). Deliveries that are to be aborted, or whose outcome is to be stated again, are left out here. The
 //! relay's ledger has the fate of each registration. After an exchange that did not state all deliveries it detaches the
-//! link (`detach_to_attach_again`) and attaches it again, until an exchange is complete.
+//! link (`detach_to_attach_again`) and attaches it again, until an exchange is complete. Between two of these the peer has to
+//! settle some of what was sent.
 
 ghost use Rattle.std.specs.Prelude.{◌≡◌, ◌⊎◌, ◌++◌, List, ℕ, map, true, false, None, Some, unwrap_or};
 ghost use Rattle.std.specs.Prelude.{IfOk, IfErr, OnOk, OnErr, IsErrOf, IsSomeAnd, MatchResult};
@@ -43,7 +44,8 @@ pub struct Reattached {
     /// Whether an attach did not state all deliveries. The list has each of the relay's own all the same: one that the
     /// peer's attach did not state is listed as `Resend`, though the peer may have received something of it. So the
     /// relay sends what is listed as anything else, puts each `Resend` back (`OutcomeLedger::put_back`), and then
-    /// detaches the link (`detach_to_attach_again`) and attaches it again.
+    /// detaches the link (`detach_to_attach_again`) and attaches it again, once the peer has settled some of what was sent:
+    /// until then the next attach states the same ones.
     pub is_incomplete: bool,
 }
 

@@ -60,7 +60,7 @@ impl<T: LinkTarget> Inbox<T> {
     /// incomplete. The others it resumes or settles: a transfer with `resume`, or a disposition, comes for each.
     ///
     /// No delivery has an id in this attachment until its sender has resumed it, so `dispose` refuses it with `NotResumed`.
-    /// The link-credit stays as it was, and the sender's is zero: state a window by `send_flow`.
+    /// The link-credit stays as it was; a sender keeps its own, or begins with none: state a window by `send_flow`.
     ///
     /// Refused as `ReceiverLink::on_incoming_attach` refuses it, in that order and with the link that it leaves; where its
     /// state has moved, nothing is under way, and no delivery has an id. `OutOfMemory`, with nothing changed, may come before

@@ -135,7 +135,8 @@ impl<T: LinkTarget> Inbox<T> {
     }
 
     /// Keeps the outcome of a delivery that was taken, in any state of the link: the next attach states it, and the sender
-    /// settles the delivery by it, or resumes it to learn it (2.6.13). Then dispose of it by the id that it has there.
+    /// settles the delivery by it, or resumes it to learn it (2.6.13). Then dispose of it by the id that it has there. One that
+    /// the sender settles is kept until it states the delivery no more, in an attach after that one.
     ///
     /// Refused in this order, with nothing changed: `UnknownTag` and `NotTaken`, as by `dispose`. Does not allocate.
     pub fn keep_outcome(
