@@ -1,13 +1,14 @@
 //! A link endpoint of either role, replayed.
-use crate::answer::{Answer, StepError, refused};
-use crate::made::Made;
 use crate::receiver::ReceiverEnd;
-use crate::row::{Call, NewLink};
+use crate::refusal::refused;
 use crate::sender::SenderEnd;
 use amqp_link::errors::{ApplyRemoteDetachError, DetachError};
 use amqp_link::state::LinkState;
 use amqp_link::types::{DeliveryNumber, Disposition, Role, TargetArchetype};
 use amqp_link::{LinkFrame, LinkParts};
+use frame_rows::row::{Call, NewLink};
+use replay_report::answer::{Answer, StepError};
+use replay_report::made::Made;
 use std::alloc::Global;
 
 /// A link endpoint.

@@ -1,20 +1,12 @@
-//! Replays rows of frames: one frame that arrives at a link endpoint, one call of its user, or one stated fact a line.
+//! Runs rows of frames: each frame that arrives at a link endpoint, and each call of its user.
 //!
-//! `row` has the rows, and `reading` how each is written; `endpoint` makes the calls of a sender's or a receiver's link; `made`
-//! keeps what it has made and no row has stated yet, and compares; `replay` runs the rows of a reader, and writes each fact that
-//! differs.
+//! `endpoint` makes the calls of a sender's or a receiver's link, and `trace` runs the rows of a trace over it. `replay_report`
+//! compares what an endpoint has made with what is stated, and `replay_report::replay` replays the rows of a reader.
 #![tactic(auto)]
 
-mod answer;
-mod compare;
 mod endpoint;
-pub mod laws;
-mod made;
-mod reading;
 mod receiver;
-pub mod replay;
-mod row;
+mod refusal;
+mod returned;
 mod sender;
-mod tally;
-mod trace;
-mod words;
+pub mod trace;

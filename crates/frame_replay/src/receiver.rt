@@ -1,8 +1,7 @@
 //! A receiver's link, replayed.
-use crate::answer::{Answer, StepError, refused, refused_with, taken};
 use crate::endpoint::{names, parts_of, peer_is_answering, recorded, replied};
-use crate::made::{Made, copy_of_state};
-use crate::row::{Call, HandedOut, NewLink};
+use crate::refusal::{refused, refused_with, taken};
+use crate::returned::{add_all_returned, add_reply, add_returned};
 use amqp_link::inbox::{Arrival, Arrived, Inbox, TakeError};
 use amqp_link::types::{
     Attach, Boxed, DeliveryNumber, Detach, Disposition, OutputHandle, TargetArchetype, Whole,
@@ -10,6 +9,9 @@ use amqp_link::types::{
 use amqp_link::{
     Delivery, DeliveryState, DeliveryTag, LinkDetach, LinkExt, LinkFrame, LinkTransfer,
 };
+use frame_rows::row::{Call, HandedOut, NewLink};
+use replay_report::answer::{Answer, StepError};
+use replay_report::made::{Made, copy_of_state};
 use std::alloc::Global;
 
 /// A receiver's endpoint, and the deliveries that it has handed out, by the ids of their session.
@@ -55,7 +57,7 @@ impl ReceiverEnd {
     pub fn take(&mut self, made: &mut Made, frame: LinkFrame) -> Result<Answer, StepError> {
         match frame {
             LinkFrame::Attach(attach) => self.take_attach(Boxed::into_inner(attach)),
-            LinkFrame::Flow(flow) => made.add_reply(self.inbox.on_incoming_flow(flow)),
+            LinkFrame::Flow(flow) => add_reply(self.alloc, made, self.inbox.on_incoming_flow(flow)),
             LinkFrame::RemoteTransfer(transfer)
             | LinkFrame::FirstTransfer(transfer)
             | LinkFrame::TransferContinuation(transfer) => self.take_transfer(made, transfer),
@@ -177,7 +179,11 @@ impl ReceiverEnd {
                 state,
                 ids,
             } => self.dispose(made, settled, state, ids.as_slice()),
-            Call::Detach(closed) => made.add_returned(self.inbox.send_detach(closed, None)),
+            Call::Detach(closed) => add_returned(
+                self.alloc,
+                made,
+                self.inbox.send_detach(closed, None),
+            ),
             other => {
                 drop(other);
                 Err(StepError::OtherRole)
@@ -187,7 +193,7 @@ impl ReceiverEnd {
 
     fn attach(&mut self, made: &mut Made, handle: OutputHandle) -> Result<Answer, StepError> {
         *self.inbox.output_handle_mut() = Some(handle);
-        made.add_returned(self.inbox.send_attach(false))
+        add_returned(self.alloc, made, self.inbox.send_attach(false))
     }
 
     // A row's credit counts the delivery that is under way; the inbox has counted it as it began.
@@ -199,10 +205,10 @@ impl ReceiverEnd {
         echo: bool,
     ) -> Result<Answer, StepError> {
         let further = credit.saturating_sub(u32::from(self.is_under_way));
-        made.add_returned(
-            self.inbox
-                .send_flow(Some(further), Some(drain), echo, false),
-        )
+        let flow = self
+            .inbox
+            .send_flow(Some(further), Some(drain), echo, false);
+        add_returned(self.alloc, made, flow)
     }
 
     fn dispose(
@@ -217,12 +223,13 @@ impl ReceiverEnd {
             return refused_with(self.alloc, "no delivery with this id was handed out");
         };
         if let [tag] = tags.as_slice() {
-            return made.add_returned(self.inbox.dispose(tag, Some(settled), state, false));
+            let disposed = self.inbox.dispose(tag, Some(settled), state, false);
+            return add_returned(self.alloc, made, disposed);
         }
-        made.add_all_returned(
-            self.inbox
-                .dispose_all(tags.as_slice(), Some(settled), state, false),
-        )
+        let disposed = self
+            .inbox
+            .dispose_all(tags.as_slice(), Some(settled), state, false);
+        add_all_returned(self.alloc, made, disposed)
     }
 
     // The tags of the deliveries that were handed out with these ids; none if one of them was not.

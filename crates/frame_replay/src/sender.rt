@@ -1,8 +1,7 @@
 //! A sender's link, replayed.
-use crate::answer::{Answer, StepError, refused, refused_with, taken};
 use crate::endpoint::{names, parts_of, peer_is_answering, recorded, replied};
-use crate::made::{Made, copy_of_state};
-use crate::row::{Call, DisposedOne, NewLink, Sent, StateName};
+use crate::refusal::{refused, refused_with, taken};
+use crate::returned::{add_all_returned, add_given_back, add_reply, add_returned};
 use amqp_link::delivery::Outcomes;
 use amqp_link::ledger::OutcomeLedger;
 use amqp_link::sender_link::{DispositionAnswer, SenderLink, Sending, Waiting};
@@ -10,6 +9,9 @@ use amqp_link::types::{
     Attach, Boxed, DeliveryNumber, Detach, Disposition, LinkFlow, OutputHandle, TargetArchetype,
 };
 use amqp_link::{DeliveryTag, LinkAttach, LinkDetach, LinkExt, LinkFrame, LinkTransfer};
+use frame_rows::row::{Call, DisposedOne, NewLink, Sent, StateName};
+use replay_report::answer::{Answer, StepError};
+use replay_report::made::{Made, copy_of_state};
 use std::alloc::Global;
 
 /// A sender's endpoint, the ids that its session has given the deliveries, and whether its user keeps credit that is to be
@@ -71,7 +73,11 @@ impl SenderEnd {
     // The user keeps the credit of a flow that drains, and may send with it, until a row states that it is given back.
     fn take_flow(&mut self, made: &mut Made, flow: LinkFlow) -> Result<Answer, StepError> {
         self.is_draining = flow.drain;
-        made.add_reply(self.ledger.on_incoming_flow_keeping_credit(flow))
+        add_reply(
+            self.alloc,
+            made,
+            self.ledger.on_incoming_flow_keeping_credit(flow),
+        )
     }
 
     // A sender takes no transfer.
@@ -130,7 +136,11 @@ impl SenderEnd {
             Call::Attach(handle) => self.attach(made, handle),
             Call::Send(id, delivery) => self.send(made, id, delivery),
             Call::DisposeSent(tag, disposed) => self.dispose(made, &tag, disposed),
-            Call::Detach(closed) => made.add_returned(self.ledger.send_detach(closed, None)),
+            Call::Detach(closed) => add_returned(
+                self.alloc,
+                made,
+                self.ledger.send_detach(closed, None),
+            ),
             other => {
                 drop(other);
                 Err(StepError::OtherRole)
@@ -144,12 +154,12 @@ impl SenderEnd {
             return Ok(());
         }
         self.is_draining = false;
-        made.add_given_back(self.ledger.give_back_credit())
+        add_given_back(made, self.ledger.give_back_credit())
     }
 
     fn attach(&mut self, made: &mut Made, handle: OutputHandle) -> Result<Answer, StepError> {
         *self.ledger.output_handle_mut() = Some(handle);
-        made.add_returned(first_of(self.ledger.send_attach(false)))
+        add_returned(self.alloc, made, first_of(self.ledger.send_attach(false)))
     }
 
     fn send(
@@ -189,7 +199,8 @@ impl SenderEnd {
         let Some(state) = state else {
             return Err(StepError::OtherRole);
         };
-        made.add_all_returned(first_of(self.ledger.dispose(id, tag, settled, state, false)))
+        let disposed = first_of(self.ledger.dispose(id, tag, settled, state, false));
+        add_all_returned(self.alloc, made, disposed)
     }
 }
 

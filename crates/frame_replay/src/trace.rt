@@ -1,21 +1,23 @@
 //! Traces: the rows of one link endpoint each.
-use crate::answer::{Answer, Difference, StepError, answer_of};
-use crate::compare::number_difference;
 use crate::endpoint::Endpoint;
-use crate::made::Made;
-use crate::row::{Fact, NewLink, Row};
+use frame_rows::reading::read_row;
+use frame_rows::row::{Fact, NewLink, Row};
+use replay_report::answer::{Answer, Difference, StepError, answer_of};
+use replay_report::compare::number_difference;
+use replay_report::made::Made;
+use replay_report::replay::RunLine;
 use std::alloc::Global;
 
-/// A trace that has begun, and has not ended.
+// A trace that has begun, and has not ended.
 #[derive(Drop)]
-pub struct Trace {
+struct Trace {
     endpoint: Endpoint,
     made: Made,
 }
 
 impl Trace {
-    /// The trace of a new link.
-    pub fn new(alloc: Global, link: NewLink) -> Result<Trace, StepError> {
+    // The trace of a new link.
+    fn new(alloc: Global, link: NewLink) -> Result<Trace, StepError> {
         Ok(Trace {
             endpoint: Endpoint::new(alloc, link)?,
             made: Made::new(alloc),
@@ -84,11 +86,9 @@ impl Traces {
         Traces { alloc, open: None }
     }
 
-    /// Runs a row.
-    ///
-    /// Refused with `NoLink` if it is a link while one is open, or another row while none is; with `OtherRole` if it is a call
-    /// of the other role; with `OutOfMemory`.
-    pub fn run(&mut self, row: Row) -> Result<Answer, StepError> {
+    // Runs a row. Refused with `NoLink` if it is a link while one is open, or another row while none is; with `OtherRole` if it
+    // is a call of the other role; with `OutOfMemory`.
+    fn run(&mut self, row: Row) -> Result<Answer, StepError> {
         match row {
             Row::Note => Ok(Answer::Taken),
             Row::Link(link) => self.begin(link),
@@ -113,5 +113,20 @@ impl Traces {
         }
         self.open = Some(Trace::new(self.alloc, link)?);
         Ok(Answer::Begun)
+    }
+}
+
+// What a row makes an endpoint do is stated by the calls of its link, and here by nothing more.
+impl RunLine for Traces {
+    ghost comes_to = { λ _ _ _ _. Unit {0} };
+
+    ghost stops_at = { λ _ _ _. Unit {0} };
+
+    /// Runs a line as a row. It is not run with `NotARow` if it is none; with `NoLink` if it is a link while one is open, or
+    /// another row while none is; with `OtherRole` if it is a call of the other role; with `OutOfMemory`.
+    fn run_line(&mut self, line: &[u8]) -> Result<(&'static str, Answer), StepError> {
+        let row = read_row(self.alloc, line)?;
+        let word = row.word();
+        Ok((word, self.run(row)?))
     }
 }

@@ -6,8 +6,9 @@
 //! out of memory.
 #![tactic(auto)]
 
-use frame_replay::replay::replay;
+use frame_replay::trace::Traces;
 use line_text::streams::buffered;
+use replay_report::replay::replay;
 use std::io::Lock;
 use std::process::ExitCode;
 
@@ -16,5 +17,7 @@ fn main(rt: HostRuntime) -> ExitCode {
     let Ok((mut input, mut output)) = buffered(alloc, rt.reader(), rt.stdout().lock()) else {
         return ExitCode::from(3);
     };
-    ExitCode::from(replay(alloc, &mut input, &mut output))
+    let mut traces = Traces::new(alloc);
+    let report = replay(alloc, &mut traces, &mut input, &mut output);
+    ExitCode::from(report.verdict.status())
 }

@@ -1,5 +1,0 @@
-pub mod Answers
-pub mod Comparing
-pub mod Counting
-pub mod Left
-pub mod Report
