@@ -2,7 +2,7 @@
 use Rattle.std.specs.Prelude.{◌≡◌, ℕ, ◌++◌, List, All, codes}
 use Rattle.std.specs.Fmt.{decimal}
 use Rattle.performative_rows.specs.declared.verdict.Verdict.{Verdict}
-use Rattle.performative_rows.specs.declared.verdict.Verdict.TheVariants.{Agreed, Disagreed, NotARow, Failed}
+use Rattle.performative_rows.specs.declared.verdict.Verdict.TheVariants.{Agreed, Disagreed}
 use Rattle.length_rows.specs.Words.{word_of}
 use Rattle.replay_lengths.specs.declared.tally.Tally.{Tally}
 
