@@ -2,10 +2,12 @@
 use crate::receiver::ReceiverEnd;
 use crate::refusal::refused;
 use crate::sender::SenderEnd;
-use amqp_link::errors::{ApplyRemoteDetachError, DetachError};
-use amqp_link::state::LinkState;
-use amqp_link::types::{DeliveryNumber, Disposition, Role, TargetArchetype};
-use amqp_link::{LinkFrame, LinkParts};
+use amqp_link_endpoint::link_parts::LinkParts;
+use amqp_link_state::state::LinkState;
+use amqp_link_types::frame::LinkFrame;
+use amqp_link_types::types::{
+    ApplyRemoteDetachError, DeliveryNumber, DetachError, Disposition, Role, TargetArchetype,
+};
 use frame_rows::row::{Call, NewLink};
 use replay_report::answer::{Answer, StepError};
 use replay_report::made::Made;

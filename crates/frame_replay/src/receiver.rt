@@ -2,12 +2,13 @@
 use crate::endpoint::{names, parts_of, peer_is_answering, recorded, replied};
 use crate::refusal::{refused, refused_with, taken};
 use crate::returned::{add_all_returned, add_reply, add_returned};
-use amqp_link::inbox::{Arrival, Arrived, Inbox, TakeError};
-use amqp_link::types::{
-    Attach, Boxed, DeliveryNumber, Detach, Disposition, OutputHandle, TargetArchetype, Whole,
-};
-use amqp_link::{
-    Delivery, DeliveryState, DeliveryTag, LinkDetach, LinkExt, LinkFrame, LinkTransfer,
+use amqp_link_endpoint::endpoint::{LinkDetach, LinkExt};
+use amqp_link_inbox::{Arrival, Arrived, Inbox, TakeError};
+use amqp_link_types::delivery::Delivery;
+use amqp_link_types::frame::{LinkFrame, LinkTransfer};
+use amqp_link_types::types::{
+    Attach, Boxed, DeliveryNumber, DeliveryState, DeliveryTag, Detach, Disposition, OutputHandle,
+    TargetArchetype, Whole,
 };
 use frame_rows::row::{Call, HandedOut, NewLink};
 use replay_report::answer::{Answer, StepError};

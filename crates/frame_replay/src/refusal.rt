@@ -2,11 +2,11 @@
 ghost use Rattle.std.specs.Prelude.{◌≡◌, IfOk, MatchResult};
 ghost use Rattle.replay_report.specs.Answers.{IsRefusal};
 
-use amqp_link::errors::{
+use amqp_link_inbox::{DisposeError, TakeError};
+use amqp_link_types::types::{
     ApplyRemoteDetachError, DetachError, DispositionError, FlowError, LinkRelayError,
     LinkStateError, ReceiverAttachError, ReceiverTransferError, SenderAttachError,
 };
-use amqp_link::inbox::{DisposeError, TakeError};
 use replay_report::answer::{Answer, StepError};
 use std::alloc::Global;
 use std::fmt;

@@ -1,8 +1,7 @@
 //! What a call of an endpoint has returned, added to what the endpoint has made.
 use crate::refusal::{Refusal, refused};
-use amqp_link::LinkFrame;
-use amqp_link::errors::LinkRelayError;
-use amqp_link::types::LinkFlow;
+use amqp_link_types::frame::LinkFrame;
+use amqp_link_types::types::{LinkFlow, LinkRelayError};
 use replay_report::answer::{Answer, StepError};
 use replay_report::made::Made;
 use std::alloc::Global;

@@ -2,13 +2,15 @@
 use crate::endpoint::{names, parts_of, peer_is_answering, recorded, replied};
 use crate::refusal::{refused, refused_with, taken};
 use crate::returned::{add_all_returned, add_given_back, add_reply, add_returned};
-use amqp_link::delivery::Outcomes;
-use amqp_link::ledger::OutcomeLedger;
-use amqp_link::sender_link::{DispositionAnswer, SenderLink, Sending, Waiting};
-use amqp_link::types::{
-    Attach, Boxed, DeliveryNumber, Detach, Disposition, LinkFlow, OutputHandle, TargetArchetype,
+use amqp_link_endpoint::endpoint::{LinkAttach, LinkDetach, LinkExt};
+use amqp_link_ledger::ledger::OutcomeLedger;
+use amqp_link_sender::sender_link::{DispositionAnswer, SenderLink, Sending, Waiting};
+use amqp_link_types::delivery::Outcomes;
+use amqp_link_types::frame::{LinkFrame, LinkTransfer};
+use amqp_link_types::types::{
+    Attach, Boxed, DeliveryNumber, DeliveryTag, Detach, Disposition, LinkFlow, OutputHandle,
+    TargetArchetype,
 };
-use amqp_link::{DeliveryTag, LinkAttach, LinkDetach, LinkExt, LinkFrame, LinkTransfer};
 use frame_rows::row::{Call, DisposedOne, NewLink, Sent, StateName};
 use replay_report::answer::{Answer, StepError};
 use replay_report::made::{Made, copy_of_state};

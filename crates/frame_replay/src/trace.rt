@@ -86,6 +86,11 @@ impl Traces {
         Traces { alloc, open: None }
     }
 
+    /// Drops the trace that is under way, if one is. Who calls this need not prove that drop once more.
+    pub fn finish(self) {
+        drop(self);
+    }
+
     // Runs a row. Refused with `NoLink` if it is a link while one is open, or another row while none is; with `OtherRole` if it
     // is a call of the other role; with `OutOfMemory`.
     fn run(&mut self, row: Row) -> Result<Answer, StepError> {

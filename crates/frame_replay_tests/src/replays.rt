@@ -32,8 +32,15 @@ struct Ran {
 
 fn run<R: BufRead>(alloc: Global, input: &mut R) -> Ran {
     let mut output = Vec::new(alloc);
-    let status = replay(alloc, input, &mut output);
+    let status = status_of(alloc, input, &mut output);
     Ran { output, status }
+}
+
+fn status_of<R: BufRead, W: Write>(alloc: Global, input: &mut R, output: &mut W) -> u8 {
+    let mut traces = Traces::new(alloc);
+    let report = replay(alloc, &mut traces, input, output);
+    traces.finish();
+    report.verdict.status()
 }
 
 fn expect(rt: &impl Abort, alloc: Global, rows: &str, output: &str, status: u8) {
@@ -318,7 +325,7 @@ fn a_failed_write_has_a_status_of_its_own(rt: HostRuntime) {
     for (rows, room) in WRITTEN_IN_PART {
         let mut input = rows.as_bytes();
         let mut output = Narrow { room: *room };
-        let status = replay(rt.alloc(), &mut input, &mut output);
+        let status = status_of(rt.alloc(), &mut input, &mut output);
         assert_eq!(rt; status, 3, "at {rows:?}");
     }
 }

@@ -19,5 +19,6 @@ fn main(rt: HostRuntime) -> ExitCode {
     };
     let mut traces = Traces::new(alloc);
     let report = replay(alloc, &mut traces, &mut input, &mut output);
+    traces.finish();
     ExitCode::from(report.verdict.status())
 }
