@@ -163,6 +163,9 @@ pub trait LinkAttach: LinkDetach {
     /// reattached states none of its deliveries and keeps none: the outcome of each is returned, in their
     /// order.
     ///
+    /// A sender that is unattached states its initial delivery-count, in each other state its present one, as the
+    /// deliveries before it are not sent again (2.6.4); a receiver states its initial one, which its peer ignores.
+    ///
     /// Refused in this order, with nothing changed: illegal state without output handle, then if there is no
     /// transition from this state; too large if even an empty unsettled map does not fit. Out of memory may
     /// come before the last, since the attach is made before it is measured.

@@ -19,7 +19,8 @@ use indexmap::map::{IntoIter, Iter};
 use std::alloc::{AllocError, AllocFailed, Global};
 use std::marker::Model;
 
-/// Values by name, in the order in which they were first put (2.8.13).
+/// Values by name, in the order in which they were first put (2.8.13). Two of them are equal if their pairs are, in this
+/// order: to compare what two peers state, look its names up.
 ///
 /// A contract sees the list of the pairs, each a name and the data of its value.
 #[derive(Debug, Drop)]
