@@ -55,6 +55,8 @@ pub use Rattle.amqp_link_receiver.specs.Completing
 pub use Rattle.amqp_link_receiver.specs.ReceiverAttaches
 pub use Rattle.amqp_link_receiver.specs.ReceiverDeliveries
 pub use Rattle.amqp_link_receiver.specs.Receivers
+pub use Rattle.amqp_link_resuming.specs.ResumingSteps
+pub use Rattle.amqp_link_resuming.specs.SendingAgain
 pub use Rattle.amqp_link_runs.specs.Order
 pub use Rattle.amqp_link_runs.specs.Runs
 pub use Rattle.amqp_link_sender.specs.SenderAttaches

@@ -1,0 +1,2 @@
+pub mod ResumingSteps
+pub mod SendingAgain
