@@ -19,6 +19,8 @@ use Rattle.amqp_link.specs.Taking.{AnswersTake, IsGivenBack, has_taken}
 use Rattle.amqp_link.specs.declared.inbox.TakeError.{TakeError}
 use Rattle.amqp_link.specs.declared.inbox.TakeError.TheVariants as take
 use Rattle.amqp_link.specs.declared.inbox.Undecoded.{Undecoded}
+use Rattle.amqp_link.specs.declared.resumption.Step.{Step}
+use Rattle.amqp_link.specs.declared.resumption.Step.TheVariants as step
 use Rattle.amqp_link.specs.declared.errors.DecodeError.{DecodeError}
 use Rattle.amqp_link.specs.declared.types.DeliveryState.{DeliveryState}
 use Rattle.amqp_link.specs.declared.types.Message.{Message as Decoded}
@@ -30,8 +32,6 @@ use Rattle.amqp_link_uses.specs.declared.broker.Origin.{Origin}
 use Rattle.amqp_link_uses.specs.declared.broker.errors.TakeInError.TheVariants as take_in
 use Rattle.amqp_link_uses.specs.declared.broker.incoming.Progress.{Progress}
 use Rattle.amqp_link_uses.specs.declared.broker.incoming.Progress.TheVariants as progress
-use Rattle.amqp_link_uses.specs.declared.broker.resuming.Step.{Step}
-use Rattle.amqp_link_uses.specs.declared.broker.resuming.Step.TheVariants as step
 
 -- bytes as they are are read, whatever they are
 never_undecoded : (held : Option Held) (u : Undecoded) → IsSomeAnd held (λ h. IsGivenBack whole_message h u) → ⊥

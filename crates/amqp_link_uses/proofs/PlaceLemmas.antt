@@ -28,8 +28,8 @@ use Rattle.amqp_link_uses.specs.declared.broker.errors.SendError.TheVariants as 
 use Rattle.amqp_link_uses.specs.declared.broker.incoming.Progress.TheVariants as progress
 use Rattle.amqp_link_uses.specs.declared.broker.resuming.Resumed.{Resumed}
 use Rattle.amqp_link_uses.specs.declared.broker.resuming.Resumed.TheVariants as resumed
-use Rattle.amqp_link_uses.specs.declared.broker.resuming.Step.{Step}
-use Rattle.amqp_link_uses.specs.declared.broker.resuming.Step.TheVariants as step
+use Rattle.amqp_link.specs.declared.resumption.Step.{Step}
+use Rattle.amqp_link.specs.declared.resumption.Step.TheVariants as step
 use Rattle.amqp_link_uses.proofs.SumLemmas.{sum_by_less, sum_by_same, sum_by_written, sum_of_ones, sum_put, sum_taken}
 
 -- The same messages are there but for one that is done, and the same credit.

@@ -13,14 +13,15 @@ use Rattle.amqp_link.specs.Ending.{ended_by, map_after_receiver_disposition}
 use Rattle.amqp_link.specs.Entries.{Tag, Entries, entry_at, with_entry, without_entry}
 use Rattle.amqp_link.specs.Exchanges.{deliveries_to_resume, outcomes_returned}
 use Rattle.amqp_link.specs.Exchanging.{ledger_attached, ledger_taken}
-use Rattle.amqp_link.specs.Fates.{Enters, Resolves, after}
+use Rattle.amqp_link.specs.Fates.{Resolves, after}
 use Rattle.amqp_link.specs.Held.{Held, held_bytes}
 use Rattle.amqp_link.specs.Inboxes.{InboxState}
 use Rattle.amqp_link.specs.Ledgers.{Ledger}
 use Rattle.amqp_link.specs.Refusals.{refusal}
+use Rattle.amqp_link.specs.ResumingSteps.{DoesOf, StopsStep, step_tests}
 use Rattle.amqp_link.specs.SenderAttaches.{exchange_in}
 use Rattle.amqp_link.specs.SenderDisposes.{is_echoed}
-use Rattle.amqp_link.specs.Senders.{Delivery, IsSent, SendStop, Sender, SendsPayload, abort_frame, abort_tests, delivery_of, is_pending, missing_credit, new_transfer, next_tag, payload_tests, refused, resuming_transfer}
+use Rattle.amqp_link.specs.Senders.{Delivery, SendStop, SendsPayload, delivery_of, missing_credit, next_tag, payload_tests, refused}
 use Rattle.amqp_link.specs.Sends.{after_settlement}
 use Rattle.amqp_link.specs.Shown.{all_illegal}
 use Rattle.amqp_link.specs.Taking.{complete_of, with_taken}
@@ -37,18 +38,17 @@ use Rattle.amqp_link.specs.declared.inbox.DisposeError.TheVariants as dispose
 use Rattle.amqp_link.specs.declared.inbox.Kept.{Kept}
 use Rattle.amqp_link.specs.declared.inbox.TakeError.{TakeError}
 use Rattle.amqp_link.specs.declared.inbox.TakeError.TheVariants as take
-use Rattle.amqp_link.specs.declared.delivery.UnsettledMessage.{UnsettledMessage}
 use Rattle.amqp_link.specs.declared.resumption.ResumingDelivery.{ResumingDelivery}
 use Rattle.amqp_link.specs.declared.resumption.ResumingDelivery.TheVariants as next
+use Rattle.amqp_link.specs.declared.resumption.Step.{Step}
+use Rattle.amqp_link.specs.declared.resumption.Step.TheVariants as step
 use Rattle.amqp_link.specs.declared.state.LinkFlowStateInner.{LinkFlowStateInner}
 use Rattle.amqp_link.specs.declared.state.LinkState.{LinkState}
 use Rattle.amqp_link.specs.declared.types.Attach.{Attach}
 use Rattle.amqp_link.specs.declared.types.DeliveryState.{DeliveryState}
 use Rattle.amqp_link.specs.declared.types.DeliveryState.TheVariants.{Accepted, Released}
-use Rattle.amqp_link.specs.declared.types.OutputHandle.{OutputHandle}
 use Rattle.amqp_link.specs.declared.types.Target.{Target}
-use Rattle.amqp_link.specs.declared.types.Transfer.{Transfer}
-use Rattle.amqp_link_uses.specs.Relays.{again_tests, is_incomplete as is_incomplete_in, rest_tests}
+use Rattle.amqp_link_uses.specs.Relays.{is_incomplete as is_incomplete_in}
 use Rattle.amqp_link_uses.specs.declared.broker.Forwarded.{Forwarded}
 use Rattle.amqp_link_uses.specs.declared.broker.Forwarded.TheVariants as forwarded
 use Rattle.amqp_link_uses.specs.declared.broker.Message.{Message}
@@ -61,8 +61,6 @@ use Rattle.amqp_link_uses.specs.declared.broker.incoming.Progress.{Progress}
 use Rattle.amqp_link_uses.specs.declared.broker.incoming.Progress.TheVariants as progress
 use Rattle.amqp_link_uses.specs.declared.broker.resuming.Resumed.{Resumed}
 use Rattle.amqp_link_uses.specs.declared.broker.resuming.Resumed.TheVariants as resumed
-use Rattle.amqp_link_uses.specs.declared.broker.resuming.Step.{Step}
-use Rattle.amqp_link_uses.specs.declared.broker.resuming.Step.TheVariants as step
 
 -- the outcome of a delivery, as a sender's link returns it
 abbrev pub OutcomeSeen : Type 0
@@ -429,74 +427,10 @@ attaching anew next o = record o {
   ended = if anew then all_illegal o.ledger.link.unsettled else [];
 }
 
--- A delivery is sent again, from what its peer has of it or whole, and stays under way.
-pub record SendsAgain (tag : Tag) (entry : UnsettledMessage) (transfer : OutputHandle → Transfer) (bytes : List ℕ)
-    (old : Ledger Target) (frames : List LinkFrame) (new : Ledger Target) : Type 0 where
-  pub sent : IsSomeAnd old.link.output_handle (λ handle. IsSent old.link (transfer handle) bytes frames)
-  pub kept : new.link.unsettled ≡ with_entry old.link.unsettled tag entry
-  pub registered : new.records ≡ after (Enters tag) old.records
-
-abbrev pub ResumesBy : Tag → ResumingDelivery → Ledger Target → List LinkFrame → Ledger Target → Type 0
-ResumesBy tag (next.Resume entry rest) old frames new = SendsAgain tag entry
-    (λ handle. resuming_transfer old.link handle tag (delivery_of entry.message_format None None false)) rest old frames new
-ResumesBy tag (next.Resend entry) old frames new = SendsAgain tag entry
-    (λ handle. new_transfer old.link handle tag (delivery_of entry.message_format (Some false) None false)) entry.payload old frames new
-ResumesBy tag _ old frames new = ⊥
-
--- The frame by which its peer forgets it.
-abbrev pub AbortsBy : Tag → ResumingDelivery → Sender Target → LinkFrame → Type 0
-AbortsBy tag (next.Abort format own) link frame = IsSomeAnd link.output_handle (λ output. IsSomeAnd link.input_handle (λ input.
-    frame ≡ abort_frame output input tag format))
-AbortsBy tag _ link frame = ⊥
-
--- Its outcome, if the sender itself knows one; where it is not sent, one that was given up has none.
-abbrev pub EndsBy : Bool → ResumingDelivery → OutcomeSeen → Type 0
-EndsBy is_sent (next.RestateOutcome tag payload state format) outcome = outcome ≡ Ok (Some state)
-EndsBy false (next.Abort format own) outcome = outcome ≡ Ok None
-EndsBy _ _ outcome = ⊥
-
--- Its entry is registered again, without being sent.
-abbrev pub entry_in : ResumingDelivery → Option UnsettledMessage
-entry_in (next.Resume entry rest) = Some entry
-entry_in (next.Resend entry) = Some entry
-entry_in _ = None
-
-pub record PutsBack (tag : Tag) (n : ResumingDelivery) (old new : Ledger Target) : Type 0 where
-  pub entry : UnsettledMessage
-  pub entry_is : entry_in n ≡ Some entry
-  pub link : new.link ≡ record old.link { unsettled = with_entry old.link.unsettled tag entry }
-  pub records : new.records ≡ after (Enters tag) old.records
-
--- a delivery that is left, by its entry and its rest
-abbrev pub left_as : UnsettledMessage → Option (List ℕ) → ResumingDelivery
-left_as entry None = next.Resend entry
-left_as entry (Some rest) = next.Resume entry rest
-
 -- whether it is put back although it is to be resumed: it is listed to be sent whole by an exchange that did not state all
 abbrev pub is_kept_back : Bool → ResumingDelivery → Bool
 is_kept_back true (next.Resend entry) = true
 is_kept_back _ _ = false
-
--- the tests of what is done of it: of sending its rest, of sending it again, of giving it up, or of putting it back
-abbrev pub step_tests : Bool → Tag → ResumingDelivery → Sender Target → List (Bool × LinkStateError)
-step_tests true tag (next.Resume entry rest) link = rest_tests link tag entry rest
-step_tests true tag (next.Resend entry) link = again_tests link tag entry
-step_tests true tag (next.Abort format own) link = abort_tests link tag format
-step_tests false tag (next.Resume entry rest) link = (is_pending link tag, TagPending) ∷ []
-step_tests false tag (next.Resend entry) link = (is_pending link tag, TagPending) ∷ []
-step_tests is_sent tag n link = []
-
--- why it is not done: by its tests; out of memory may come before any
-abbrev pub StopsStep : LinkStateError → List (Bool × LinkStateError) → Type 0
-StopsStep why tests = (why ≡ OutOfMemory) ⊎ (refusal tests ≡ Some why)
-
--- what is done of one delivery, with the ledger before and after, by whether it is to be sent
-abbrev pub DoesOf : Bool → Tag → ResumingDelivery → Ledger Target → Ledger Target → Step → Type 0
-DoesOf is_sent tag n old new (step.Sent frames) = (is_sent ≡ true) × ResumesBy tag n old frames.items new
-DoesOf is_sent tag n old new (step.Aborted frame named) = (is_sent ≡ true) × (named ≡ tag) × AbortsBy tag n old.link frame × (new ≡ old)
-DoesOf is_sent tag n old new (step.Ended named outcome) = (named ≡ tag) × EndsBy is_sent n outcome × (new ≡ old)
-DoesOf is_sent tag n old new step.PutBack = (is_sent ≡ false) × PutsBack tag n old new
-DoesOf is_sent tag n old new step.Nothing = ⊥
 
 -- the first that is left is taken from the list, and this is done of it
 pub record TakesNext (is_sent : Bool) (old : OutgoingState) (what : Step) (new : OutgoingState) : Type 0 where

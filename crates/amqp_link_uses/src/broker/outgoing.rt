@@ -7,11 +7,10 @@ ghost use Rattle.amqp_link.specs.declared.errors.DispositionError.TheVariants.{O
 ghost use Rattle.amqp_link_uses.specs.Brokers;
 ghost use Rattle.amqp_link_uses.specs.Brokers.{DisposesAt, SendsAt, SendsOn, StepsAt, Stops, StopsNext, done_by, is_resuming, under_way_with};
 
-use crate::broker::resuming::Step;
 use crate::broker::{DispositionError, Message, Origin, SendError};
 use amqp_link::delivery::{DeliveryOutcome, Settlement};
 use amqp_link::errors::LinkStateError;
-use amqp_link::resumption::ResumingDelivery;
+use amqp_link::resumption::{ResumingDelivery, Step};
 use amqp_link::sender_link::DispositionAnswer;
 use amqp_link::types::Target;
 use amqp_link::{DeliveryState, DeliveryTag, LinkExt, LinkFrame, OutcomeLedger, Sending, Waiting};

@@ -1,24 +1,22 @@
 //! An outgoing link of a broker that is attached again (2.6.13).
-ghost use Rattle.std.specs.Prelude.{◌≡◌, ◌↔◌, ◌⊎◌, ◌∷◌, [], Err, IfErr, IfOk, Ok, IsSomeAnd, None, OnErr, OnOk, Some, false, true, slice_get, if◌then◌else◌};
+ghost use Rattle.std.specs.Prelude.{◌≡◌, ◌↔◌, ◌⊎◌, [], Err, IfErr, IfOk, IsSomeAnd, None, OnErr, OnOk, Some, false, true, slice_get, if◌then◌else◌};
 ghost use Rattle.amqp_link.specs.AttachSent.{SendsAttach};
 ghost use Rattle.amqp_link.specs.SenderAttaches.{sender_left, sender_refusal, sender_shown};
-ghost use Rattle.amqp_link.specs.Senders.{is_pending};
 ghost use Rattle.amqp_link.specs.Unsettled.{states_of};
 ghost use Rattle.amqp_link.specs.Targets.{plain_target};
 ghost use Rattle.amqp_link.specs.Termini.{sender_refuses_target};
 ghost use Rattle.amqp_link.specs.declared.state.LinkState.{LinkState as TheState};
 ghost use Rattle.amqp_link.specs.declared.types.TargetArchetype.TheVariants.{Target as TheTarget};
 ghost use Rattle.amqp_link_uses.specs.Brokers;
-ghost use Rattle.amqp_link_uses.specs.Brokers.{DoesOf, Resumes, StepsBy, StopsNext, StopsStep, attached_by, attaching, is_resuming, left_as, step_tests, with_outgoing};
+ghost use Rattle.amqp_link_uses.specs.Brokers.{Resumes, StepsBy, StopsNext, attached_by, attaching, is_resuming, with_outgoing};
 
 use crate::broker::outgoing::{Outgoing, take_next_on};
 use crate::broker::{AttachError, Broker, Origin, SendError};
-use crate::relay::{Reattached, send_again, send_rest, take_attach};
-use amqp_link::delivery::{DeliveryOutcome, UnsettledMessage};
+use crate::relay::{Reattached, take_attach};
 use amqp_link::errors::{LinkStateError, SenderAttachError};
-use amqp_link::resumption::ResumingDelivery;
-use amqp_link::types::{Attach, MessageFormat, Target};
-use amqp_link::{DeliveryState, DeliveryTag, LinkAttach, LinkFrame, OutcomeLedger, Payload};
+use amqp_link::resumption::{Left, ResumingDelivery, Step, put_back_one, resume_one};
+use amqp_link::types::Attach;
+use amqp_link::{LinkAttach, LinkFrame};
 use std::alloc::Global;
 use std::collections::VecDeque;
 
@@ -36,206 +34,6 @@ pub enum Resumed {
     PutBack,
     /// Nothing is left.
     Nothing,
-}
-
-// The same, with the tag of one whose outcome returns.
-#[derive(Drop)]
-pub(super) enum Step {
-    Sent(Vec<LinkFrame>),
-    Aborted(LinkFrame, DeliveryTag),
-    Ended(DeliveryTag, DeliveryOutcome),
-    PutBack,
-    Nothing,
-}
-
-// A delivery that stays the first, and why.
-#[derive(Drop)]
-struct Left {
-    refused: LinkStateError,
-    tag: DeliveryTag,
-    next: ResumingDelivery,
-}
-
-// Sends a delivery again from what its peer has of it.
-fn resume(
-    ledger: &mut OutcomeLedger<Target>,
-    tag: DeliveryTag,
-    entry: UnsettledMessage,
-    rest: Payload,
-) -> Result<Step, Left>
-    ensures done { IfOk result (DoesOf true tag (ResumingDelivery.Resume entry rest) ledger.old ledger.new) }
-    ensures back { IfErr result (λ left. (left.tag ≡ tag) × (left.next ≡ ResumingDelivery.Resume entry rest)) }
-    ensures refused { IfErr result (λ left. StopsStep left.refused (step_tests true tag (ResumingDelivery.Resume entry rest) ledger.old.link)) }
-    ensures left { OnErr result (ledger.new ≡ ledger.old) }
-{
-    match send_rest(ledger, &tag, entry, &rest) {
-        Ok(frames) => {
-            drop((tag, rest));
-            Ok(Step::Sent(frames))
-        }
-        Err((refused, entry)) => Err(Left {
-            refused,
-            tag,
-            next: ResumingDelivery::Resume { entry, rest },
-        }),
-    }
-}
-
-// Sends a delivery again of which its peer has nothing.
-fn resend(
-    ledger: &mut OutcomeLedger<Target>,
-    tag: DeliveryTag,
-    entry: UnsettledMessage,
-) -> Result<Step, Left>
-    ensures done { IfOk result (DoesOf true tag (ResumingDelivery.Resend entry) ledger.old ledger.new) }
-    ensures back { IfErr result (λ left. (left.tag ≡ tag) × (left.next ≡ ResumingDelivery.Resend entry)) }
-    ensures refused { IfErr result (λ left. StopsStep left.refused (step_tests true tag (ResumingDelivery.Resend entry) ledger.old.link)) }
-    ensures left { OnErr result (ledger.new ≡ ledger.old) }
-{
-    match send_again(ledger, &tag, entry) {
-        Ok(frames) => {
-            drop(tag);
-            Ok(Step::Sent(frames))
-        }
-        Err((refused, entry)) => Err(Left {
-            refused,
-            tag,
-            next: ResumingDelivery::Resend(entry),
-        }),
-    }
-}
-
-// Makes the transfer by which the peer forgets a delivery that was given up.
-fn abort(
-    ledger: &OutcomeLedger<Target>,
-    tag: DeliveryTag,
-    message_format: MessageFormat,
-    own: Option<DeliveryTag>,
-) -> Result<Step, Left>
-    ensures done { IfOk result (DoesOf true tag (ResumingDelivery.Abort message_format own) ledger.now ledger.now) }
-    ensures back { IfErr result (λ left. (left.tag ≡ tag) × (left.next ≡ ResumingDelivery.Abort message_format own)) }
-    ensures refused { IfErr result (λ left. StopsStep left.refused
-        (step_tests true tag (ResumingDelivery.Abort message_format own) ledger.now.link)) }
-{
-    match ledger.link().send_abort(&tag, message_format) {
-        Ok(frame) => {
-            drop(own);
-            Ok(Step::Aborted(frame, tag))
-        }
-        Err(refused) => Err(Left {
-            refused,
-            tag,
-            next: ResumingDelivery::Abort {
-                message_format,
-                tag: own,
-            },
-        }),
-    }
-}
-
-// A delivery has ended in a state that its sender knows; the rest of what is kept of it goes.
-fn restated<X: Drop>(tag: DeliveryTag, state: DeliveryState, rest: X) -> Step
-    ensures { result ≡ Step.Ended tag (Ok (Some state)) }
-{
-    drop(rest);
-    Step::Ended(tag, Ok(Some(state)))
-}
-
-// Sends a delivery that an exchange has left.
-fn send_one(
-    ledger: &mut OutcomeLedger<Target>,
-    tag: DeliveryTag,
-    next: ResumingDelivery,
-) -> Result<Step, Left>
-    ensures done { IfOk result (DoesOf true tag next ledger.old ledger.new) }
-    ensures back { IfErr result (λ left. (left.tag ≡ tag) × (left.next ≡ next)) }
-    ensures refused { IfErr result (λ left. StopsStep left.refused (step_tests true tag next ledger.old.link)) }
-    ensures left { OnErr result (ledger.new ≡ ledger.old) }
-{
-    match next {
-        ResumingDelivery::Resume { entry, rest } => resume(ledger, tag, entry, rest),
-        ResumingDelivery::Resend(entry) => resend(ledger, tag, entry),
-        ResumingDelivery::Abort {
-            message_format,
-            tag: own,
-        } => abort(ledger, tag, message_format, own),
-        ResumingDelivery::RestateOutcome {
-            tag: own,
-            payload,
-            local_state,
-            ..
-        } => Ok(restated(tag, local_state, (own, payload))),
-    }
-}
-
-// A delivery with this entry: resumed with this rest, or sent again without one.
-fn left_of(entry: UnsettledMessage, rest: Option<Payload>) -> ResumingDelivery
-    ensures { result ≡ left_as entry rest }
-{
-    match rest {
-        Some(rest) => ResumingDelivery::Resume { entry, rest },
-        None => ResumingDelivery::Resend(entry),
-    }
-}
-
-// Registers the entry of a delivery again, without sending it.
-fn put_back(
-    ledger: &mut OutcomeLedger<Target>,
-    tag: DeliveryTag,
-    entry: UnsettledMessage,
-    rest: Option<Payload>,
-) -> Result<Step, Left>
-    ensures done { IfOk result (DoesOf false tag (left_as entry rest) ledger.old ledger.new) }
-    ensures back { IfErr result (λ left. (left.tag ≡ tag) × (left.next ≡ left_as entry rest)) }
-    ensures refused { IfErr result (λ left. StopsStep left.refused
-        ((is_pending ledger.old.link tag, LinkStateError.TagPending) ∷ [])) }
-    ensures left { OnErr result (ledger.new ≡ ledger.old) }
-{
-    let Ok(own) = tag.clone() else {
-        return Err(Left {
-            refused: LinkStateError::OutOfMemory,
-            tag,
-            next: left_of(entry, rest),
-        });
-    };
-    match ledger.put_back(own, entry) {
-        Ok(()) => {
-            drop((tag, rest));
-            Ok(Step::PutBack)
-        }
-        Err((refused, entry)) => Err(Left {
-            refused,
-            tag,
-            next: left_of(entry, rest),
-        }),
-    }
-}
-
-// Keeps a delivery that an exchange has left for the next attach.
-fn keep_one(
-    ledger: &mut OutcomeLedger<Target>,
-    tag: DeliveryTag,
-    next: ResumingDelivery,
-) -> Result<Step, Left>
-    ensures done { IfOk result (DoesOf false tag next ledger.old ledger.new) }
-    ensures back { IfErr result (λ left. (left.tag ≡ tag) × (left.next ≡ next)) }
-    ensures refused { IfErr result (λ left. StopsStep left.refused (step_tests false tag next ledger.old.link)) }
-    ensures left { OnErr result (ledger.new ≡ ledger.old) }
-{
-    match next {
-        ResumingDelivery::Resume { entry, rest } => put_back(ledger, tag, entry, Some(rest)),
-        ResumingDelivery::Resend(entry) => put_back(ledger, tag, entry, None),
-        ResumingDelivery::Abort { tag: own, .. } => {
-            drop(own);
-            Ok(Step::Ended(tag, Ok(None)))
-        }
-        ResumingDelivery::RestateOutcome {
-            tag: own,
-            payload,
-            local_state,
-            ..
-        } => Ok(restated(tag, local_state, (own, payload))),
-    }
 }
 
 // Whether a delivery is put back although the others are sent: it is listed whole by an exchange that did not state all, so
@@ -288,9 +86,9 @@ impl Outgoing {
             return Ok(Step::Nothing);
         };
         let done = if is_sent && !is_kept_back(self.is_incomplete, &next) {
-            send_one(&mut self.ledger, tag, next)
+            resume_one(&mut self.ledger, tag, next)
         } else {
-            keep_one(&mut self.ledger, tag, next)
+            put_back_one(&mut self.ledger, tag, next)
         };
         match done {
             Ok(step) => Ok(step),
@@ -378,8 +176,7 @@ impl Broker {
     /// Does what comes next of what the last exchange of an outgoing link has ended or left: an outcome returns, or a delivery is
     /// sent again and stays under way, which takes no credit, or is given up and released. Call it until it answers `Nothing`.
     ///
-    /// Refused in this order, with nothing changed: `NoSuchLink`; and as `relay::send_rest`, `send_again` or
-    /// `SenderLink::send_abort` refuse it.
+    /// Refused in this order, with nothing changed: `NoSuchLink`; and as `resumption::resume_one` refuses it.
     pub fn resume_next(&mut self, link: usize) -> Result<Resumed, SendError>
         ensures { Resumes true link self.old result self.new }
     {
@@ -389,7 +186,7 @@ impl Broker {
     /// The same without sending anything, for a link whose session is lost again: a delivery that is left is put back, so that the
     /// next attach states it, and one that was given up is released. Call it until it answers `Nothing`, before `send_attach`.
     ///
-    /// Refused in this order, with nothing changed: `NoSuchLink`; and as `OutcomeLedger::put_back` refuses it.
+    /// Refused in this order, with nothing changed: `NoSuchLink`; and as `resumption::put_back_one` refuses it.
     pub fn put_back_next(&mut self, link: usize) -> Result<Resumed, SendError>
         ensures { Resumes false link self.old result self.new }
     {

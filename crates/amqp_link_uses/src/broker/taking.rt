@@ -6,7 +6,6 @@ ghost use Rattle.amqp_link.specs.Storing.{stage_at};
 ghost use Rattle.amqp_link_uses.specs.Brokers.{IsRefusedTake, NoneWaits, TakesAt, TakesFirstAt, TakesIn, TakesOne, TakesSettledIn, TakesSettledOne, occupied};
 
 use crate::broker::{Broker, Incoming, Message, Origin, Progress, TakeInError};
-use crate::relay::two_of;
 use amqp_link::inbox::TakeError;
 use amqp_link::{Delivery, DeliveryTag, Whole};
 use std::collections::VecDeque;
@@ -55,7 +54,11 @@ impl Incoming {
         if self.messages.reserve(1).is_err() {
             return Err(TakeInError::Inbox(TakeError::OutOfMemory));
         }
-        let Ok((named, own)) = two_of(tag) else {
+        let Ok(named) = tag.clone() else {
+            return Err(TakeInError::Inbox(TakeError::OutOfMemory));
+        };
+        let Ok(own) = tag.clone() else {
+            drop(named);
             return Err(TakeInError::Inbox(TakeError::OutOfMemory));
         };
         match self.inbox.take::<Whole>(tag) {
