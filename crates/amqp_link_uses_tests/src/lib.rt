@@ -12,6 +12,8 @@ mod client;
 #[cfg(test)]
 mod consumer;
 #[cfg(test)]
+mod listed;
+#[cfg(test)]
 mod peer;
 #[cfg(test)]
 mod reattached;

@@ -1,7 +1,9 @@
 //! What the calls of a script return, by what a test asks of it.
 use crate::script::State;
-use amqp_link::errors::ReceiverAttachError;
+use amqp_link::delivery::DeliveryOutcome;
+use amqp_link::errors::{LinkStateError, ReceiverAttachError};
 use amqp_link::inbox::{Arrival, Arrived, DisposeError, Forgotten};
+use amqp_link::resumption::Step;
 use amqp_link::{DeliveryState, DeliveryTag, LinkFrame};
 use amqp_link_uses::broker::{
     AttachError, DispositionError, Forwarded, GrantError, Origin, Resumed, Returned, SendError,
@@ -32,6 +34,8 @@ pub(crate) enum Seen {
     Aborted(u8),
     /// The delivery has ended, and no message of it was under way.
     Ended,
+    /// The delivery with the tag of this count has ended in this state.
+    EndedIn(u8, State),
     /// The delivery is left to the next attach.
     PutBack,
     /// The link and the tag of the delivery whose message has its outcome.
@@ -52,6 +56,8 @@ pub(crate) enum Why {
     NotAttached,
     NotResumed,
     UnknownTag,
+    IllegalState,
+    TagPending,
     Other,
 }
 
@@ -206,6 +212,46 @@ pub(crate) fn resumed(answer: Result<Resumed, SendError>, wanted: &[u8]) -> Seen
         Ok(Resumed::PutBack) => Seen::PutBack,
         Ok(Resumed::Nothing) => Seen::Nothing,
         Err(error) => unsent(error),
+    }
+}
+
+fn ended(tag: &DeliveryTag, outcome: &DeliveryOutcome) -> Seen {
+    match outcome {
+        Ok(state) => Seen::EndedIn(count_of(tag), state_seen(state)),
+        Err(_) => Seen::Other,
+    }
+}
+
+fn left_listed(error: LinkStateError) -> Seen {
+    let why = match &error {
+        LinkStateError::IllegalState => Why::IllegalState,
+        LinkStateError::TagPending => Why::TagPending,
+        _ => Why::Other,
+    };
+    drop(error);
+    Seen::Refused(why)
+}
+
+pub(crate) fn stepped(answer: Result<Step, LinkStateError>, wanted: &[u8]) -> Seen {
+    match answer {
+        Ok(Step::Sent(frames)) => {
+            let seen = frames_seen(frames.as_slice(), wanted);
+            drop(frames);
+            seen
+        }
+        Ok(Step::Aborted(frame, tag)) => {
+            let seen = aborted(&frame);
+            drop((frame, tag));
+            seen
+        }
+        Ok(Step::Ended(tag, outcome)) => {
+            let seen = ended(&tag, &outcome);
+            drop((tag, outcome));
+            seen
+        }
+        Ok(Step::PutBack) => Seen::PutBack,
+        Ok(Step::Nothing) => Seen::Nothing,
+        Err(error) => left_listed(error),
     }
 }
 
