@@ -43,7 +43,7 @@ pub fn resume_next<T: LinkTarget>(
 /// Refused as `put_back_one` is, with ledger and list unchanged: the delivery stays the first of the list. Its place
 /// there is kept, so that the list does not allocate.
 ///
-/// Its cost grows neither with the length of the list nor with the number of pending deliveries.
+/// Its cost is that of `put_back_one`, whatever the length of the list.
 pub fn put_back_next<T: LinkTarget>(
     ledger: &mut OutcomeLedger<T>,
     list: &mut VecDeque<(DeliveryTag, ResumingDelivery)>,

@@ -42,8 +42,9 @@ pub struct Left {
 /// (`send_again`), makes the transfer that aborts it (`SenderLink::send_abort`), or returns the outcome that the sender
 /// has decided. A delivery that is sent has a new registration; otherwise the ledger is unchanged. Spends no credit.
 ///
-/// Refused as that call is, with nothing changed and the delivery returned; a delivery that has ended never is.
-/// `OutOfMemory` may come before a refusal by state: the copies of the tag and of the payload's handle are made first.
+/// Refused in this order, with nothing changed and the delivery returned: `IllegalState` without output handle or input
+/// handle; `TagPending`; `NoRoom`. A delivery that has ended is never refused. `OutOfMemory` may come before each of
+/// these: of one that is sent, the copies of the tag and of the payload's handle are made first.
 ///
 /// Its cost grows with the number of frames, and not with the number of pending deliveries.
 pub fn resume_one<T: LinkTarget>(
@@ -161,10 +162,10 @@ fn restated<X: Drop>(tag: DeliveryTag, state: DeliveryState, rest: X) -> Step
 /// registered again (`OutcomeLedger::put_back`), with the next number. One that is to be aborted has ended without
 /// an outcome, and one whose outcome is to be stated again has ended with that; both leave the ledger unchanged.
 ///
-/// Refused with nothing changed and the delivery returned: `TagPending`, for one that is to be sent. `OutOfMemory`
-/// may come before it: a copy of the tag is made first.
+/// Refused with nothing changed and the delivery returned: `TagPending`, of one that is to be sent. `OutOfMemory` may
+/// come before it: a copy of the tag is made first. The other two are never refused, and do not allocate.
 ///
-/// Its cost does not grow with the number of pending deliveries.
+/// Its cost does not grow with the number of pending deliveries, but where room is made for one more, as a `Vec` makes it.
 pub fn put_back_one<T: LinkTarget>(
     ledger: &mut OutcomeLedger<T>,
     tag: DeliveryTag,
