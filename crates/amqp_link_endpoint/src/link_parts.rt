@@ -29,7 +29,8 @@ pub struct LinkParts<T: Drop> {
     pub flow_state: LinkFlowStateInner,
     /// The largest size of a frame in bytes: its header of four bytes and its body, without the four bytes of
     /// the frame's size in front of them. If the peer's limit counts those as well, the caller passes that
-    /// limit less 4.
+    /// limit less 4. Each value counts by its shortest code (1.6): an encoder that writes longer ones, as a list with
+    /// a head of 9 bytes in place of 3, needs a limit that is less by as much.
     pub max_frame_size: u32,
     /// Whether the source of the peer's attach is to be verified (3.5.3), if this endpoint has one.
     pub verify_incoming_source: bool,
