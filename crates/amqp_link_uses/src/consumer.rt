@@ -4,12 +4,13 @@
 //! It attaches an inbox (`Inbox::send_attach`, `on_incoming_attach`) and states a window (`send_flow`). Each transfer goes to
 //! `take_in`, and each message that its user has done with to `accept`. A lost session goes to `on_session_lost`; then it
 //! attaches again. The link's mode is `First`, so that its session keeps nothing of a delivery (`Arrived::session` is none).
-ghost use Rattle.std.specs.Prelude.{◌≡◌, ◌⊎◌, ◌++◌, ◌∷◌, [], Some, Err, IfErr, IfOk, IfNone, IfSome, IsSome, IsSomeAnd, OnErr};
+ghost use Rattle.std.specs.Prelude.{◌≡◌, ◌⊎◌, ◌++◌, ◌∷◌, [], None, Some, Err, IfErr, IfOk, IfNone, IfSome, IsSome, IsSomeAnd, OnErr};
 ghost use Rattle.amqp_link.specs.Bytes.{bytes_at, bytes_before};
 ghost use Rattle.amqp_link.specs.Disposing.{outcome_refusal};
 ghost use Rattle.amqp_link.specs.Entries.{changed_at, entry_at, without_entry};
-ghost use Rattle.amqp_link.specs.Inboxes.{is_new, tag_of};
+ghost use Rattle.amqp_link.specs.Inboxes.{Arrives, is_new, tag_of};
 ghost use Rattle.amqp_link.specs.IncompleteRefusals.{AreReturned};
+ghost use Rattle.amqp_link.specs.declared.inbox.Arrived.{Arrived as TheArrived};
 
 use amqp_link::inbox::{Arrival, Arrived, DisposeError, Inbox, TakeError};
 use amqp_link::incomplete_transfer::RefusedTransfer;
@@ -36,6 +37,8 @@ pub fn take_in(
 ) -> Result<Option<Delivery<Whole>>, TakeInError>
     ensures whole { IfOk result (λ came. IfSome came (λ delivery. IsSomeAnd (tag_of inbox.old transfer) (λ tag.
         delivery.message.body.0 ≡ bytes_before (is_new inbox.old transfer) (bytes_at inbox.old.deliveries tag) ++ payload))) }
+    ensures none { IfOk result (λ message. IfNone message ((came : TheArrived) × Arrives inbox.old transfer payload came inbox.new
+        × (came.arrival ≡ Arrival.Complete → came.tag ≡ None))) }
     ensures back { (refused : _) → result ≡ Err (TakeInError.Transfer refused)
         → AreReturned transfer payload refused × (inbox.new ≡ inbox.old) }
 {
@@ -54,6 +57,8 @@ fn hand_out_if_complete(
 ) -> Result<Option<Delivery<Whole>>, TakeInError>
     ensures whole { IfOk result (λ message. IfSome message (λ delivery. (came.arrival ≡ Arrival.Complete)
         × IsSomeAnd came.tag (λ tag. bytes_at inbox.old.deliveries tag ≡ Some delivery.message.body.0))) }
+    ensures none { IfOk result (λ message. IfNone message ((inbox.new ≡ inbox.old)
+        × (came.arrival ≡ Arrival.Complete → came.tag ≡ None))) }
     ensures refused { IfErr result (λ error. (why : _) × (error ≡ TakeInError.Take why)) }
 {
     let Arrived {
@@ -78,6 +83,7 @@ fn hand_out(
 ) -> Result<Option<Delivery<Whole>>, TakeInError>
     ensures whole { IfOk result (λ came. IfSome came (λ delivery.
         bytes_at inbox.old.deliveries tag ≡ Some delivery.message.body.0)) }
+    ensures taken { IfOk result (λ came. IsSome came) }
     ensures refused { IfErr result (λ error. (why : _) × (error ≡ TakeInError.Take why)) }
 {
     let taken = inbox.take::<Whole>(&tag);
