@@ -27,14 +27,17 @@ use std::marker::Model;
 /// - **Attach**: `on_incoming_attach` returns `Complete` if the sender's attach states no unsettled delivery. Otherwise it
 ///   returns `Resume`: the sender resumes deliveries; or `IncompleteUnsettled`, if an attach did not state all of them:
 ///   the sender resumes those that were stated, and then the link is attached anew until an exchange is complete
-///   (`Link`, **Detach**).
+///   (`Link`, **Detach**). What is held of a delivery that a complete map of the sender's lacks is dropped.
 /// - **Grant credit**: `send_flow` sets the link-credit and makes the flow to send. `on_incoming_flow` takes the
 ///   sender's, and returns the flow to send back, if there is one.
 /// - **Take in**: `begins_delivery` says whether the next transfer begins a delivery in this attachment.
 ///   `on_incoming_transfer` takes the transfer from the session and returns the frame for the link's user. The
 ///   user keeps an `IncompleteTransfer`, to which `try_add` adds each further transfer, and reports the
 ///   position of what it holds by `on_incomplete_transfer`; with the last transfer `on_complete_transfer`
-///   returns the delivery and spends a credit. `on_transfer_state` takes the state that a transfer carries.
+///   returns the delivery and spends a credit. `on_transfer_state` takes the state that a transfer carries, before
+///   the position is reported. What is held is kept as long as the delivery's entry. After a transfer that aborts,
+///   `on_aborted`, and what is held is dropped; it takes no credit, so a sender that has counted the delivery has one
+///   less than the link shows: `send_flow` with `echo` asks for its count, `move_delivery_count` sets it.
 ///   `on_incoming_disposition` takes the sender's disposition, and returns nothing to send.
 /// - **Settle**: `dispose` and `dispose_all` make the dispositions to send.
 ///
