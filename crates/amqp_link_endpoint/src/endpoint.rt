@@ -396,8 +396,9 @@ pub trait LinkExt: LinkDetach {
 ///
 /// - **Build**: `new` of the endpoint, then `with_output_handle` with the handle that the session gives;
 ///   `set_max_frame_size` as soon as the peer's limit is known.
-/// - **Attach**: `send_attach` makes the attach to send, `on_incoming_attach` takes the peer's, in either order, and
-///   returns how to continue. If the attach is refused, `handle_attach_error` makes the detach to send.
+/// - **Attach**: `send_attach` makes the attach to send, `on_incoming_attach` takes the peer's and returns how to
+///   continue. Both orders are right, but a sender with unsettled deliveries sends first: its attach states those that
+///   it still holds. If the attach is refused, `handle_attach_error` makes the detach to send.
 /// - **Detach**: `send_detach` makes the detach to send, `on_detach_reply` takes the peer's reply. A detach of the
 ///   peer's goes to `on_incoming_detach` of the endpoint, which returns the detach to reply with, and then to
 ///   `apply_remote_detach_outcome`, which moves the state. After an incomplete exchange `send_detach` has no
