@@ -1,0 +1,2 @@
+pub mod AttachLemmas
+pub mod TakeLemmas

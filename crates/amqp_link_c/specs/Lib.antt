@@ -1,0 +1,11 @@
+pub mod Attaching
+pub mod Calls
+pub mod Detaching
+pub mod Failing
+pub mod Links
+pub mod Reading
+pub mod ReceiverAttach
+pub mod ReceiverCalls
+pub mod SenderAttach
+pub mod SenderCalls
+pub mod SenderResuming

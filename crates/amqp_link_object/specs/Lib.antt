@@ -1,0 +1,4 @@
+pub mod Boxes
+pub mod Holders
+pub mod Objects
+pub mod States
