@@ -3,22 +3,29 @@
  *
  * A value of the layer is in an amqp_object, which the caller allocates: {0} at first, nothing. A call puts what it makes into
  * an object: what was there is freed, and the object need not be empty. The caller frees each object by amqp_free, once it is
- * done with it; again is harmless.
+ * done with it; to free the same object again is harmless.
  *
  * A call returns AMQP_OK, or a status that says why it was refused. Each call that takes objects may return AMQP_EMPTY, for one
- * with nothing, and AMQP_WRONG_KIND, for one of another kind; each that allocates AMQP_OUT_OF_MEMORY. After these three, and
- * wherever the doc of a call does not say otherwise, nothing has changed: no link, no object, nothing behind a pointer, but a
- * size that is needed.
+ * with nothing, and AMQP_WRONG_KIND, for one of another kind; each that allocates AMQP_OUT_OF_MEMORY. Each that reads an entry by
+ * its number, counted from 0, returns AMQP_NO_SUCH_ENTRY past the last one, and of an entry of another kind or without an error.
+ * After these four, and wherever the doc of a call does not say otherwise, nothing has changed: no link, no object, nothing
+ * behind a pointer, but a size that is needed. The doc of a call names the other statuses in the order in which it tests them.
  *
  * Bytes that a call takes are a pointer and a length; it copies what it keeps. Bytes that it gives are copied into a buffer of
  * the caller's, with its room, and their size is written beside it, also if it returns AMQP_BUFFER_TOO_SMALL; 32 bytes are room
  * for each tag that a peer may send.
  *
+ * A struct that is {0} states numbers that stand for something, and not always what the standard has where nothing is stated:
+ * snd_settle_mode 0 is AMQP_SENDER_UNSETTLED, and expiry_policy 0 is AMQP_EXPIRES_LINK_DETACH.
+ *
  * What a caller has to keep, since nothing checks it:
- * - no pointer is null, not even one to 0 bytes;
- * - where a call takes two pointers, they point to different things; no buffer overlaps another, or an object;
- * - only these calls read and write what is in an object; of an object that was copied only one copy is used from then on;
- * - a bool is 0 or 1;
+ * - no pointer is null, not even one to 0 bytes, and each is aligned as its type asks;
+ * - a length or a room is no more than the bytes that are behind its pointer, and than SIZE_MAX / 2;
+ * - what a call writes overlaps nothing else that the call is passed; what it only reads may be passed twice;
+ * - an object is {0} before its first call, also one that only gets a result: what is in it is freed;
+ * - only these calls read and write what is in an object; of an object that was copied only one copy is used from then on, and
+ *   only that one is freed;
+ * - a bool is 0 or 1, also one that a call is only to write: initialise it. Numbers and bytes that it writes need not be;
  * - one call at a time on an object, and an object stays on its thread.
  */
 #ifndef AMQP_LINK_H
@@ -52,7 +59,8 @@ enum {
   AMQP_NO_SUCH_NUMBER = 5,
   /* A buffer of the caller's is too small. The size that is needed was written. */
   AMQP_BUFFER_TOO_SMALL = 6,
-  /* A list has no entry of that number, or a frame or an entry is of another kind; an object without frames or outcomes has none. */
+  /* A list has no entry of that number, or a frame or an entry is of another kind or has no error; an object without frames or
+   * outcomes has none. */
   AMQP_NO_SUCH_ENTRY = 7,
   /* The link is not in a state for this call, or a handle or a tag is missing. */
   AMQP_ILLEGAL_STATE = 10,
@@ -188,17 +196,17 @@ enum {
   AMQP_SETTLED_BY_MODE = 2,
   /* Nothing of a terminus is durable. */
   AMQP_DURABLE_NONE = 0,
-  /* Its existence and configuration are. */
+  /* The existence and the configuration of a terminus are durable. */
   AMQP_DURABLE_CONFIGURATION = 1,
-  /* Its unsettled deliveries are as well. */
+  /* The unsettled deliveries of a terminus are durable as well. */
   AMQP_DURABLE_UNSETTLED_STATE = 2,
   /* A terminus expires when its link is detached. */
   AMQP_EXPIRES_LINK_DETACH = 0,
-  /* When its session ends. */
+  /* A terminus expires when its session ends. */
   AMQP_EXPIRES_SESSION_END = 1,
-  /* When its connection closes. */
+  /* A terminus expires when its connection closes. */
   AMQP_EXPIRES_CONNECTION_CLOSE = 2,
-  /* Never. */
+  /* A terminus never expires. */
   AMQP_EXPIRES_NEVER = 3,
   /* Neither endpoint has sent an attach. */
   AMQP_STATE_UNATTACHED = 0,
@@ -322,9 +330,9 @@ typedef struct amqp_link_view {
   uint32_t delivery_count;
   /* The link-credit. */
   uint32_t link_credit;
-  /* When the sender settles. */
+  /* When the sender settles: AMQP_SENDER_UNSETTLED and so on. */
   uint32_t snd_settle_mode;
-  /* When the receiver settles. */
+  /* When the receiver settles: AMQP_RECEIVER_FIRST or AMQP_RECEIVER_SECOND. */
   uint32_t rcv_settle_mode;
   /* Whether output_handle is there. */
   bool has_output_handle;
@@ -340,11 +348,12 @@ typedef struct amqp_attach_fields {
   uint64_t max_message_size;
   /* The handle that the endpoint which sends this gave the link. */
   uint32_t handle;
-  /* The role of that endpoint. */
+  /* The role of that endpoint: AMQP_ROLE_SENDER, which is 0, or AMQP_ROLE_RECEIVER. */
   uint32_t role;
-  /* When the sender settles. */
+  /* When the sender settles: AMQP_SENDER_UNSETTLED, which is 0, AMQP_SENDER_SETTLED or AMQP_SENDER_MIXED,
+   * which an attach means that states none (2.7.3). */
   uint32_t snd_settle_mode;
-  /* When the receiver settles. */
+  /* When the receiver settles: AMQP_RECEIVER_FIRST, which is 0, or AMQP_RECEIVER_SECOND. */
   uint32_t rcv_settle_mode;
   /* The sender's delivery-count at the attach. */
   uint32_t initial_delivery_count;
@@ -358,9 +367,10 @@ typedef struct amqp_attach_fields {
 
 /* A source or a target, whose address goes beside it. Filters, capabilities and properties do not cross. */
 typedef struct amqp_terminus {
-  /* Which state of it is durable. */
+  /* Which state of it is durable: AMQP_DURABLE_NONE, which is 0, and so on. */
   uint32_t durable;
-  /* From when on it expires. */
+  /* From when on it expires: AMQP_EXPIRES_LINK_DETACH, which is 0, and so on. A terminus that states none means
+   * AMQP_EXPIRES_SESSION_END (3.5.3, 3.5.4). */
   uint32_t expiry_policy;
   /* The seconds that it stays after it has begun to expire. */
   uint32_t timeout;
@@ -413,7 +423,7 @@ typedef struct amqp_transfer {
   uint32_t delivery_id;
   /* The format of the message. */
   uint32_t message_format;
-  /* When the receiver is to settle this delivery. */
+  /* When the receiver is to settle this delivery: AMQP_RECEIVER_FIRST or AMQP_RECEIVER_SECOND. */
   uint32_t rcv_settle_mode;
   /* Whether delivery_id is there. */
   bool has_delivery_id;
@@ -441,7 +451,7 @@ typedef struct amqp_transfer {
 typedef struct amqp_disposition {
   /* The state of the deliveries. */
   amqp_delivery_state_fields state;
-  /* The role of the endpoint that sends it. */
+  /* The role of the endpoint that sends it: AMQP_ROLE_SENDER or AMQP_ROLE_RECEIVER. */
   uint32_t role;
   /* The delivery-id of the first delivery. */
   uint32_t first;
@@ -481,9 +491,10 @@ typedef struct amqp_terms {
   uint64_t max_message_size;
   /* The largest size of a frame in bytes, without the four bytes of its size in front. */
   uint32_t max_frame_size;
-  /* When the sender settles: AMQP_SENDER_UNSETTLED and so on. */
+  /* When the sender settles: AMQP_SENDER_UNSETTLED, which is 0, AMQP_SENDER_SETTLED or AMQP_SENDER_MIXED,
+   * which the standard means where an attach states none (2.7.3). */
   uint32_t snd_settle_mode;
-  /* When the receiver settles: AMQP_RECEIVER_FIRST or AMQP_RECEIVER_SECOND. */
+  /* When the receiver settles: AMQP_RECEIVER_FIRST, which is 0, or AMQP_RECEIVER_SECOND. */
   uint32_t rcv_settle_mode;
   /* The sender's delivery-count at the beginning. */
   uint32_t initial_delivery_count;
@@ -588,28 +599,30 @@ amqp_status amqp_link_name(amqp_object *link, uint8_t *name, size_t name_room, s
 
 /* Makes an attach as it has arrived: with these fields, without termini and unsettled deliveries.
  *
- * AMQP_NO_SUCH_NUMBER if a role or a mode is none, AMQP_NO_TEXT if the name is no UTF-8. */
+ * Refused in this order, with nothing changed: AMQP_NO_SUCH_NUMBER if a role or a mode is none; AMQP_NO_TEXT if the name
+ * is no UTF-8. */
 amqp_status amqp_attach_new(amqp_object *attach, const uint8_t *name, size_t name_len,
     const amqp_attach_fields *fields);
 
 /* Sets the source of an attach.
  *
- * Refused with nothing changed: AMQP_NO_SUCH_NUMBER if a number in source stands for nothing; AMQP_NO_TEXT if the address
- * is no UTF-8. */
+ * Refused in this order, with nothing changed: AMQP_NO_SUCH_NUMBER if a number in source stands for nothing;
+ * AMQP_NO_TEXT if the address is no UTF-8. */
 amqp_status amqp_attach_set_source(amqp_object *attach, const amqp_terminus *source, const uint8_t *address,
     size_t address_len);
 
 /* Sets the target of an attach.
  *
- * Refused with nothing changed: AMQP_NO_SUCH_NUMBER if a number in target stands for nothing; AMQP_NO_TEXT if the address
- * is no UTF-8. */
+ * Refused in this order, with nothing changed: AMQP_NO_SUCH_NUMBER if a number in target stands for nothing;
+ * AMQP_NO_TEXT if the address is no UTF-8. */
 amqp_status amqp_attach_set_target(amqp_object *attach, const amqp_terminus *target, const uint8_t *address,
     size_t address_len);
 
 /* Adds an unsettled delivery to an attach: its tag and its state, with these texts of a rejection's error. One that the attach
  * has under the same tag is replaced.
  *
- * Refused with nothing changed: AMQP_NO_SUCH_NUMBER if the kind of the state is none; AMQP_NO_TEXT if a text is no UTF-8. */
+ * Refused in this order, with nothing changed: AMQP_NO_SUCH_NUMBER if the kind of the state is none; AMQP_NO_TEXT if a
+ * text is no UTF-8. */
 amqp_status amqp_attach_add_unsettled(amqp_object *attach, const uint8_t *tag, size_t tag_len,
     const amqp_delivery_state_fields *state, const uint8_t *condition, size_t condition_len,
     const uint8_t *description, size_t description_len);
@@ -695,8 +708,8 @@ amqp_status amqp_outcomes_error(amqp_object *outcomes, size_t number, uint8_t *c
 
 /* Makes the sender of a link, which is not attached.
  *
- * AMQP_NO_SUCH_NUMBER if a number in terms, source or target stands for nothing, AMQP_NO_TEXT if the name or
- * an address is no UTF-8. */
+ * Refused in this order, with nothing changed: AMQP_NO_SUCH_NUMBER if a number in terms, source or target stands for
+ * nothing; AMQP_NO_TEXT if the name or an address is no UTF-8. */
 amqp_status amqp_sender_new(amqp_object *sender, const amqp_terms *terms, const uint8_t *name,
     size_t name_len, const amqp_terminus *source, const uint8_t *source_address, size_t source_address_len,
     const amqp_terminus *target, const uint8_t *target_address, size_t target_address_len);
@@ -708,8 +721,9 @@ amqp_status amqp_sender_new(amqp_object *sender, const amqp_terms *terms, const 
  * frame limit, it states only some of the unsettled deliveries, and says so. Call it before amqp_sender_on_attach, also where
  * the peer's attach has arrived: made after that call it states no listed delivery, and the receiver forgets them.
  *
- * Refused with nothing changed: AMQP_ILLEGAL_STATE without output handle, or if there is no transition from the link's state;
- * AMQP_ATTACH_TOO_LARGE. */
+ * Refused with nothing changed: AMQP_ILLEGAL_STATE without output handle, or in a state from which no attach is sent, which
+ * are all but AMQP_STATE_UNATTACHED, AMQP_STATE_DETACHED, AMQP_STATE_DETACH_SENT and those in which an attach has
+ * arrived; AMQP_ATTACH_TOO_LARGE. */
 amqp_status amqp_sender_send_attach(amqp_object *sender, bool is_reattaching, amqp_object *attach,
     amqp_object *outcomes);
 
@@ -720,8 +734,14 @@ amqp_status amqp_sender_send_attach(amqp_object *sender, bool is_reattaching, am
  * After an incomplete exchange begin nothing new (2.7.3): put back what is listed as AMQP_RESEND, resume the others, have them
  * settled, send the detach of amqp_link_detach_frame, and attach again.
  *
- * AMQP_ILLEGAL_STATE, with nothing changed, if there is no transition from the link's state. The other refusals of an
- * attach move the state: amqp_sender_attach_failed makes the detach to send. */
+ * The name and the role in attach are not compared with the link's: the session finds the link by them.
+ *
+ * Refused in this order: AMQP_EMPTY and AMQP_WRONG_KIND of attach, and then of sender; AMQP_ILLEGAL_STATE, with
+ * nothing changed, in all states but AMQP_STATE_UNATTACHED, AMQP_STATE_DETACHED and those in which an attach was sent;
+ * and with the state moved and the input handle set, AMQP_SOURCE_ADDRESS_IS_SOME_WHEN_DYNAMIC_IS_TRUE,
+ * AMQP_INCOMING_TARGET_IS_NONE, AMQP_TARGET_ADDRESS_IS_NONE_WHEN_DYNAMIC_IS_TRUE, and
+ * AMQP_SND_SETTLE_MODE_NOT_SUPPORTED, with the peer's target and rcv_settle_mode taken too. After these four
+ * amqp_sender_attach_failed makes the detach to send. */
 amqp_status amqp_sender_on_attach(amqp_object *sender, amqp_object *attach, amqp_object *resuming,
     bool *is_incomplete, amqp_object *outcomes);
 
@@ -756,14 +776,16 @@ amqp_status amqp_sender_send_flow(amqp_object *sender, bool has_available, uint3
 
 /* Sends a payload as a new delivery, for one credit, under the tag of the delivery-count, and puts its frames into frames:
  * give the first transfer its delivery id, and keep the tag with it. settled is AMQP_NOT_SETTLED, AMQP_SETTLED or
- * AMQP_SETTLED_BY_MODE. An unsettled delivery is the next registration, whose fate amqp_sender_fate says.
+ * AMQP_SETTLED_BY_MODE. An unsettled delivery is the next registration, whose fate amqp_sender_fate says: it takes memory
+ * until amqp_sender_release has released it.
  *
  * Refused in this order, with nothing changed: AMQP_NO_SUCH_NUMBER of settled; AMQP_ILLEGAL_STATE without handles;
  * AMQP_CREDIT_MISSING; AMQP_TAG_PENDING; AMQP_NO_ROOM. */
 amqp_status amqp_sender_send(amqp_object *sender, const uint8_t *payload, size_t payload_len,
     uint32_t message_format, uint32_t settled, bool batchable, amqp_object *frames);
 
-/* The same under this tag, which is to be of no pending delivery. */
+/* The same under this tag. It is not measured: the standard allows 32 bytes (2.8.7). AMQP_TAG_PENDING comes only of an
+ * unsettled delivery: one that is sent settled may have the tag of a pending one. */
 amqp_status amqp_sender_send_with_tag(amqp_object *sender, const uint8_t *tag, size_t tag_len,
     const uint8_t *payload, size_t payload_len, uint32_t message_format, uint32_t settled, bool batchable,
     amqp_object *frames);
@@ -789,21 +811,25 @@ amqp_status amqp_resuming_at(amqp_object *resuming, size_t number, uint32_t *kin
     size_t tag_room, size_t *tag_size);
 
 /* Sends what the first delivery of the list asks for, and takes it out of the list. frames gets the frames to send: none of
- * one whose outcome is decided. AMQP_RESUME and AMQP_RESEND register the delivery anew, and take no credit. Once the list is
- * empty send the flow of amqp_sender_send_flow: a receiver that has counted what was resumed takes the count from it.
+ * one whose outcome is decided, AMQP_RESTATE_OUTCOME: that outcome is dropped, and the fate of its registration stays
+ * AMQP_FATE_HANDED_OUT. AMQP_RESUME sends what follows the position that the peer has stated; all, if that has no place in
+ * the payload. It and AMQP_RESEND register the delivery anew, and take no credit. Once the list is empty send the flow of
+ * amqp_sender_send_flow: a receiver that has counted what was resumed takes the count from it.
  *
- * Refused with nothing changed: AMQP_NO_SUCH_ENTRY of an empty list; AMQP_ILLEGAL_STATE without handles;
- * AMQP_TAG_PENDING; AMQP_NO_ROOM. */
+ * Refused in this order, with nothing changed: AMQP_EMPTY and AMQP_WRONG_KIND of resuming, and then of sender;
+ * AMQP_NO_SUCH_ENTRY of an empty list; AMQP_ILLEGAL_STATE without handles; AMQP_TAG_PENDING; AMQP_NO_ROOM. */
 amqp_status amqp_sender_resume(amqp_object *sender, amqp_object *resuming, amqp_object *frames);
 
 /* Keeps the first delivery of the list for a later attach, and takes it out of the list: it is the next registration. Of
- * AMQP_ABORT and AMQP_RESTATE_OUTCOME nothing is kept.
+ * AMQP_ABORT and AMQP_RESTATE_OUTCOME nothing is kept: the outcome of the latter is dropped, and the fates of their
+ * registrations stay as they are.
  *
- * Refused with nothing changed: AMQP_NO_SUCH_ENTRY of an empty list; AMQP_TAG_PENDING. */
+ * Refused in this order, with nothing changed: AMQP_EMPTY and AMQP_WRONG_KIND of resuming, and then of sender;
+ * AMQP_NO_SUCH_ENTRY of an empty list; AMQP_TAG_PENDING. */
 amqp_status amqp_sender_put_back(amqp_object *sender, amqp_object *resuming);
 
 /* Gives up the delivery with this tag, if it is pending: no outcome of it is returned any more. Its payload is dropped.
- * If the peer still states it in a later attach, it is listed as AMQP_ABORT. */
+ * If the peer still states it in a later attach, it is listed as AMQP_ABORT. Allocates only for a tag of more than 16 bytes. */
 amqp_status amqp_sender_withdraw(amqp_object *sender, const uint8_t *tag, size_t tag_len, bool *was_pending);
 
 /* ---- Dispositions and fates at a sender ---- */
@@ -822,9 +848,11 @@ enum {
 };
 
 /* Takes the receiver's disposition of the delivery with this tag, which the session finds by the id. outcomes gets the
- * delivery if it has ended by it. If echo is set, send the disposition of amqp_sender_dispose.
+ * delivery if it has ended by it: none, and AMQP_OK, if no pending delivery has this tag. If echo is set, the receiver
+ * waits for the sender to settle: send the disposition of amqp_sender_dispose with the same state and settled true.
  *
- * Refused with nothing changed: AMQP_NO_SUCH_NUMBER if the kind of the state is none; AMQP_NO_TEXT. */
+ * Refused in this order, with nothing changed: AMQP_NO_SUCH_NUMBER if the kind of the state is none; AMQP_NO_TEXT if a
+ * text is no UTF-8. */
 amqp_status amqp_sender_on_disposition(amqp_object *sender, const uint8_t *tag, size_t tag_len, bool settled,
     const amqp_delivery_state_fields *state, const uint8_t *condition, size_t condition_len,
     const uint8_t *description, size_t description_len, bool *echo, amqp_object *outcomes);
@@ -832,7 +860,8 @@ amqp_status amqp_sender_on_disposition(amqp_object *sender, const uint8_t *tag, 
 /* Makes the disposition of a delivery, by its id and its tag, and puts it into frames: none on a link that sends all
  * settled. If it settles a pending delivery, outcomes gets that.
  *
- * Refused with nothing changed: AMQP_NO_SUCH_NUMBER if there is no state of that kind, or none at all; AMQP_NO_TEXT. */
+ * Refused in this order, with nothing changed: AMQP_NO_SUCH_NUMBER if there is no state of that kind, or none at all;
+ * AMQP_NO_TEXT if a text is no UTF-8. */
 amqp_status amqp_sender_dispose(amqp_object *sender, uint32_t delivery_id, const uint8_t *tag,
     size_t tag_len, bool settled, const amqp_delivery_state_fields *state, const uint8_t *condition,
     size_t condition_len, const uint8_t *description, size_t description_len, amqp_object *frames,
@@ -850,7 +879,8 @@ amqp_status amqp_sender_fate(amqp_object *sender, size_t number, uint32_t *kind,
 amqp_status amqp_sender_fate_error(amqp_object *sender, size_t number, uint8_t *condition,
     size_t condition_room, uint8_t *description, size_t description_room, amqp_sizes *sizes);
 
-/* Releases what became of the registrations below this number. The numbers go on.
+/* Releases what became of the registrations below this number: neither tag nor outcome of one of them is kept, and their memory
+ * is used again. The numbers go on. A number past the last releases all.
  *
  * AMQP_STILL_PENDING, with nothing changed, if one of them is pending: first_pending says which is the first. */
 amqp_status amqp_sender_release(amqp_object *sender, size_t before, size_t *first_pending);
@@ -859,8 +889,8 @@ amqp_status amqp_sender_release(amqp_object *sender, size_t before, size_t *firs
 
 /* Makes the receiver of a link, which is not attached.
  *
- * AMQP_NO_SUCH_NUMBER if a number in terms, source or target stands for nothing, AMQP_NO_TEXT if the name or
- * an address is no UTF-8. */
+ * Refused in this order, with nothing changed: AMQP_NO_SUCH_NUMBER if a number in terms, source or target stands for
+ * nothing; AMQP_NO_TEXT if the name or an address is no UTF-8. */
 amqp_status amqp_receiver_new(amqp_object *receiver, const amqp_terms *terms, const uint8_t *name,
     size_t name_len, const amqp_terminus *source, const uint8_t *source_address, size_t source_address_len,
     const amqp_terminus *target, const uint8_t *target_address, size_t target_address_len);
@@ -874,26 +904,36 @@ enum {
   AMQP_EXCHANGE_INCOMPLETE = 1,
   /* The sender resumes deliveries. */
   AMQP_EXCHANGE_RESUME = 2,
-  /* Its last transfer had not arrived. */
+};
+
+enum {
+  /* The last transfer of the delivery had not arrived. */
   AMQP_STAGE_BEGUN = 1,
-  /* It was complete, and was not taken. */
+  /* The delivery was complete, and was not taken. */
   AMQP_STAGE_COMPLETE = 2,
-  /* It was taken. */
+  /* The delivery was taken. */
   AMQP_STAGE_TAKEN = 3,
 };
 
 /* Puts the attach to send into attach. Pass false for is_reattaching to resume what is unsettled; true is for a link that
  * begins anew: its attach states no delivery, and nothing is kept by a tag.
  *
- * Refused with nothing changed: AMQP_ILLEGAL_STATE without output handle, or if there is no transition from the link's state;
- * AMQP_ATTACH_TOO_LARGE. */
+ * Refused with nothing changed: AMQP_ILLEGAL_STATE without output handle, or in a state from which no attach is sent, which
+ * are all but AMQP_STATE_UNATTACHED, AMQP_STATE_DETACHED, AMQP_STATE_DETACH_SENT and those in which an attach has
+ * arrived; AMQP_ATTACH_TOO_LARGE. */
 amqp_status amqp_receiver_send_attach(amqp_object *receiver, bool is_reattaching, amqp_object *attach);
 
 /* Takes the sender's attach; attach keeps what it has. exchange says what follows: AMQP_EXCHANGE_COMPLETE and so
  * on. forgotten gets the deliveries that the sender does not know any more: of those nothing is kept.
  *
- * AMQP_ILLEGAL_STATE, with nothing changed, if there is no transition from the link's state. The other refusals of an
- * attach move the state: amqp_receiver_attach_failed makes the detach to send. */
+ * The name and the role in attach are not compared with the link's: the session finds the link by them.
+ *
+ * Refused in this order: AMQP_EMPTY and AMQP_WRONG_KIND of attach, and then of receiver; AMQP_ILLEGAL_STATE, with
+ * nothing changed, in all states but AMQP_STATE_UNATTACHED, AMQP_STATE_DETACHED and those in which an attach was sent;
+ * and with the state moved and the input handle set, AMQP_INCOMING_SOURCE_IS_NONE,
+ * AMQP_SOURCE_ADDRESS_IS_NONE_WHEN_DYNAMIC_IS_TRUE, and with the peer's source and snd_settle_mode taken too,
+ * AMQP_INITIAL_DELIVERY_COUNT_IS_NONE, AMQP_TARGET_ADDRESS_IS_SOME_WHEN_DYNAMIC_IS_TRUE. After these four
+ * amqp_receiver_attach_failed makes the detach to send. */
 amqp_status amqp_receiver_on_attach(amqp_object *receiver, amqp_object *attach, uint32_t *exchange,
     amqp_object *forgotten);
 
@@ -944,11 +984,19 @@ enum {
  * that is 0. After AMQP_ARRIVAL_COMPLETE call amqp_receiver_take with it, after AMQP_ARRIVAL_COMPLETE_SETTLED
  * amqp_receiver_take_settled. If the sender may dispose of deliveries, note the id and the tag of each first transfer.
  *
- * With nothing changed: AMQP_BUFFER_TOO_SMALL if the tag is longer than ended_tag has room: 32 bytes are room for each
- * that the standard allows (2.8.7). AMQP_NO_SUCH_NUMBER; AMQP_ILLEGAL_STATE unless both attaches were exchanged: ignore
- * what comes after your own detach. AMQP_DELIVERY_ID_IS_NONE, AMQP_DELIVERY_TAG_IS_NONE,
- * AMQP_ILLEGAL_RCV_SETTLE_MODE_IN_TRANSFER, AMQP_INCONSISTENT_FIELD_IN_MULTI_FRAME_DELIVERY, AMQP_PAYLOAD_TOO_LONG: the
- * sender's fault, end the link. */
+ * The first transfer that resumes a delivery starts at the position in its state, if that is AMQP_RECEIVED: what is held
+ * beyond that is dropped. Without such a state, or if nothing is held there, its payload follows what is held.
+ *
+ * Give ended_tag room for the longest tag that you accept, the same at each transfer: only the tag that comes with a transfer
+ * is measured, and not that of the delivery under way, which is given back. If that is longer than the room, since its first
+ * transfer came with a larger buffer, the transfer is taken, AMQP_OK, but no tag is copied, and ended_tag_size is 0.
+ *
+ * Refused in this order, with nothing changed: AMQP_BUFFER_TOO_SMALL if the tag that comes with the transfer is longer than
+ * ended_tag has room, with its size in ended_tag_size: 32 bytes are room for each that the standard allows (2.8.7).
+ * AMQP_NO_SUCH_NUMBER if the mode or the kind of the state is none. AMQP_ILLEGAL_STATE unless both attaches were exchanged:
+ * ignore what comes after your own detach. AMQP_DELIVERY_ID_IS_NONE, AMQP_DELIVERY_TAG_IS_NONE and
+ * AMQP_ILLEGAL_RCV_SETTLE_MODE_IN_TRANSFER of a first transfer; AMQP_INCONSISTENT_FIELD_IN_MULTI_FRAME_DELIVERY,
+ * AMQP_PAYLOAD_TOO_LONG: the sender's fault, end the link. */
 amqp_status amqp_receiver_on_transfer(amqp_object *receiver, const amqp_transfer *transfer,
     const uint8_t *tag, size_t tag_len, const uint8_t *payload, size_t payload_len, amqp_arriving *arriving,
     uint8_t *ended_tag, size_t ended_tag_room, size_t *ended_tag_size);
@@ -964,13 +1012,13 @@ amqp_status amqp_receiver_take(amqp_object *receiver, const uint8_t *tag, size_t
 
 /* Takes the first of the complete deliveries that their sender has settled.
  *
- * Refused with nothing changed: AMQP_NO_SUCH_ENTRY if there is none; AMQP_NOT_ATTACHED. */
+ * Refused in this order, with nothing changed: AMQP_NO_SUCH_ENTRY if there is none; AMQP_NOT_ATTACHED. */
 amqp_status amqp_receiver_take_settled(amqp_object *receiver, amqp_object *delivery);
 
 /* How many complete deliveries that their sender has settled wait to be taken. */
 amqp_status amqp_receiver_settled_count(amqp_object *receiver, size_t *count);
 
-/* What is kept of the delivery with this tag.
+/* What is kept of the delivery with this tag. Allocates only for a tag of more than 16 bytes.
  *
  * AMQP_UNKNOWN_TAG if nothing is. */
 amqp_status amqp_receiver_kept(amqp_object *receiver, const uint8_t *tag, size_t tag_len,
@@ -989,9 +1037,9 @@ amqp_status amqp_delivery_message(amqp_object *delivery, uint8_t *message, size_
 /* Makes the disposition of a delivery that was taken, with this state, and puts it into frames. settled is
  * AMQP_NOT_SETTLED, AMQP_SETTLED or AMQP_SETTLED_BY_MODE.
  *
- * With nothing changed: AMQP_NO_SUCH_NUMBER if there is no state of that kind, none at all, or settled is none of
- * the three; AMQP_NO_TEXT; AMQP_NOT_ATTACHED, AMQP_UNKNOWN_TAG, AMQP_NOT_TAKEN, AMQP_NOT_RESUMED: keep the
- * outcome then by amqp_receiver_keep_outcome. */
+ * Refused in this order, with nothing changed: AMQP_NO_SUCH_NUMBER if there is no state of that kind, none at all, or
+ * settled is none of the three; AMQP_NO_TEXT if a text is no UTF-8; AMQP_NOT_ATTACHED, AMQP_UNKNOWN_TAG,
+ * AMQP_NOT_TAKEN, AMQP_NOT_RESUMED: keep the outcome then by amqp_receiver_keep_outcome. */
 amqp_status amqp_receiver_dispose(amqp_object *receiver, const uint8_t *tag, size_t tag_len,
     uint32_t settled, const amqp_delivery_state_fields *state, const uint8_t *condition,
     size_t condition_len, const uint8_t *description, size_t description_len, bool batchable,
@@ -999,7 +1047,8 @@ amqp_status amqp_receiver_dispose(amqp_object *receiver, const uint8_t *tag, siz
 
 /* Keeps the outcome of a delivery that was taken, in any state of the link: the next attach states it.
  *
- * With nothing changed: AMQP_NO_SUCH_NUMBER, AMQP_NO_TEXT; AMQP_UNKNOWN_TAG, AMQP_NOT_TAKEN. */
+ * Refused in this order, with nothing changed: AMQP_NO_SUCH_NUMBER if there is no state of that kind, or none at all;
+ * AMQP_NO_TEXT if a text is no UTF-8; AMQP_UNKNOWN_TAG, AMQP_NOT_TAKEN. */
 amqp_status amqp_receiver_keep_outcome(amqp_object *receiver, const uint8_t *tag, size_t tag_len,
     const amqp_delivery_state_fields *state, const uint8_t *condition, size_t condition_len,
     const uint8_t *description, size_t description_len);
@@ -1007,7 +1056,8 @@ amqp_status amqp_receiver_keep_outcome(amqp_object *receiver, const uint8_t *tag
 /* Takes the sender's disposition of the delivery with this tag, which the session finds by the id. If it settles the
  * delivery, one that is complete waits to be taken as a settled one, and of one that was taken nothing is kept.
  *
- * AMQP_NO_SUCH_NUMBER if the kind of the state is none, AMQP_NO_TEXT. */
+ * Refused in this order, with nothing changed: AMQP_NO_SUCH_NUMBER if the kind of the state is none; AMQP_NO_TEXT if a
+ * text is no UTF-8. A tag of which nothing is kept is no refusal. */
 amqp_status amqp_receiver_on_disposition(amqp_object *receiver, const uint8_t *tag, size_t tag_len,
     bool settled, const amqp_delivery_state_fields *state, const uint8_t *condition, size_t condition_len,
     const uint8_t *description, size_t description_len);
@@ -1018,27 +1068,37 @@ amqp_status amqp_receiver_on_disposition(amqp_object *receiver, const uint8_t *t
  * condition and the description count if detach says that they are there; its handle does not. The output handle is released:
  * the frame has it.
  *
- * AMQP_ILLEGAL_STATE if there is no transition from the link's state, with nothing changed, or without output handle,
- * with the state moved. */
+ * Refused in this order: AMQP_NO_TEXT if a text of the error is no UTF-8, with nothing changed; AMQP_ILLEGAL_STATE in all
+ * states but AMQP_STATE_ATTACHED, with nothing changed, or without output handle, with the state moved. */
 amqp_status amqp_link_send_detach(amqp_object *link, const amqp_detach *detach, const uint8_t *condition,
     size_t condition_len, const uint8_t *description, size_t description_len, amqp_object *frames);
 
 /* Puts the detach to send after an incomplete exchange into frames. It moves no state: give the peer's reply to
- * amqp_link_apply_remote_detach, and attach again. */
+ * amqp_link_apply_remote_detach, and attach again.
+ *
+ * AMQP_UNATTACHED_HANDLE, with nothing changed, without output handle. */
 amqp_status amqp_link_detach_frame(amqp_object *link, amqp_object *frames);
 
-/* Takes the peer's reply to a detach that was sent. The error that the reply carries is
- * the status: AMQP_REMOTE_DETACHED_WITH_ERROR or AMQP_REMOTE_CLOSED_WITH_ERROR.
+/* Takes the peer's reply to a detach that was sent. The state moves, and the output handle is released.
  *
- * AMQP_ILLEGAL_STATE, with nothing changed, if there is no transition from the link's state. */
+ * Refused in this order, with nothing changed: AMQP_NO_TEXT if a text of the error is no UTF-8; AMQP_ILLEGAL_STATE in all
+ * states but AMQP_STATE_DETACH_SENT of a detach that does not close, and AMQP_STATE_CLOSE_SENT of one that does: give any
+ * other reply to amqp_link_apply_remote_detach.
+ *
+ * The error that the reply carries is the status, with the state moved and the output handle released:
+ * AMQP_REMOTE_DETACHED_WITH_ERROR or AMQP_REMOTE_CLOSED_WITH_ERROR. */
 amqp_status amqp_link_on_detach_reply(amqp_object *link, const amqp_detach *detach, const uint8_t *condition,
     size_t condition_len, const uint8_t *description, size_t description_len);
 
 /* Records a detach that the peer initiated and that was replied to, or the reply to the detach of
- * amqp_link_detach_frame; or a detach that crosses one of this end, which is its reply too. The output handle is released: take
- * what is complete before. Then the error that the detach carries is the status.
+ * amqp_link_detach_frame; or a detach that crosses one of this end, which is its reply too. The state moves, and the output
+ * handle is released: take what is complete before.
  *
- * AMQP_ILLEGAL_STATE, with nothing changed, if there is no transition from the link's state. */
+ * Refused in this order, with nothing changed: AMQP_NO_TEXT if a text of the error is no UTF-8; AMQP_ILLEGAL_STATE of a
+ * link that is unattached, detached or closed.
+ *
+ * The error that the detach carries is the status, with the state moved and the output handle released:
+ * AMQP_REMOTE_DETACHED_WITH_ERROR or AMQP_REMOTE_CLOSED_WITH_ERROR. */
 amqp_status amqp_link_apply_remote_detach(amqp_object *link, const amqp_detach *detach,
     const uint8_t *condition, size_t condition_len, const uint8_t *description, size_t description_len);
 
@@ -1046,7 +1106,8 @@ amqp_status amqp_link_apply_remote_detach(amqp_object *link, const amqp_detach *
  * outcomes the outcome of each pending delivery, if it closes the link. Reply, and then call
  * amqp_link_apply_remote_detach, which moves the state.
  *
- * AMQP_UNATTACHED_HANDLE, only if the peer initiated the detach. */
+ * Refused in this order, with nothing changed: AMQP_NO_TEXT if a text of the error is no UTF-8; AMQP_UNATTACHED_HANDLE
+ * without output handle, only if the peer initiated the detach. */
 amqp_status amqp_sender_on_detach(amqp_object *sender, const amqp_detach *detach, const uint8_t *condition,
     size_t condition_len, const uint8_t *description, size_t description_len, bool remote_initiated,
     amqp_object *reply, amqp_object *outcomes);
@@ -1054,7 +1115,8 @@ amqp_status amqp_sender_on_detach(amqp_object *sender, const amqp_detach *detach
 /* Takes a detach that has arrived at a receiver. reply gets the detach to reply with, if the peer initiated this one.
  * Reply, and then call amqp_link_apply_remote_detach, which moves the state. What is kept of deliveries stays.
  *
- * AMQP_UNATTACHED_HANDLE, only if the peer initiated the detach. */
+ * Refused in this order, with nothing changed: AMQP_NO_TEXT if a text of the error is no UTF-8; AMQP_UNATTACHED_HANDLE
+ * without output handle, only if the peer initiated the detach. */
 amqp_status amqp_receiver_on_detach(amqp_object *receiver, const amqp_detach *detach,
     const uint8_t *condition, size_t condition_len, const uint8_t *description, size_t description_len,
     bool remote_initiated, amqp_object *reply);
@@ -1062,7 +1124,7 @@ amqp_status amqp_receiver_on_detach(amqp_object *receiver, const amqp_detach *de
 /* Fails each pending delivery of a sender that is closed for good, with the error of this detach: outcomes gets them. Call it
  * after the link was closed by this end; a detach of the peer's that closes the link does it by amqp_sender_on_detach.
  *
- * Refused with nothing changed: AMQP_NO_TEXT. */
+ * AMQP_NO_TEXT, with nothing changed, if a text of the error is no UTF-8. */
 amqp_status amqp_sender_fail_pending_unsettled(amqp_object *sender, const amqp_detach *detach,
     const uint8_t *condition, size_t condition_len, const uint8_t *description, size_t description_len,
     amqp_object *outcomes);
@@ -1071,7 +1133,11 @@ amqp_status amqp_sender_fail_pending_unsettled(amqp_object *sender, const amqp_d
 
 /* What follows from the status with which amqp_sender_on_attach or amqp_sender_send_attach was refused, or with
  * which the session names what has arrived in place of the attach: frames gets the detach that closes the link, which is left
- * as by amqp_link_send_detach, or no frame. If the own attach was not sent yet, send it, and call this again. ends_session is set if the session is to be ended with amqp:session:handle-in-use. */
+ * as by amqp_link_send_detach, or no frame. ends_session is set if the session is to be ended with
+ * amqp:session:handle-in-use.
+ *
+ * There is a detach only in AMQP_STATE_ATTACHED. If the own attach was not sent yet, send it, and call this again. After an
+ * incomplete exchange, AMQP_STATE_INCOMPLETE_ATTACH_EXCHANGED, send the detach of amqp_link_detach_frame. */
 amqp_status amqp_sender_attach_failed(amqp_object *sender, uint32_t status, amqp_object *frames,
     bool *ends_session);
 

@@ -34,7 +34,7 @@ static void make_links(links *both) {
 static void attach(links *both) {
   amqp_object from_sender = {0}, from_receiver = {0}, resuming = {0}, forgotten = {0};
   uint32_t exchange;
-  bool incomplete;
+  bool incomplete = false;
   done(amqp_link_set_output_handle(&both->sender, 0));
   done(amqp_link_set_output_handle(&both->receiver, 0));
   done(amqp_sender_send_attach(&both->sender, false, &from_sender, &both->ended));
@@ -49,7 +49,7 @@ static void attach(links *both) {
 
 static void grant(links *both, uint32_t credit) {
   amqp_flow flow = {0}, reply = {0};
-  bool has_reply;
+  bool has_reply = false;
   done(amqp_receiver_send_flow(&both->receiver, true, credit, false, false, false, &flow));
   done(amqp_sender_on_flow(&both->sender, &flow, &reply, &has_reply));
 }
@@ -63,7 +63,7 @@ static void deliver(links *both, const uint8_t *payload, size_t size) {
   amqp_disposition sent = {0};
   uint8_t tag[32], bytes[512], over[32], message[512];
   size_t tag_size, message_size, first_pending;
-  bool echo;
+  bool echo = false;
   done(amqp_sender_send(&both->sender, payload, size, 0, AMQP_SETTLED_BY_MODE, false, &both->frames));
   done(amqp_frames_transfer(&both->frames, 0, &transfer, tag, sizeof tag, bytes, sizeof bytes, &sizes));
   transfer.has_delivery_id = true;

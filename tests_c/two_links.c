@@ -39,7 +39,7 @@ static void make_links(links *both) {
 static void attach(links *both, amqp_object *resuming) {
   amqp_object from_sender = {0}, from_receiver = {0}, ended = {0}, forgotten = {0};
   uint32_t exchange;
-  bool incomplete;
+  bool incomplete = false;
   done(amqp_link_set_output_handle(&both->sender, 0));
   done(amqp_link_set_output_handle(&both->receiver, 0));
   done(amqp_sender_send_attach(&both->sender, false, &from_sender, &ended));
@@ -55,7 +55,7 @@ static void attach(links *both, amqp_object *resuming) {
 /* The receiver lets the sender begin so many deliveries. */
 static void grant(links *both, uint32_t credit) {
   amqp_flow flow = {0}, reply = {0};
-  bool has_reply;
+  bool has_reply = false;
   done(amqp_receiver_send_flow(&both->receiver, true, credit, false, false, false, &flow));
   done(amqp_sender_on_flow(&both->sender, &flow, &reply, &has_reply));
 }
@@ -109,7 +109,7 @@ static void take_and_accept(links *both) {
   amqp_disposition sent = {0};
   uint8_t message[100];
   size_t size;
-  bool echo;
+  bool echo = false;
   done(amqp_receiver_take(&both->receiver, both->tag, both->tag_size, &delivery));
   done(amqp_delivery_message(&delivery, message, sizeof message, &size));
   printf("taken: %.*s\n", (int)size - 5, message + 5);

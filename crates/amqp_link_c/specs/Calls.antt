@@ -8,7 +8,7 @@ use Rattle.amqp_link_flat.specs.declared.flow.Flow.{Flow}
 use Rattle.amqp_link_inbox.specs.Inboxes.{InboxState}
 use Rattle.amqp_link_ledger.specs.Ledgers.{Ledger}
 use Rattle.amqp_link_object.specs.Objects.{value_in}
-use Rattle.amqp_link_object.specs.States.{receiver_in, sender_in}
+use Rattle.amqp_link_object.specs.States.{kind_in, receiver_in, sender_in}
 use Rattle.amqp_link_object.specs.declared.object.Object.{Object}
 use Rattle.amqp_link_object.specs.declared.state.State.{State}
 use Rattle.amqp_link_object.specs.declared.state.State.TheVariants as state
@@ -34,6 +34,14 @@ OfSender old new Holds = IfSome (sender_in (value_in old)) (λ before. IsSomeAnd
 -- what holds of the receiver in an object before a call and after it
 abbrev pub OfReceiver : Object → Object → (InboxState Target → InboxState Target → Type 0) → Type 0
 OfReceiver old new Holds = IfSome (receiver_in (value_in old)) (λ before. IsSomeAnd (receiver_in (value_in new)) (Holds before))
+
+-- an object that has frames to send, of which there may be none
+abbrev pub IsFramesObject : Object → Type 0
+IsFramesObject object = kind_in (value_in object) ≡ 3
+
+-- an object that has deliveries that have ended, of which there may be none
+abbrev pub IsOutcomesObject : Object → Type 0
+IsOutcomesObject object = kind_in (value_in object) ≡ 6
 
 -- The status of a call that makes these tests in this order, with a status for each error: that of the first that holds, or 0. Out
 -- of memory may come in the place of any.

@@ -4,7 +4,7 @@ ghost use Rattle.amqp_link_c.specs.Attaching.{as_archetype, source_address, stat
 ghost use Rattle.amqp_link_c.specs.Calls.{wrong_status};
 ghost use Rattle.amqp_link_c.specs.Reading.{AreCopied, IsCopied, description_bytes};
 ghost use Rattle.amqp_link_endpoint.specs.AttachFields.{remote_entries};
-ghost use Rattle.amqp_link_flat.specs.Attaches.{CarriesAddress, plain_attach, plain_source, plain_target, stated_attach, stated_source, stated_target};
+ghost use Rattle.amqp_link_flat.specs.Attaches.{CarriesAddress, IsAddress, plain_attach, plain_source, plain_target, stated_attach, stated_source, stated_target};
 ghost use Rattle.amqp_link_flat.specs.Flat.{CarriesError, plain_state, stated_state};
 ghost use Rattle.amqp_link_flat.specs.Refusing.{AreTexts, IsValueRefusal};
 ghost use Rattle.amqp_link_object.specs.Objects.{value_in};
@@ -24,7 +24,8 @@ use std::alloc::Global;
 
 /// Makes an attach as it has arrived: with these fields, without termini and unsettled deliveries.
 ///
-/// `AMQP_NO_SUCH_NUMBER` if a role or a mode is none, `AMQP_NO_TEXT` if the name is no UTF-8.
+/// Refused in this order, with nothing changed: `AMQP_NO_SUCH_NUMBER` if a role or a mode is none; `AMQP_NO_TEXT` if the name
+/// is no UTF-8.
 #[unsafe(no_mangle)]
 pub extern "C" fn amqp_attach_new(
     alloc: Global,
@@ -36,6 +37,8 @@ pub extern "C" fn amqp_attach_new(
         attach_in (value_in attach.new) ≡ Some made) }
     ensures number { (result ≡ 5) ↔ (stated_attach fields.now name.now ≡ None) }
     ensures no_text { result ≡ 4 → ¬ (IsUtf8 name.now) }
+    ensures utf8 { IsValueRefusal result ⊎ IsUtf8 name.now }
+    ensures memory { result ≡ 3 → IsUtf8 name.now }
     ensures refused { (result ≡ 0) ⊎ IsValueRefusal result }
     ensures left { (result ≡ 0 → ⊥) → value_in attach.new ≡ value_in attach.old }
 {
@@ -53,8 +56,8 @@ pub extern "C" fn amqp_attach_new(
 
 /// Sets the source of an attach.
 ///
-/// Refused with nothing changed: `AMQP_NO_SUCH_NUMBER` if a number in source stands for nothing; `AMQP_NO_TEXT` if the address
-/// is no UTF-8.
+/// Refused in this order, with nothing changed: `AMQP_NO_SUCH_NUMBER` if a number in `source` stands for nothing;
+/// `AMQP_NO_TEXT` if the address is no UTF-8.
 #[unsafe(no_mangle)]
 pub extern "C" fn amqp_attach_set_source(
     alloc: Global,
@@ -69,6 +72,9 @@ pub extern "C" fn amqp_attach_set_source(
     ensures number { IsSome (attach_in (value_in attach.old))
         → (result ≡ 5) ↔ (stated_source source.now address.now ≡ None) }
     ensures no_text { result ≡ 4 → CarriesAddress source.now × ¬ (IsUtf8 address.now) }
+    ensures utf8 { IsSome (attach_in (value_in attach.old))
+        → IsValueRefusal result ⊎ IsAddress source.now address.now }
+    ensures memory { result ≡ 3 → CarriesAddress source.now × IsUtf8 address.now }
     ensures refused { IsSome (attach_in (value_in attach.old)) → (result ≡ 0) ⊎ IsValueRefusal result }
     ensures left { (result ≡ 0 → ⊥) → value_in attach.new ≡ value_in attach.old }
 {
@@ -83,8 +89,8 @@ pub extern "C" fn amqp_attach_set_source(
 
 /// Sets the target of an attach.
 ///
-/// Refused with nothing changed: `AMQP_NO_SUCH_NUMBER` if a number in target stands for nothing; `AMQP_NO_TEXT` if the address
-/// is no UTF-8.
+/// Refused in this order, with nothing changed: `AMQP_NO_SUCH_NUMBER` if a number in `target` stands for nothing;
+/// `AMQP_NO_TEXT` if the address is no UTF-8.
 #[unsafe(no_mangle)]
 pub extern "C" fn amqp_attach_set_target(
     alloc: Global,
@@ -99,6 +105,9 @@ pub extern "C" fn amqp_attach_set_target(
     ensures number { IsSome (attach_in (value_in attach.old))
         → (result ≡ 5) ↔ (stated_target target.now address.now ≡ None) }
     ensures no_text { result ≡ 4 → CarriesAddress target.now × ¬ (IsUtf8 address.now) }
+    ensures utf8 { IsSome (attach_in (value_in attach.old))
+        → IsValueRefusal result ⊎ IsAddress target.now address.now }
+    ensures memory { result ≡ 3 → CarriesAddress target.now × IsUtf8 address.now }
     ensures refused { IsSome (attach_in (value_in attach.old)) → (result ≡ 0) ⊎ IsValueRefusal result }
     ensures left { (result ≡ 0 → ⊥) → value_in attach.new ≡ value_in attach.old }
 {
@@ -175,7 +184,8 @@ fn add_unsettled(
 /// Adds an unsettled delivery to an attach: its tag and its state, with these texts of a rejection's error. One that the attach
 /// has under the same tag is replaced.
 ///
-/// Refused with nothing changed: `AMQP_NO_SUCH_NUMBER` if the kind of the state is none; `AMQP_NO_TEXT` if a text is no UTF-8.
+/// Refused in this order, with nothing changed: `AMQP_NO_SUCH_NUMBER` if the kind of the state is none; `AMQP_NO_TEXT` if a
+/// text is no UTF-8.
 #[unsafe(no_mangle)]
 pub extern "C" fn amqp_attach_add_unsettled(
     alloc: Global,
@@ -193,6 +203,9 @@ pub extern "C" fn amqp_attach_add_unsettled(
         → (result ≡ 5) ↔ (stated_state state.now condition.now description.now ≡ None) }
     ensures no_text { result ≡ 4 → ¬ (AreTexts (CarriesError state.now)
         state.now.has_description condition.now description.now) }
+    ensures utf8 { IsSome (attach_in (value_in attach.old)) → IsValueRefusal result ⊎ AreTexts (CarriesError state.now)
+        state.now.has_description condition.now description.now }
+    ensures condition { result ≡ 3 → CarriesError state.now → IsUtf8 condition.now }
     ensures refused { IsSome (attach_in (value_in attach.old)) → (result ≡ 0) ⊎ IsValueRefusal result }
     ensures left { (result ≡ 0 → ⊥) → value_in attach.new ≡ value_in attach.old }
 {
@@ -212,7 +225,7 @@ pub extern "C" fn amqp_attach_look(
     name_size: &mut usize,
 ) -> Status
     ensures kind { attach_in (value_in attach.old) ≡ None
-        → (result ≡ wrong_status (value_in attach.old)) × (name.new ≡ name.old) }
+        → (result ≡ wrong_status (value_in attach.old)) × (name.new ≡ name.old) × (name_size.new ≡ name_size.old) }
     ensures copied { IfSome (attach_in (value_in attach.old)) (λ read.
         IsCopied read.name name.old name.new name_size.new result) }
     ensures fields { result ≡ 0 → IsSomeAnd (attach_in (value_in attach.old)) (λ read. fields.new ≡ plain_attach read) }
@@ -248,7 +261,7 @@ pub extern "C" fn amqp_attach_source(
     address_size: &mut usize,
 ) -> Status
     ensures kind { attach_in (value_in attach.old) ≡ None
-        → (result ≡ wrong_status (value_in attach.old)) × (address.new ≡ address.old) }
+        → (result ≡ wrong_status (value_in attach.old)) × (address.new ≡ address.old) × (address_size.new ≡ address_size.old) }
     ensures copied { IfSome (attach_in (value_in attach.old)) (λ read.
         IsCopied (source_address read.source) address.old address.new address_size.new result) }
     ensures source { result ≡ 0 → IsSomeAnd (attach_in (value_in attach.old)) (λ read. source.new ≡ plain_source read.source) }
@@ -278,7 +291,7 @@ pub extern "C" fn amqp_attach_target(
     address_size: &mut usize,
 ) -> Status
     ensures kind { attach_in (value_in attach.old) ≡ None
-        → (result ≡ wrong_status (value_in attach.old)) × (address.new ≡ address.old) }
+        → (result ≡ wrong_status (value_in attach.old)) × (address.new ≡ address.old) × (address_size.new ≡ address_size.old) }
     ensures copied { IfSome (attach_in (value_in attach.old)) (λ read.
         IsCopied (target_address read.target) address.old address.new address_size.new result) }
     ensures target { result ≡ 0 → IsSomeAnd (attach_in (value_in attach.old)) (λ read. target.new ≡ plain_target read.target) }
@@ -326,7 +339,8 @@ fn copy_unsettled(
     tag: &mut [u8],
     tag_size: &mut usize,
 ) -> u32
-    ensures absent { slice_get (remote_entries attach.now) number ≡ None → (result ≡ 7) × (tag.new ≡ tag.old) }
+    ensures absent { slice_get (remote_entries attach.now) number ≡ None
+        → (result ≡ 7) × (tag.new ≡ tag.old) × (tag_size.new ≡ tag_size.old) }
     ensures copied { IfSome (slice_get (remote_entries attach.now) number) (λ entry.
         IsCopied entry.0 tag.old tag.new tag_size.new result) }
     ensures state { result ≡ 0 → IsSomeAnd (slice_get (remote_entries attach.now) number) (λ entry.
@@ -357,9 +371,9 @@ pub extern "C" fn amqp_attach_unsettled(
     tag_size: &mut usize,
 ) -> Status
     ensures kind { attach_in (value_in attach.old) ≡ None
-        → (result ≡ wrong_status (value_in attach.old)) × (tag.new ≡ tag.old) }
+        → (result ≡ wrong_status (value_in attach.old)) × (tag.new ≡ tag.old) × (tag_size.new ≡ tag_size.old) }
     ensures absent { IsSome (attach_in (value_in attach.old)) → slice_get (unsettled_in (value_in attach.old)) number ≡ None
-        → (result ≡ 7) × (tag.new ≡ tag.old) }
+        → (result ≡ 7) × (tag.new ≡ tag.old) × (tag_size.new ≡ tag_size.old) }
     ensures copied { IfSome (slice_get (unsettled_in (value_in attach.old)) number) (λ entry.
         IsCopied entry.0 tag.old tag.new tag_size.new result) }
     ensures state { result ≡ 0 → IsSomeAnd (slice_get (unsettled_in (value_in attach.old)) number) (λ entry.
@@ -391,9 +405,9 @@ pub extern "C" fn amqp_attach_unsettled_error(
     sizes: &mut Sizes,
 ) -> Status
     ensures kind { attach_in (value_in attach.old) ≡ None → (result ≡ wrong_status (value_in attach.old))
-        × (condition.new ≡ condition.old) × (description.new ≡ description.old) }
+        × (condition.new ≡ condition.old) × (description.new ≡ description.old) × (sizes.new ≡ sizes.old) }
     ensures absent { IfSome (attach_in (value_in attach.old)) (λ read. stated_error_at number read ≡ None
-        → (result ≡ 7) × (condition.new ≡ condition.old) × (description.new ≡ description.old)) }
+        → (result ≡ 7) × (condition.new ≡ condition.old) × (description.new ≡ description.old) × (sizes.new ≡ sizes.old)) }
     ensures copied { IfSome (attach_in (value_in attach.old)) (λ read. IfSome (stated_error_at number read) (λ error.
         AreCopied error.condition (description_bytes error) condition.old condition.new
         description.old description.new sizes.new result)) }

@@ -1,14 +1,14 @@
 //! Detaches of links of either role (2.6.5, 2.6.6).
-ghost use Rattle.std.specs.Prelude.{◌≡◌, ◌⊎◌, ◌∷◌, [], None, Some, false, IfSome, IsSome, IsSomeAnd, MatchOption};
+ghost use Rattle.std.specs.Prelude.{◌≡◌, ◌⊎◌, ◌∷◌, [], None, Some, false, IfSome, IsSome, IsSomeAnd, IsTrue, IsUtf8, MatchOption};
 ghost use Rattle.std.specs.Option.{option_map_or};
-ghost use Rattle.amqp_link_c.specs.Calls.{OfSender, error_stated, status_by, wrong_status};
+ghost use Rattle.amqp_link_c.specs.Calls.{IsFramesObject, IsOutcomesObject, OfSender, error_stated, status_by, wrong_status};
 ghost use Rattle.amqp_link_c.specs.Detaching.{FailsPending, TakesDetach, arrived_status, replies};
 ghost use Rattle.amqp_link_c.specs.Links.{link_state_in, output_handle_in, recorded_status, released_to, sent_status, state_after_call};
 ghost use Rattle.amqp_link_endpoint.specs.Detaching;
 ghost use Rattle.amqp_link_endpoint.specs.Detaching.{remote_error, reply_error};
 ghost use Rattle.amqp_link_endpoint.specs.LinkStates.{Call, next_state};
 ghost use Rattle.amqp_link_flat.specs.Flat.{stated_detach, stated_error};
-ghost use Rattle.amqp_link_flat.specs.Refusing.{IsTextRefusal};
+ghost use Rattle.amqp_link_flat.specs.Refusing.{AreTexts, IsTextRefusal};
 ghost use Rattle.amqp_link_flat.specs.Statuses.{apply_detach_status, detach_status};
 ghost use Rattle.amqp_link_object.specs.Objects.{value_in};
 ghost use Rattle.amqp_link_types.specs.declared.frame.LinkFrame.TheVariants as frame;
@@ -48,6 +48,11 @@ fn send_detach<L: LinkDetach<DetachError = DetachError>>(
         ≡ Detaching.detach_frame handle closed (stated_error texts.entry.has_error texts.entry.has_description
         texts.entry.condition.now texts.entry.description.now) ∷ []) }
     ensures left { (result ≡ 0 → ⊥) → value_in frames.new ≡ value_in frames.old }
+    ensures no_text { result ≡ 4 → ¬ (AreTexts (IsTrue texts.entry.has_error)
+        texts.entry.has_description texts.entry.condition.now texts.entry.description.now) }
+    ensures utf8 { IsTextRefusal result ⊎ AreTexts (IsTrue texts.entry.has_error)
+        texts.entry.has_description texts.entry.condition.now texts.entry.description.now }
+    ensures condition { result ≡ 3 → IsTrue texts.entry.has_error → IsUtf8 texts.entry.condition.now }
 {
     let error = match error_of(alloc, texts) {
         Ok(error) => error,
@@ -73,8 +78,8 @@ fn send_detach<L: LinkDetach<DetachError = DetachError>>(
 /// condition and the description count if `detach` says that they are there; its handle does not. The output handle is released:
 /// the frame has it.
 ///
-/// `AMQP_ILLEGAL_STATE` if there is no transition from the link's state, with nothing changed, or without output handle,
-/// with the state moved.
+/// Refused in this order: `AMQP_NO_TEXT` if a text of the error is no UTF-8, with nothing changed; `AMQP_ILLEGAL_STATE` in all
+/// states but `AMQP_STATE_ATTACHED`, with nothing changed, or without output handle, with the state moved.
 #[unsafe(no_mangle)]
 pub extern "C" fn amqp_link_send_detach(
     alloc: Global,
@@ -94,6 +99,11 @@ pub extern "C" fn amqp_link_send_detach(
         ≡ Detaching.detach_frame handle detach.now.closed (stated_error detach.now.has_error detach.now.has_description
         condition.now description.now) ∷ []) }
     ensures left { (result ≡ 0 → ⊥) → value_in frames.new ≡ value_in frames.old }
+    ensures no_text { result ≡ 4 → ¬ (AreTexts (IsTrue detach.now.has_error)
+        detach.now.has_description condition.now description.now) }
+    ensures utf8 { IsSome (link_state_in (value_in link.old)) → IsTextRefusal result ⊎ AreTexts (IsTrue detach.now.has_error)
+        detach.now.has_description condition.now description.now }
+    ensures condition { result ≡ 3 → IsTrue detach.now.has_error → IsUtf8 condition.now }
 {
     let texts = ErrorTexts {
         has_error: detach.has_error,
@@ -124,6 +134,8 @@ fn detach_only<L: LinkExt>(alloc: Global, link: &L, frames: &mut Object) -> u32
 
 /// Puts the detach to send after an incomplete exchange into `frames`. It moves no state: give the peer's reply to
 /// `amqp_link_apply_remote_detach`, and attach again.
+///
+/// `AMQP_UNATTACHED_HANDLE`, with nothing changed, without output handle.
 #[unsafe(no_mangle)]
 pub extern "C" fn amqp_link_detach_frame(
     alloc: Global,
@@ -156,6 +168,12 @@ fn take_reply<L: LinkDetach<DetachError = DetachError>>(
     ensures moved { (IsTextRefusal result → ⊥) → MatchOption (next_state Call.DetachReply detach.now.closed (L.shown link.old).local_state)
         (link.new ≡ link.old)
         (λ next. link.new ≡ L.moved link.old next None) }
+    ensures no_text { result ≡ 4 → ¬ (AreTexts (IsTrue detach.now.has_error)
+        detach.now.has_description condition.now description.now) }
+    ensures utf8 { IsTextRefusal result ⊎ AreTexts (IsTrue detach.now.has_error)
+        detach.now.has_description condition.now description.now }
+    ensures condition { result ≡ 3 → IsTrue detach.now.has_error → IsUtf8 condition.now }
+    ensures memory { result ≡ 3 → IsTrue detach.now.has_error }
 {
     let detach = match detach.to_detach(alloc, condition, description) {
         Ok(detach) => detach,
@@ -167,10 +185,14 @@ fn take_reply<L: LinkDetach<DetachError = DetachError>>(
     }
 }
 
-/// Takes the peer's reply to a detach that was sent. The error that the reply carries is
-/// the status: `AMQP_REMOTE_DETACHED_WITH_ERROR` or `AMQP_REMOTE_CLOSED_WITH_ERROR`.
+/// Takes the peer's reply to a detach that was sent. The state moves, and the output handle is released.
 ///
-/// `AMQP_ILLEGAL_STATE`, with nothing changed, if there is no transition from the link's state.
+/// Refused in this order, with nothing changed: `AMQP_NO_TEXT` if a text of the error is no UTF-8; `AMQP_ILLEGAL_STATE` in all
+/// states but `AMQP_STATE_DETACH_SENT` of a detach that does not close, and `AMQP_STATE_CLOSE_SENT` of one that does: give any
+/// other reply to `amqp_link_apply_remote_detach`.
+///
+/// The error that the reply carries is the status, with the state moved and the output handle released:
+/// `AMQP_REMOTE_DETACHED_WITH_ERROR` or `AMQP_REMOTE_CLOSED_WITH_ERROR`.
 #[unsafe(no_mangle)]
 pub extern "C" fn amqp_link_on_detach_reply(
     alloc: Global,
@@ -186,6 +208,12 @@ pub extern "C" fn amqp_link_on_detach_reply(
     ensures texts { IsTextRefusal result → value_in link.new ≡ value_in link.old }
     ensures moved { (IsTextRefusal result → ⊥) → value_in link.new ≡ released_to
         (state_after_call Call.DetachReply detach.now.closed (value_in link.old)) (value_in link.old) }
+    ensures no_text { result ≡ 4 → ¬ (AreTexts (IsTrue detach.now.has_error)
+        detach.now.has_description condition.now description.now) }
+    ensures utf8 { IsSome (link_state_in (value_in link.old)) → IsTextRefusal result ⊎ AreTexts (IsTrue detach.now.has_error)
+        detach.now.has_description condition.now description.now }
+    ensures condition { result ≡ 3 → IsTrue detach.now.has_error → IsUtf8 condition.now }
+    ensures memory { result ≡ 3 → IsTrue detach.now.has_error }
 {
     with_value!(alloc, link, Sender | Receiver, end => take_reply(alloc, end, detach, condition, description))
 }
@@ -205,6 +233,12 @@ fn record_detach<L: LinkDetach>(
     ensures moved { (IsTextRefusal result → ⊥) → MatchOption (next_state Call.RemoteDetach detach.now.closed (L.shown link.old).local_state)
         (link.new ≡ link.old)
         (λ next. link.new ≡ L.moved link.old next None) }
+    ensures no_text { result ≡ 4 → ¬ (AreTexts (IsTrue detach.now.has_error)
+        detach.now.has_description condition.now description.now) }
+    ensures utf8 { IsTextRefusal result ⊎ AreTexts (IsTrue detach.now.has_error)
+        detach.now.has_description condition.now description.now }
+    ensures condition { result ≡ 3 → IsTrue detach.now.has_error → IsUtf8 condition.now }
+    ensures memory { result ≡ 3 → IsTrue detach.now.has_error }
 {
     let detach = match detach.to_detach(alloc, condition, description) {
         Ok(detach) => detach,
@@ -217,10 +251,14 @@ fn record_detach<L: LinkDetach>(
 }
 
 /// Records a detach that the peer initiated and that was replied to, or the reply to the detach of
-/// `amqp_link_detach_frame`; or a detach that crosses one of this end, which is its reply too. The output handle is released: take
-/// what is complete before. Then the error that the detach carries is the status.
+/// `amqp_link_detach_frame`; or a detach that crosses one of this end, which is its reply too. The state moves, and the output
+/// handle is released: take what is complete before.
 ///
-/// `AMQP_ILLEGAL_STATE`, with nothing changed, if there is no transition from the link's state.
+/// Refused in this order, with nothing changed: `AMQP_NO_TEXT` if a text of the error is no UTF-8; `AMQP_ILLEGAL_STATE` of a
+/// link that is unattached, detached or closed.
+///
+/// The error that the detach carries is the status, with the state moved and the output handle released:
+/// `AMQP_REMOTE_DETACHED_WITH_ERROR` or `AMQP_REMOTE_CLOSED_WITH_ERROR`.
 #[unsafe(no_mangle)]
 pub extern "C" fn amqp_link_apply_remote_detach(
     alloc: Global,
@@ -236,6 +274,12 @@ pub extern "C" fn amqp_link_apply_remote_detach(
     ensures texts { IsTextRefusal result → value_in link.new ≡ value_in link.old }
     ensures moved { (IsTextRefusal result → ⊥) → value_in link.new ≡ released_to
         (state_after_call Call.RemoteDetach detach.now.closed (value_in link.old)) (value_in link.old) }
+    ensures no_text { result ≡ 4 → ¬ (AreTexts (IsTrue detach.now.has_error)
+        detach.now.has_description condition.now description.now) }
+    ensures utf8 { IsSome (link_state_in (value_in link.old)) → IsTextRefusal result ⊎ AreTexts (IsTrue detach.now.has_error)
+        detach.now.has_description condition.now description.now }
+    ensures condition { result ≡ 3 → IsTrue detach.now.has_error → IsUtf8 condition.now }
+    ensures memory { result ≡ 3 → IsTrue detach.now.has_error }
 {
     with_value!(alloc, link, Sender | Receiver, end => record_detach(alloc, end, detach, condition, description))
 }
@@ -245,19 +289,26 @@ fn take_at_sender(
     alloc: Global,
     ledger: &mut OutcomeLedger<Target>,
     detach: &Detach,
-    texts: ErrorTexts<'_>,
+    condition: &[u8],
+    description: &[u8],
     remote_initiated: bool,
     reply: &mut Object,
     outcomes: &mut Object,
 ) -> u32
     ensures status { IsTextRefusal result ⊎ (result ≡ arrived_status remote_initiated ledger.old.link.output_handle) }
-    ensures taken { result ≡ 0 → TakesDetach (stated_detach detach.now texts.entry.condition.now texts.entry.description.now)
+    ensures taken { result ≡ 0 → TakesDetach (stated_detach detach.now condition.now description.now)
         remote_initiated (frames_in (value_in reply.new)) (outcomes_in (value_in outcomes.new)) ledger.old ledger.new }
+    ensures made { result ≡ 0 → IsFramesObject reply.new × IsOutcomesObject outcomes.new }
+    ensures no_text { result ≡ 4 → ¬ (AreTexts (IsTrue detach.now.has_error)
+        detach.now.has_description condition.now description.now) }
+    ensures utf8 { IsTextRefusal result ⊎ AreTexts (IsTrue detach.now.has_error)
+        detach.now.has_description condition.now description.now }
+    ensures condition { result ≡ 3 → IsTrue detach.now.has_error → IsUtf8 condition.now }
     ensures left { (result ≡ 0 → ⊥) →
         (ledger.new ≡ ledger.old) × (value_in reply.new ≡ value_in reply.old)
         × (value_in outcomes.new ≡ value_in outcomes.old) }
 {
-    let detach = match detach.to_detach(alloc, texts.condition, texts.description) {
+    let detach = match detach.to_detach(alloc, condition, description) {
         Ok(detach) => detach,
         Err(refused) => return refused,
     };
@@ -285,7 +336,8 @@ fn fill_reply(
     answer: Option<amqp_link_types::types::Detach>,
     alloc: Global,
 )
-    ensures { frames_in (value_in reply.new) ≡ option_map_or (λ detach. frame.Detach detach ∷ []) answer [] }
+    ensures frames { frames_in (value_in reply.new) ≡ option_map_or (λ detach. frame.Detach detach ∷ []) answer [] }
+    ensures made { IsFramesObject reply.new }
 {
     match answer {
         Some(answer) => reply.fill(room, State::Frame(LinkFrame::Detach(answer))),
@@ -297,7 +349,8 @@ fn fill_reply(
 /// `outcomes` the outcome of each pending delivery, if it closes the link. Reply, and then call
 /// `amqp_link_apply_remote_detach`, which moves the state.
 ///
-/// `AMQP_UNATTACHED_HANDLE`, only if the peer initiated the detach.
+/// Refused in this order, with nothing changed: `AMQP_NO_TEXT` if a text of the error is no UTF-8; `AMQP_UNATTACHED_HANDLE`
+/// without output handle, only if the peer initiated the detach.
 #[unsafe(no_mangle)]
 pub extern "C" fn amqp_sender_on_detach(
     alloc: Global,
@@ -314,18 +367,18 @@ pub extern "C" fn amqp_sender_on_detach(
         IsTextRefusal result ⊎ (result ≡ arrived_status remote_initiated before.link.output_handle)) }
     ensures taken { result ≡ 0 → OfSender sender.old sender.new (TakesDetach (stated_detach detach.now condition.now description.now)
         remote_initiated (frames_in (value_in reply.new)) (outcomes_in (value_in outcomes.new))) }
+    ensures made { result ≡ 0 → IsFramesObject reply.new × IsOutcomesObject outcomes.new }
+    ensures no_text { result ≡ 4 → ¬ (AreTexts (IsTrue detach.now.has_error)
+        detach.now.has_description condition.now description.now) }
+    ensures utf8 { IsSome (sender_in (value_in sender.old)) → IsTextRefusal result ⊎ AreTexts (IsTrue detach.now.has_error)
+        detach.now.has_description condition.now description.now }
+    ensures condition { result ≡ 3 → IsTrue detach.now.has_error → IsUtf8 condition.now }
     ensures left { (result ≡ 0 → ⊥) →
         (value_in sender.new ≡ value_in sender.old) × (value_in reply.new ≡ value_in reply.old)
         × (value_in outcomes.new ≡ value_in outcomes.old) }
 {
-    let texts = ErrorTexts {
-        has_error: detach.has_error,
-        has_description: detach.has_description,
-        condition,
-        description,
-    };
     with_value!(alloc, sender, Sender, ledger => {
-        take_at_sender(alloc, ledger, detach, texts, remote_initiated, reply, outcomes)
+        take_at_sender(alloc, ledger, detach, condition, description, remote_initiated, reply, outcomes)
     })
 }
 
@@ -334,16 +387,23 @@ fn take_at_receiver(
     alloc: Global,
     inbox: &Inbox<Target>,
     detach: &Detach,
-    texts: ErrorTexts<'_>,
+    condition: &[u8],
+    description: &[u8],
     remote_initiated: bool,
     reply: &mut Object,
 ) -> u32
     ensures status { IsTextRefusal result ⊎ (result ≡ arrived_status remote_initiated inbox.now.link.output_handle) }
     ensures reply { result ≡ 0 → frames_in (value_in reply.new) ≡ replies remote_initiated inbox.now.link.output_handle
-        (stated_detach detach.now texts.entry.condition.now texts.entry.description.now) }
+        (stated_detach detach.now condition.now description.now) }
+    ensures made { result ≡ 0 → IsFramesObject reply.new }
+    ensures no_text { result ≡ 4 → ¬ (AreTexts (IsTrue detach.now.has_error)
+        detach.now.has_description condition.now description.now) }
+    ensures utf8 { IsTextRefusal result ⊎ AreTexts (IsTrue detach.now.has_error)
+        detach.now.has_description condition.now description.now }
+    ensures condition { result ≡ 3 → IsTrue detach.now.has_error → IsUtf8 condition.now }
     ensures left { (result ≡ 0 → ⊥) → value_in reply.new ≡ value_in reply.old }
 {
-    let detach = match detach.to_detach(alloc, texts.condition, texts.description) {
+    let detach = match detach.to_detach(alloc, condition, description) {
         Ok(detach) => detach,
         Err(refused) => return refused,
     };
@@ -370,7 +430,8 @@ fn take_at_receiver(
 /// Takes a detach that has arrived at a receiver. `reply` gets the detach to reply with, if the peer initiated this one.
 /// Reply, and then call `amqp_link_apply_remote_detach`, which moves the state. What is kept of deliveries stays.
 ///
-/// `AMQP_UNATTACHED_HANDLE`, only if the peer initiated the detach.
+/// Refused in this order, with nothing changed: `AMQP_NO_TEXT` if a text of the error is no UTF-8; `AMQP_UNATTACHED_HANDLE`
+/// without output handle, only if the peer initiated the detach.
 #[unsafe(no_mangle)]
 pub extern "C" fn amqp_receiver_on_detach(
     alloc: Global,
@@ -386,17 +447,17 @@ pub extern "C" fn amqp_receiver_on_detach(
         IsTextRefusal result ⊎ (result ≡ arrived_status remote_initiated inbox.link.output_handle)) }
     ensures reply { result ≡ 0 → IfSome (receiver_in (value_in receiver.old)) (λ inbox. frames_in (value_in reply.new)
         ≡ replies remote_initiated inbox.link.output_handle (stated_detach detach.now condition.now description.now)) }
+    ensures made { result ≡ 0 → IsFramesObject reply.new }
+    ensures no_text { result ≡ 4 → ¬ (AreTexts (IsTrue detach.now.has_error)
+        detach.now.has_description condition.now description.now) }
+    ensures utf8 { IsSome (receiver_in (value_in receiver.old)) → IsTextRefusal result ⊎ AreTexts (IsTrue detach.now.has_error)
+        detach.now.has_description condition.now description.now }
+    ensures condition { result ≡ 3 → IsTrue detach.now.has_error → IsUtf8 condition.now }
     ensures kept { value_in receiver.new ≡ value_in receiver.old }
     ensures left { (result ≡ 0 → ⊥) → value_in reply.new ≡ value_in reply.old }
 {
-    let texts = ErrorTexts {
-        has_error: detach.has_error,
-        has_description: detach.has_description,
-        condition,
-        description,
-    };
     with_value!(alloc, receiver, Receiver, inbox => {
-        take_at_receiver(alloc, inbox, detach, texts, remote_initiated, reply)
+        take_at_receiver(alloc, inbox, detach, condition, description, remote_initiated, reply)
     })
 }
 
@@ -405,15 +466,22 @@ fn fail_pending(
     alloc: Global,
     ledger: &mut OutcomeLedger<Target>,
     detach: &Detach,
-    texts: ErrorTexts<'_>,
+    condition: &[u8],
+    description: &[u8],
     outcomes: &mut Object,
 ) -> u32
-    ensures failed { result ≡ 0 → FailsPending (error_stated detach.now texts.entry.condition.now texts.entry.description.now)
+    ensures failed { result ≡ 0 → FailsPending (error_stated detach.now condition.now description.now)
         (outcomes_in (value_in outcomes.new)) ledger.old ledger.new }
+    ensures made { result ≡ 0 → IsOutcomesObject outcomes.new }
+    ensures no_text { result ≡ 4 → ¬ (AreTexts (IsTrue detach.now.has_error)
+        detach.now.has_description condition.now description.now) }
+    ensures utf8 { IsTextRefusal result ⊎ AreTexts (IsTrue detach.now.has_error)
+        detach.now.has_description condition.now description.now }
+    ensures condition { result ≡ 3 → IsTrue detach.now.has_error → IsUtf8 condition.now }
     ensures refused { (result ≡ 0) ⊎ IsTextRefusal result }
     ensures left { (result ≡ 0 → ⊥) → (ledger.new ≡ ledger.old) × (value_in outcomes.new ≡ value_in outcomes.old) }
 {
-    let detach = match detach.to_detach(alloc, texts.condition, texts.description) {
+    let detach = match detach.to_detach(alloc, condition, description) {
         Ok(detach) => detach,
         Err(refused) => return refused,
     };
@@ -438,7 +506,7 @@ fn fail_pending(
 /// Fails each pending delivery of a sender that is closed for good, with the error of this detach: `outcomes` gets them. Call it
 /// after the link was closed by this end; a detach of the peer's that closes the link does it by `amqp_sender_on_detach`.
 ///
-/// Refused with nothing changed: `AMQP_NO_TEXT`.
+/// `AMQP_NO_TEXT`, with nothing changed, if a text of the error is no UTF-8.
 #[unsafe(no_mangle)]
 pub extern "C" fn amqp_sender_fail_pending_unsettled(
     alloc: Global,
@@ -451,15 +519,17 @@ pub extern "C" fn amqp_sender_fail_pending_unsettled(
     ensures kind { sender_in (value_in sender.old) ≡ None → result ≡ wrong_status (value_in sender.old) }
     ensures failed { result ≡ 0 → OfSender sender.old sender.new (FailsPending (error_stated detach.now condition.now description.now)
         (outcomes_in (value_in outcomes.new))) }
+    ensures made { result ≡ 0 → IsOutcomesObject outcomes.new }
+    ensures no_text { result ≡ 4 → ¬ (AreTexts (IsTrue detach.now.has_error)
+        detach.now.has_description condition.now description.now) }
+    ensures utf8 { IsSome (sender_in (value_in sender.old)) → IsTextRefusal result ⊎ AreTexts (IsTrue detach.now.has_error)
+        detach.now.has_description condition.now description.now }
+    ensures condition { result ≡ 3 → IsTrue detach.now.has_error → IsUtf8 condition.now }
     ensures refused { IsSome (sender_in (value_in sender.old)) → (result ≡ 0) ⊎ IsTextRefusal result }
     ensures left { (result ≡ 0 → ⊥) →
         (value_in sender.new ≡ value_in sender.old) × (value_in outcomes.new ≡ value_in outcomes.old) }
 {
-    let texts = ErrorTexts {
-        has_error: detach.has_error,
-        has_description: detach.has_description,
-        condition,
-        description,
-    };
-    with_value!(alloc, sender, Sender, ledger => fail_pending(alloc, ledger, detach, texts, outcomes))
+    with_value!(alloc, sender, Sender, ledger => {
+        fail_pending(alloc, ledger, detach, condition, description, outcomes)
+    })
 }

@@ -1,6 +1,6 @@
 //! What follows from an attach that was refused (2.6.3).
 ghost use Rattle.std.specs.Prelude.{◌≡◌, ◌⊎◌, None, IsSome, MatchOption};
-ghost use Rattle.amqp_link_c.specs.Calls.{OfReceiver, OfSender, wrong_status};
+ghost use Rattle.amqp_link_c.specs.Calls.{IsFramesObject, OfReceiver, OfSender, wrong_status};
 ghost use Rattle.amqp_link_c.specs.Failing.{FailsReceiver, FailsSender, action_frames, follows, is_session_end, state_following};
 ghost use Rattle.amqp_link_object.specs.Objects.{value_in};
 ghost use Rattle.amqp_link_object.specs.States.{frames_in, receiver_in, sender_in};
@@ -22,6 +22,7 @@ fn put_action(
     ends_session: &mut bool,
 )
     ensures frames { frames_in (value_in frames.new) ≡ action_frames action }
+    ensures made { IsFramesObject frames.new }
     ensures ends { ends_session.new ≡ is_session_end action }
 {
     *ends_session = false;
@@ -46,6 +47,7 @@ fn fail<L: LinkExt, E: AttachFailure>(
 ) -> Status
     ensures frames { result ≡ 0 → frames_in (value_in frames.new) ≡ action_frames
         (follows E.illegal_state E.remedy refusal (L.shown link.old).local_state (L.shown link.old).output_handle) }
+    ensures made { result ≡ 0 → IsFramesObject frames.new }
     ensures ends { result ≡ 0 → ends_session.new ≡ is_session_end
         (follows E.illegal_state E.remedy refusal (L.shown link.old).local_state (L.shown link.old).output_handle) }
     ensures after { result ≡ 0 → MatchOption (state_following E.remedy refusal (L.shown link.old).local_state)
@@ -78,7 +80,11 @@ fn fail<L: LinkExt, E: AttachFailure>(
 
 /// What follows from the status with which `amqp_sender_on_attach` or `amqp_sender_send_attach` was refused, or with
 /// which the session names what has arrived in place of the attach: `frames` gets the detach that closes the link, which is left
-/// as by `amqp_link_send_detach`, or no frame. If the own attach was not sent yet, send it, and call this again. `ends_session` is set if the session is to be ended with `amqp:session:handle-in-use`.
+/// as by `amqp_link_send_detach`, or no frame. `ends_session` is set if the session is to be ended with
+/// `amqp:session:handle-in-use`.
+///
+/// There is a detach only in `AMQP_STATE_ATTACHED`. If the own attach was not sent yet, send it, and call this again. After an
+/// incomplete exchange, `AMQP_STATE_INCOMPLETE_ATTACH_EXCHANGED`, send the detach of `amqp_link_detach_frame`.
 #[unsafe(no_mangle)]
 pub extern "C" fn amqp_sender_attach_failed(
     alloc: Global,
@@ -90,6 +96,7 @@ pub extern "C" fn amqp_sender_attach_failed(
     ensures kind { sender_in (value_in sender.old) ≡ None → result ≡ wrong_status (value_in sender.old) }
     ensures done { result ≡ 0 → OfSender sender.old sender.new
         (FailsSender status (frames_in (value_in frames.new)) ends_session.new) }
+    ensures made { result ≡ 0 → IsFramesObject frames.new }
     ensures refused { IsSome (sender_in (value_in sender.old)) → (result ≡ 0) ⊎ (result ≡ 3) }
     ensures left { (result ≡ 0 → ⊥) →
         (value_in sender.new ≡ value_in sender.old) × (value_in frames.new ≡ value_in frames.old)
@@ -112,6 +119,7 @@ pub extern "C" fn amqp_receiver_attach_failed(
     ensures kind { receiver_in (value_in receiver.old) ≡ None → result ≡ wrong_status (value_in receiver.old) }
     ensures done { result ≡ 0 → OfReceiver receiver.old receiver.new
         (FailsReceiver status (frames_in (value_in frames.new)) ends_session.new) }
+    ensures made { result ≡ 0 → IsFramesObject frames.new }
     ensures refused { IsSome (receiver_in (value_in receiver.old)) → (result ≡ 0) ⊎ (result ≡ 3) }
     ensures left { (result ≡ 0 → ⊥) →
         (value_in receiver.new ≡ value_in receiver.old) × (value_in frames.new ≡ value_in frames.old)

@@ -140,7 +140,8 @@ pub extern "C" fn amqp_frames_transfer(
     sizes: &mut Sizes,
 ) -> Status
     ensures absent { transfer_at number (value_in frames.old) ≡ None
-        → (result ≡ absent_status (value_in frames.old)) × (tag.new ≡ tag.old) × (payload.new ≡ payload.old) }
+        → (result ≡ absent_status (value_in frames.old)) × (tag.new ≡ tag.old) × (payload.new ≡ payload.old)
+        × (sizes.new ≡ sizes.old) }
     ensures copied { IfSome (transfer_at number (value_in frames.old)) (λ sent.
         AreCopied (tag_bytes sent) sent.payload tag.old tag.new payload.old payload.new sizes.new result) }
     ensures transfer { result ≡ 0 → IsSomeAnd (transfer_at number (value_in frames.old)) (λ sent.
@@ -272,7 +273,7 @@ pub extern "C" fn amqp_frames_error(
     sizes: &mut Sizes,
 ) -> Status
     ensures absent { error_at number (value_in frames.old) ≡ None → (result ≡ absent_status (value_in frames.old))
-        × (condition.new ≡ condition.old) × (description.new ≡ description.old) }
+        × (condition.new ≡ condition.old) × (description.new ≡ description.old) × (sizes.new ≡ sizes.old) }
     ensures copied { IfSome (error_at number (value_in frames.old)) (λ error.
         AreCopied error.condition (description_bytes error) condition.old condition.new
         description.old description.new sizes.new result) }

@@ -31,9 +31,9 @@ pub struct LinkView {
     pub delivery_count: u32,
     /// The link-credit.
     pub link_credit: u32,
-    /// When the sender settles.
+    /// When the sender settles: `AMQP_SENDER_UNSETTLED` and so on.
     pub snd_settle_mode: u32,
-    /// When the receiver settles.
+    /// When the receiver settles: `AMQP_RECEIVER_FIRST` or `AMQP_RECEIVER_SECOND`.
     pub rcv_settle_mode: u32,
     /// Whether `output_handle` is there.
     pub has_output_handle: bool,
@@ -139,7 +139,7 @@ pub extern "C" fn amqp_link_name(
     name_size: &mut usize,
 ) -> Status
     ensures kind { name_in (value_in link.old) ≡ None
-        → (result ≡ wrong_status (value_in link.old)) × (name.new ≡ name.old) }
+        → (result ≡ wrong_status (value_in link.old)) × (name.new ≡ name.old) × (name_size.new ≡ name_size.old) }
     ensures copied { IfSome (name_in (value_in link.old)) (λ named.
         IsCopied named name.old name.new name_size.new result) }
     ensures left { value_in link.new ≡ value_in link.old }

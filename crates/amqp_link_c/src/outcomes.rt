@@ -1,5 +1,5 @@
 //! Deliveries that have ended, with their outcomes.
-ghost use Rattle.std.specs.Prelude.{◌≡◌, None, IfSome, IsSomeAnd, length, option_copied, slice_get};
+ghost use Rattle.std.specs.Prelude.{◌≡◌, None, IfSome, IsSomeAnd, length, option_and_then, option_copied, slice_get};
 ghost use Rattle.amqp_link_c.specs.Reading.{AreCopied, IsCopied, absent_status, description_bytes, outcome_error, outcome_error_at};
 ghost use Rattle.amqp_link_c.specs.SenderCalls.{plain_outcome};
 ghost use Rattle.amqp_link_object.specs.Objects.{value_in};
@@ -62,7 +62,7 @@ fn copy_ended(
     tag: &mut [u8],
     tag_size: &mut usize,
 ) -> u32
-    ensures absent { slice_get list.now number ≡ None → (result ≡ 7) × (tag.new ≡ tag.old) }
+    ensures absent { slice_get list.now number ≡ None → (result ≡ 7) × (tag.new ≡ tag.old) × (tag_size.new ≡ tag_size.old) }
     ensures copied { IfSome (slice_get list.now number) (λ ended. IsCopied ended.0 tag.old tag.new tag_size.new result) }
     ensures outcome { result ≡ 0 → IsSomeAnd (slice_get list.now number) (λ ended. outcome.new ≡ plain_outcome ended.1) }
     ensures unwritten { (result ≡ 0 → ⊥) → outcome.new ≡ outcome.old }
@@ -88,7 +88,7 @@ pub extern "C" fn amqp_outcomes_at(
     tag_size: &mut usize,
 ) -> Status
     ensures absent { slice_get (outcomes_in (value_in outcomes.old)) number ≡ None
-        → (result ≡ absent_status (value_in outcomes.old)) × (tag.new ≡ tag.old) }
+        → (result ≡ absent_status (value_in outcomes.old)) × (tag.new ≡ tag.old) × (tag_size.new ≡ tag_size.old) }
     ensures copied { IfSome (slice_get (outcomes_in (value_in outcomes.old)) number) (λ ended.
         IsCopied ended.0 tag.old tag.new tag_size.new result) }
     ensures outcome { result ≡ 0 → IsSomeAnd (slice_get (outcomes_in (value_in outcomes.old)) number) (λ ended.
@@ -114,6 +114,16 @@ pub(crate) fn error_in(outcome: &DeliveryOutcome) -> Option<&Error>
     }
 }
 
+// The error of the delivery with this number in a list, if it has one.
+fn error_at(ended: &[(DeliveryTag, DeliveryOutcome)], number: usize) -> Option<&Error>
+    ensures { option_copied result ≡ option_and_then (λ one. outcome_error one.1) (slice_get ended.now number) }
+{
+    match ended.get(number) {
+        Some((_, outcome)) => error_in(outcome),
+        None => None,
+    }
+}
+
 /// The condition and the description of the error of a rejection.
 #[unsafe(no_mangle)]
 pub extern "C" fn amqp_outcomes_error(
@@ -125,7 +135,7 @@ pub extern "C" fn amqp_outcomes_error(
     sizes: &mut Sizes,
 ) -> Status
     ensures absent { outcome_error_at number (value_in outcomes.old) ≡ None → (result ≡ absent_status (value_in outcomes.old))
-        × (condition.new ≡ condition.old) × (description.new ≡ description.old) }
+        × (condition.new ≡ condition.old) × (description.new ≡ description.old) × (sizes.new ≡ sizes.old) }
     ensures copied { IfSome (outcome_error_at number (value_in outcomes.old)) (λ error.
         AreCopied error.condition (description_bytes error) condition.old condition.new
         description.old description.new sizes.new result) }
@@ -134,11 +144,7 @@ pub extern "C" fn amqp_outcomes_error(
     let Some(state) = outcomes.take(alloc) else {
         return EMPTY;
     };
-    let error = match state.outcomes().get(number) {
-        Some((_, ended)) => error_in(ended),
-        None => None,
-    };
-    let status = match error {
+    let status = match error_at(state.outcomes(), number) {
         Some(error) => copy_error(error, condition, description, sizes),
         None => NO_SUCH_ENTRY,
     };

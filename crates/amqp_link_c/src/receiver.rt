@@ -1,6 +1,6 @@
 //! The receiver of a link, with what has arrived of each delivery.
 ghost use Rattle.std.specs.Prelude.{◌≡◌, ◌⊎◌, ◌↔◌, None, Some, IsSomeAnd, IsUtf8};
-ghost use Rattle.amqp_link_flat.specs.Attaches.{CarriesAddress, stated_parts};
+ghost use Rattle.amqp_link_flat.specs.Attaches.{AreLinkTexts, stated_parts};
 ghost use Rattle.amqp_link_flat.specs.Refusing.{IsValueRefusal};
 ghost use Rattle.amqp_link_object.specs.States.{receiver_in};
 ghost use Rattle.amqp_link_inbox.specs.Inboxes.{inbox_of_parts};
@@ -21,8 +21,8 @@ use std::alloc::Global;
 
 /// Makes the receiver of a link, which is not attached.
 ///
-/// `AMQP_NO_SUCH_NUMBER` if a number in `terms`, `source` or `target` stands for nothing, `AMQP_NO_TEXT` if the name or
-/// an address is no UTF-8.
+/// Refused in this order, with nothing changed: `AMQP_NO_SUCH_NUMBER` if a number in `terms`, `source` or `target` stands for
+/// nothing; `AMQP_NO_TEXT` if the name or an address is no UTF-8.
 #[unsafe(no_mangle)]
 pub extern "C" fn amqp_receiver_new(
     alloc: Global,
@@ -38,8 +38,9 @@ pub extern "C" fn amqp_receiver_new(
         target_address.now) (λ parts. receiver_in (value_in receiver.new) ≡ Some (inbox_of_parts parts)) }
     ensures number { (result ≡ 5) ↔ (stated_parts terms.now source.now target.now name.now source_address.now
         target_address.now ≡ None) }
-    ensures no_text { result ≡ 4 → ¬ (IsUtf8 name.now × (CarriesAddress source.now → IsUtf8 source_address.now)
-        × (CarriesAddress target.now → IsUtf8 target_address.now)) }
+    ensures no_text { result ≡ 4 → ¬ (AreLinkTexts source.now target.now name.now source_address.now target_address.now) }
+    ensures utf8 { IsValueRefusal result ⊎ AreLinkTexts source.now target.now name.now source_address.now target_address.now }
+    ensures name { result ≡ 3 → IsUtf8 name.now }
     ensures refused { (result ≡ 0) ⊎ IsValueRefusal result }
     ensures left { (result ≡ 0 → ⊥) → value_in receiver.new ≡ value_in receiver.old }
 {

@@ -1,6 +1,6 @@
 //! The sender of a link, with what became of each of its deliveries.
 ghost use Rattle.std.specs.Prelude.{◌≡◌, ◌⊎◌, ◌↔◌, [], None, Some, IsSomeAnd, IsUtf8};
-ghost use Rattle.amqp_link_flat.specs.Attaches.{CarriesAddress, stated_parts};
+ghost use Rattle.amqp_link_flat.specs.Attaches.{AreLinkTexts, stated_parts};
 ghost use Rattle.amqp_link_flat.specs.Refusing.{IsValueRefusal};
 ghost use Rattle.amqp_link_object.specs.States.{sender_in};
 ghost use Rattle.amqp_link_sender.specs.Senders.{sender_of_parts};
@@ -22,8 +22,8 @@ use std::alloc::Global;
 
 /// Makes the sender of a link, which is not attached.
 ///
-/// `AMQP_NO_SUCH_NUMBER` if a number in `terms`, `source` or `target` stands for nothing, `AMQP_NO_TEXT` if the name or
-/// an address is no UTF-8.
+/// Refused in this order, with nothing changed: `AMQP_NO_SUCH_NUMBER` if a number in `terms`, `source` or `target` stands for
+/// nothing; `AMQP_NO_TEXT` if the name or an address is no UTF-8.
 #[unsafe(no_mangle)]
 pub extern "C" fn amqp_sender_new(
     alloc: Global,
@@ -39,8 +39,9 @@ pub extern "C" fn amqp_sender_new(
         target_address.now) (λ parts. sender_in (value_in sender.new) ≡ Some (record { link = sender_of_parts parts; records = [] })) }
     ensures number { (result ≡ 5) ↔ (stated_parts terms.now source.now target.now name.now source_address.now
         target_address.now ≡ None) }
-    ensures no_text { result ≡ 4 → ¬ (IsUtf8 name.now × (CarriesAddress source.now → IsUtf8 source_address.now)
-        × (CarriesAddress target.now → IsUtf8 target_address.now)) }
+    ensures no_text { result ≡ 4 → ¬ (AreLinkTexts source.now target.now name.now source_address.now target_address.now) }
+    ensures utf8 { IsValueRefusal result ⊎ AreLinkTexts source.now target.now name.now source_address.now target_address.now }
+    ensures name { result ≡ 3 → IsUtf8 name.now }
     ensures refused { (result ≡ 0) ⊎ IsValueRefusal result }
     ensures left { (result ≡ 0 → ⊥) → value_in sender.new ≡ value_in sender.old }
 {

@@ -258,7 +258,7 @@ impl IncompleteTransfer {
         self.carry.len()
     }
 
-    /// The fields of all transfers that have arrived, merged.
+    /// The fields of all transfers that have arrived, merged; `more` is that of the first.
     pub fn performative(&self) -> &Transfer
         ensures { result.now ≡ self.now.performative }
     {

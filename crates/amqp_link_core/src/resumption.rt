@@ -19,8 +19,8 @@ use std::alloc::AllocError;
 /// What a sender sends of a delivery when its link is attached again (2.6.13).
 #[derive(Debug, PartialEq, Eq, Drop)]
 pub enum ResumingDelivery {
-    /// An aborted transfer, which `SenderLink::send_abort` makes: the delivery is given up at both endpoints. The sender's
-    /// payload of it is dropped: who wants to keep it copies it before the attach arrives.
+    /// An aborted transfer, which `SenderLink::send_abort` makes: the delivery is given up at both endpoints. Each attach lists
+    /// it until that has arrived. The sender's payload of it is dropped: who wants to keep it copies it before the attach arrives.
     Abort {
         /// The format of the message; 0 if only the receiver knows the delivery.
         message_format: MessageFormat,

@@ -319,7 +319,7 @@ pub trait LinkExt: LinkDetach {
     fn rcv_settle_mode(&self) -> &ReceiverSettleMode
         ensures { result.now ≡ (Self.shown self.now).rcv_settle_mode };
 
-    /// The largest message in bytes; none if there is no limit.
+    /// The largest message in bytes, after the peer's attach the smaller of both; none if there is no limit.
     fn max_message_size(&self) -> Option<u64>
         ensures { result ≡ message_limit (Self.shown self.now).max_message_size };
 

@@ -1,5 +1,5 @@
 -- Attaches, termini and what a link is made with, as C passes and gets them (OASIS AMQP 1.0 core, 2.7.3 and 3.5).
-use Rattle.std.specs.Prelude.{ℕ, List, Option, Some, None, option_map, if◌then◌else◌, is_some, unwrap_or, true, false, IsTrue}
+use Rattle.std.specs.Prelude.{ℕ, List, Option, Some, None, option_map, if◌then◌else◌, is_some, unwrap_or, true, false, IsTrue, IsUtf8}
 use Rattle.amqp_link_endpoint.specs.declared.link_parts.LinkParts.{LinkParts}
 use Rattle.amqp_link_flat.specs.Flat.{given}
 use Rattle.amqp_link_flat.specs.Numbers.{both, role_of, settle_modes_of, policies_of}
@@ -96,6 +96,15 @@ target_with t address policies = record {
 -- there is a terminus that has an address
 abbrev pub CarriesAddress : Terminus → Type 0
 CarriesAddress t = IsTrue t.is_there × IsTrue t.has_address
+
+-- the bytes are in UTF-8, if they are the address of a terminus
+abbrev pub IsAddress : Terminus → List ℕ → Type 0
+IsAddress t address = CarriesAddress t → IsUtf8 address
+
+-- the name of a link and the addresses that its termini have are in UTF-8
+abbrev pub AreLinkTexts : Terminus → Terminus → List ℕ → List ℕ → List ℕ → Type 0
+AreLinkTexts source target name source_address target_address =
+    IsUtf8 name × IsAddress source source_address × IsAddress target target_address
 
 -- the source that C passes, if there is one; nothing if a number stands for nothing
 abbrev pub stated_source : Terminus → List ℕ → Option (Option Source)

@@ -21,3 +21,7 @@ IsText is_there bytes = IsTrue is_there → IsUtf8 bytes
 abbrev pub AreTexts : Type 0 → Bool → List ℕ → List ℕ → Type 0
 AreTexts Carried has_description condition description =
     Carried → IsUtf8 condition × IsText has_description description
+
+-- illegal state, or the error that the peer's detach carries
+abbrev pub IsDetachRefusal : ℕ → Type 0
+IsDetachRefusal status = (status ≡ 10) ⊎ ((status ≡ 15) ⊎ (status ≡ 17))

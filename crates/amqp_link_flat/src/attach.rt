@@ -1,10 +1,10 @@
 //! What an attach states, and what a link is made with, as C has it (2.7.3, 3.5).
-ghost use Rattle.std.specs.Prelude.{◌≡◌, ◌↔◌, IfErr, IfOk, IsSome, IsTrue, IsUtf8, OnErr, option_map};
+ghost use Rattle.std.specs.Prelude.{◌≡◌, ◌↔◌, IfErr, IfOk, IfSome, IsSome, IsTrue, IsUtf8, OnErr, OnOk, option_map};
 ghost use Rattle.amqp_link_flat.specs.Attaches.{no_terminus, plain_attach, plain_source, plain_target};
-ghost use Rattle.amqp_link_flat.specs.Attaches.{CarriesAddress, source_with, target_with};
+ghost use Rattle.amqp_link_flat.specs.Attaches.{CarriesAddress, IsAddress, source_with, target_with};
 ghost use Rattle.amqp_link_flat.specs.Attaches.{stated_attach, stated_policies};
 ghost use Rattle.amqp_link_flat.specs.Attaches.{stated_source, stated_target};
-ghost use Rattle.amqp_link_flat.specs.Refusing.{IsTextRefusal, IsValueRefusal};
+ghost use Rattle.amqp_link_flat.specs.Refusing.{IsText, IsTextRefusal, IsValueRefusal};
 
 use crate::flow::given;
 use crate::numbers::{
@@ -26,11 +26,12 @@ pub struct AttachFields {
     pub max_message_size: u64,
     /// The handle that the endpoint which sends this gave the link.
     pub handle: u32,
-    /// The role of that endpoint.
+    /// The role of that endpoint: `AMQP_ROLE_SENDER`, which is 0, or `AMQP_ROLE_RECEIVER`.
     pub role: u32,
-    /// When the sender settles.
+    /// When the sender settles: `AMQP_SENDER_UNSETTLED`, which is 0, `AMQP_SENDER_SETTLED` or `AMQP_SENDER_MIXED`,
+    /// which an attach means that states none (2.7.3).
     pub snd_settle_mode: u32,
-    /// When the receiver settles.
+    /// When the receiver settles: `AMQP_RECEIVER_FIRST`, which is 0, or `AMQP_RECEIVER_SECOND`.
     pub rcv_settle_mode: u32,
     /// The sender's delivery-count at the attach.
     pub initial_delivery_count: u32,
@@ -46,9 +47,10 @@ pub struct AttachFields {
 #[repr(C)]
 #[derive(Drop)]
 pub struct Terminus {
-    /// Which state of it is durable.
+    /// Which state of it is durable: `AMQP_DURABLE_NONE`, which is 0, and so on.
     pub durable: u32,
-    /// From when on it expires.
+    /// From when on it expires: `AMQP_EXPIRES_LINK_DETACH`, which is 0, and so on. A terminus that states none means
+    /// `AMQP_EXPIRES_SESSION_END` (3.5.3, 3.5.4).
     pub expiry_policy: u32,
     /// The seconds that it stays after it has begun to expire.
     pub timeout: u32,
@@ -71,6 +73,8 @@ impl AttachFields {
         ensures attach { IfOk result (λ attach. stated_attach self.now name.now ≡ Some attach) }
         ensures number { (result ≡ Err 5) ↔ (stated_attach self.now name.now ≡ None) }
         ensures no_text { result ≡ Err 4 → ¬ (IsUtf8 name.now) }
+        ensures utf8 { OnOk result (IsUtf8 name.now) }
+        ensures memory { result ≡ Err 3 → IsUtf8 name.now }
         ensures refused { IfErr result IsValueRefusal }
     {
         let Some(role) = role(self.role) else {
@@ -140,7 +144,8 @@ impl Terminus {
 
     // Its durability and its expiry policy, if there is one; nothing if a number stands for nothing.
     pub(crate) fn policies(&self) -> Option<Option<Policies>>
-        ensures { result ≡ stated_policies self.now }
+        ensures policies { result ≡ stated_policies self.now }
+        ensures there { IfSome result (λ both. IsTrue self.now.is_there → IsSome both) }
     {
         if !self.is_there {
             return Some(None);
@@ -161,6 +166,8 @@ impl Terminus {
         ensures source { IfOk result (λ source. source
             ≡ option_map (source_with self.now address.now) policies) }
         ensures no_text { result ≡ Err 4 → ¬ (IsUtf8 address.now) }
+        ensures utf8 { OnOk result (IsSome policies → IsText self.now.has_address address.now) }
+        ensures memory { result ≡ Err 3 → IsUtf8 address.now }
         ensures address { OnErr result (IsTrue self.now.has_address × IsSome policies) }
         ensures refused { IfErr result IsTextRefusal }
     {
@@ -186,6 +193,8 @@ impl Terminus {
         ensures target { IfOk result (λ target. target
             ≡ option_map (target_with self.now address.now) policies) }
         ensures no_text { result ≡ Err 4 → ¬ (IsUtf8 address.now) }
+        ensures utf8 { OnOk result (IsSome policies → IsText self.now.has_address address.now) }
+        ensures memory { result ≡ Err 3 → IsUtf8 address.now }
         ensures address { OnErr result (IsTrue self.now.has_address × IsSome policies) }
         ensures refused { IfErr result IsTextRefusal }
     {
@@ -208,7 +217,8 @@ impl Terminus {
         ensures source { IfOk result (λ source. stated_source self.now address.now ≡ Some source) }
         ensures number { (result ≡ Err 5) ↔ (stated_source self.now address.now ≡ None) }
         ensures no_text { result ≡ Err 4 → CarriesAddress self.now × ¬ (IsUtf8 address.now) }
-        ensures memory { result ≡ Err 3 → CarriesAddress self.now }
+        ensures utf8 { OnOk result (IsAddress self.now address.now) }
+        ensures memory { result ≡ Err 3 → CarriesAddress self.now × IsUtf8 address.now }
         ensures refused { IfErr result IsValueRefusal }
     {
         match self.policies() {
@@ -224,7 +234,8 @@ impl Terminus {
         ensures target { IfOk result (λ target. stated_target self.now address.now ≡ Some target) }
         ensures number { (result ≡ Err 5) ↔ (stated_target self.now address.now ≡ None) }
         ensures no_text { result ≡ Err 4 → CarriesAddress self.now × ¬ (IsUtf8 address.now) }
-        ensures memory { result ≡ Err 3 → CarriesAddress self.now }
+        ensures utf8 { OnOk result (IsAddress self.now address.now) }
+        ensures memory { result ≡ Err 3 → CarriesAddress self.now × IsUtf8 address.now }
         ensures refused { IfErr result IsValueRefusal }
     {
         match self.policies() {

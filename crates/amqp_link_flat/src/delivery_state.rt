@@ -1,5 +1,5 @@
 //! The states of deliveries as C has them (3.4).
-ghost use Rattle.std.specs.Prelude.{◌≡◌, ◌↔◌, IfErr, IfOk, IsSome, IsTrue, OnErr, option_copied};
+ghost use Rattle.std.specs.Prelude.{◌≡◌, ◌↔◌, IfErr, IfOk, IsSome, IsTrue, IsUtf8, OnErr, OnOk, option_copied};
 ghost use Rattle.amqp_link_flat.specs.Flat.{bare_state, CarriesError, given, only_kind, plain_state};
 ghost use Rattle.amqp_link_flat.specs.Flat.{rejection_error_of, stated_error, stated_state};
 ghost use Rattle.amqp_link_flat.specs.Refusing.{AreTexts, IsTextRefusal, IsValueRefusal};
@@ -68,7 +68,9 @@ pub fn error_of(alloc: Global, texts: ErrorTexts<'_>) -> Result<Option<Error>, u
         texts.entry.condition.now texts.entry.description.now) }
     ensures no_text { result ≡ Err 4 → ¬ (AreTexts (IsTrue texts.entry.has_error)
         texts.entry.has_description texts.entry.condition.now texts.entry.description.now) }
-    ensures memory { result ≡ Err 3 → IsTrue texts.entry.has_error }
+    ensures utf8 { OnOk result (AreTexts (IsTrue texts.entry.has_error)
+        texts.entry.has_description texts.entry.condition.now texts.entry.description.now) }
+    ensures memory { result ≡ Err 3 → IsTrue texts.entry.has_error × IsUtf8 texts.entry.condition.now }
     ensures refused { IfErr result IsTextRefusal }
 {
     if !texts.has_error {
@@ -152,7 +154,9 @@ impl DeliveryStateFields {
         ensures number { (result ≡ Err 5) ↔ (stated_state self.now condition.now description.now ≡ None) }
         ensures no_text { result ≡ Err 4 → ¬ (AreTexts (CarriesError self.now)
             self.now.has_description condition.now description.now) }
-        ensures memory { result ≡ Err 3 → CarriesError self.now }
+        ensures utf8 { OnOk result (AreTexts (CarriesError self.now)
+            self.now.has_description condition.now description.now) }
+        ensures memory { result ≡ Err 3 → CarriesError self.now × IsUtf8 condition.now }
         ensures refused { IfErr result IsValueRefusal }
     {
         if self.kind != REJECTED {

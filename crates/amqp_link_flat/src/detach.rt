@@ -1,5 +1,5 @@
 //! Detaches as C has them (2.7.7).
-ghost use Rattle.std.specs.Prelude.{◌≡◌, IfErr, IfOk, IsTrue};
+ghost use Rattle.std.specs.Prelude.{◌≡◌, IfErr, IfOk, IsTrue, IsUtf8, OnOk};
 ghost use Rattle.amqp_link_flat.specs.Flat.{plain_detach, stated_detach};
 ghost use Rattle.amqp_link_flat.specs.Refusing.{AreTexts, IsTextRefusal};
 
@@ -35,7 +35,9 @@ impl Detach {
             ≡ stated_detach self.now condition.now description.now) }
         ensures no_text { result ≡ Err 4 → ¬ (AreTexts (IsTrue self.now.has_error)
             self.now.has_description condition.now description.now) }
-        ensures memory { result ≡ Err 3 → IsTrue self.now.has_error }
+        ensures utf8 { OnOk result (AreTexts (IsTrue self.now.has_error)
+            self.now.has_description condition.now description.now) }
+        ensures memory { result ≡ Err 3 → IsTrue self.now.has_error × IsUtf8 condition.now }
         ensures refused { IfErr result IsTextRefusal }
     {
         let texts = ErrorTexts {

@@ -12,7 +12,7 @@ use amqp_link_types::types::Disposition as LinkDisposition;
 pub struct Disposition {
     /// The state of the deliveries.
     pub state: DeliveryStateFields,
-    /// The role of the endpoint that sends it.
+    /// The role of the endpoint that sends it: `AMQP_ROLE_SENDER` or `AMQP_ROLE_RECEIVER`.
     pub role: u32,
     /// The delivery-id of the first delivery.
     pub first: u32,

@@ -32,17 +32,17 @@ pub const SETTLED: u32 = 1;
 pub const SETTLED_BY_MODE: u32 = 2;
 /// Nothing of a terminus is durable.
 pub const DURABLE_NONE: u32 = 0;
-/// Its existence and configuration are.
+/// The existence and the configuration of a terminus are durable.
 pub const DURABLE_CONFIGURATION: u32 = 1;
-/// Its unsettled deliveries are as well.
+/// The unsettled deliveries of a terminus are durable as well.
 pub const DURABLE_UNSETTLED_STATE: u32 = 2;
 /// A terminus expires when its link is detached.
 pub const EXPIRES_LINK_DETACH: u32 = 0;
-/// When its session ends.
+/// A terminus expires when its session ends.
 pub const EXPIRES_SESSION_END: u32 = 1;
-/// When its connection closes.
+/// A terminus expires when its connection closes.
 pub const EXPIRES_CONNECTION_CLOSE: u32 = 2;
-/// Never.
+/// A terminus never expires.
 pub const EXPIRES_NEVER: u32 = 3;
 /// Neither endpoint has sent an attach.
 pub const STATE_UNATTACHED: u32 = 0;

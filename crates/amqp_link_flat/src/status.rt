@@ -1,5 +1,6 @@
 //! What a call returns: 0, or why it was refused. There is one number for each reason that the layer has a name for.
 ghost use Rattle.std.specs.Prelude.{◌≡◌, ◌≢◌, ◌↔◌, IfSome, IsSome};
+ghost use Rattle.amqp_link_flat.specs.Refusing.{IsDetachRefusal};
 ghost use Rattle.amqp_link_flat.specs.Statuses.{apply_detach_status, detach_status, link_status};
 ghost use Rattle.amqp_link_flat.specs.Statuses.{receiver_attach_status, relay_status, sender_attach_status};
 ghost use Rattle.amqp_link_flat.specs.Statuses.{transfer_status, IsReceiverRefusal, IsSenderRefusal};
@@ -26,7 +27,8 @@ pub const NO_TEXT: u32 = 4;
 pub const NO_SUCH_NUMBER: u32 = 5;
 /// A buffer of the caller's is too small. The size that is needed was written.
 pub const BUFFER_TOO_SMALL: u32 = 6;
-/// A list has no entry of that number, or a frame or an entry is of another kind; an object without frames or outcomes has none.
+/// A list has no entry of that number, or a frame or an entry is of another kind or has no error; an object without frames or
+/// outcomes has none.
 pub const NO_SUCH_ENTRY: u32 = 7;
 /// The link is not in a state for this call, or a handle or a tag is missing.
 pub const ILLEGAL_STATE: u32 = 10;
@@ -146,6 +148,7 @@ pub fn status_of_link_ref(error: &LinkStateError) -> u32
 pub fn status_of_detach(error: DetachError) -> u32
     ensures status { result ≡ detach_status error }
     ensures refused { result ≢ 0 }
+    ensures detached { IsDetachRefusal result }
 {
     match error {
         DetachError::IllegalState => ILLEGAL_STATE,
@@ -158,6 +161,7 @@ pub fn status_of_detach(error: DetachError) -> u32
 pub fn status_of_remote_detach(error: ApplyRemoteDetachError) -> u32
     ensures status { result ≡ apply_detach_status error }
     ensures refused { result ≢ 0 }
+    ensures detached { IsDetachRefusal result }
 {
     match error {
         ApplyRemoteDetachError::IllegalState => ILLEGAL_STATE,
@@ -170,6 +174,7 @@ pub fn status_of_remote_detach(error: ApplyRemoteDetachError) -> u32
 pub fn status_of_relay(error: LinkRelayError) -> u32
     ensures status { result ≡ relay_status error }
     ensures refused { result ≢ 0 }
+    ensures text { result ≢ 4 }
 {
     match error {
         LinkRelayError::UnattachedHandle => UNATTACHED_HANDLE,

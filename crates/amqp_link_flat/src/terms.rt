@@ -1,6 +1,6 @@
 //! What a link is made with, as C has it.
-ghost use Rattle.std.specs.Prelude.{◌≡◌, ◌↔◌, IfErr, IfOk, IsUtf8};
-ghost use Rattle.amqp_link_flat.specs.Attaches.{CarriesAddress, stated_parts};
+ghost use Rattle.std.specs.Prelude.{◌≡◌, ◌↔◌, IfErr, IfOk, IsUtf8, OnOk};
+ghost use Rattle.amqp_link_flat.specs.Attaches.{AreLinkTexts, stated_parts};
 ghost use Rattle.amqp_link_flat.specs.Refusing.{IsValueRefusal};
 
 use crate::attach::Terminus;
@@ -19,9 +19,10 @@ pub struct Terms {
     pub max_message_size: u64,
     /// The largest size of a frame in bytes, without the four bytes of its size in front.
     pub max_frame_size: u32,
-    /// When the sender settles: `AMQP_SENDER_UNSETTLED` and so on.
+    /// When the sender settles: `AMQP_SENDER_UNSETTLED`, which is 0, `AMQP_SENDER_SETTLED` or `AMQP_SENDER_MIXED`,
+    /// which the standard means where an attach states none (2.7.3).
     pub snd_settle_mode: u32,
-    /// When the receiver settles: `AMQP_RECEIVER_FIRST` or `AMQP_RECEIVER_SECOND`.
+    /// When the receiver settles: `AMQP_RECEIVER_FIRST`, which is 0, or `AMQP_RECEIVER_SECOND`.
     pub rcv_settle_mode: u32,
     /// The sender's delivery-count at the beginning.
     pub initial_delivery_count: u32,
@@ -59,9 +60,11 @@ impl Terms {
             texts.entry.name.now texts.entry.source.now texts.entry.target.now ≡ Some parts) }
         ensures number { (result ≡ Err 5) ↔ (stated_parts self.now source.now target.now
             texts.entry.name.now texts.entry.source.now texts.entry.target.now ≡ None) }
-        ensures no_text { result ≡ Err 4 → ¬ (IsUtf8 texts.entry.name.now
-            × (CarriesAddress source.now → IsUtf8 texts.entry.source.now)
-            × (CarriesAddress target.now → IsUtf8 texts.entry.target.now)) }
+        ensures no_text { result ≡ Err 4 → ¬ (AreLinkTexts source.now target.now
+            texts.entry.name.now texts.entry.source.now texts.entry.target.now) }
+        ensures utf8 { OnOk result (AreLinkTexts source.now target.now
+            texts.entry.name.now texts.entry.source.now texts.entry.target.now) }
+        ensures memory { result ≡ Err 3 → IsUtf8 texts.entry.name.now }
         ensures refused { IfErr result IsValueRefusal }
     {
         // Numbers first: whether one of them stands for nothing does not hang on memory.

@@ -14,6 +14,7 @@ fn string(alloc: Global, bytes: &[u8]) -> Result<String, u32>
     ensures words { IfOk result (λ words. string_bytes words ≡ bytes.now) }
     ensures utf8 { OnOk result (IsUtf8 bytes.now) }
     ensures no_text { (result ≡ Err 4) ↔ ¬ (IsUtf8 bytes.now) }
+    ensures memory { result ≡ Err 3 → IsUtf8 bytes.now }
     ensures refused { IfErr result IsTextRefusal }
 {
     let Ok(words) = from_utf8(bytes) else {
@@ -30,6 +31,7 @@ pub fn text(alloc: Global, bytes: &[u8]) -> Result<Text, u32>
     ensures text { IfOk result (λ words. words ≡ bytes.now) }
     ensures utf8 { OnOk result (IsUtf8 bytes.now) }
     ensures no_text { (result ≡ Err 4) ↔ ¬ (IsUtf8 bytes.now) }
+    ensures memory { result ≡ Err 3 → IsUtf8 bytes.now }
     ensures refused { IfErr result IsTextRefusal }
 {
     Ok(Text::from(string(alloc, bytes)?))
@@ -40,6 +42,7 @@ pub fn symbol(alloc: Global, bytes: &[u8]) -> Result<Symbol, u32>
     ensures symbol { IfOk result (λ words. words ≡ bytes.now) }
     ensures utf8 { OnOk result (IsUtf8 bytes.now) }
     ensures no_text { (result ≡ Err 4) ↔ ¬ (IsUtf8 bytes.now) }
+    ensures memory { result ≡ Err 3 → IsUtf8 bytes.now }
     ensures refused { IfErr result IsTextRefusal }
 {
     Ok(Symbol::from(string(alloc, bytes)?))
@@ -50,7 +53,7 @@ pub fn text_if(alloc: Global, is_there: bool, bytes: &[u8]) -> Result<Option<Tex
     ensures text { IfOk result (λ words. words ≡ given is_there bytes.now) }
     ensures utf8 { OnOk result (IsText is_there bytes.now) }
     ensures no_text { (result ≡ Err 4) ↔ ¬ (IsText is_there bytes.now) }
-    ensures memory { result ≡ Err 3 → IsTrue is_there }
+    ensures memory { result ≡ Err 3 → IsTrue is_there × IsUtf8 bytes.now }
     ensures refused { IfErr result IsTextRefusal }
 {
     if !is_there {

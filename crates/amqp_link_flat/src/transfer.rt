@@ -24,7 +24,7 @@ pub struct Transfer {
     pub delivery_id: u32,
     /// The format of the message.
     pub message_format: u32,
-    /// When the receiver is to settle this delivery.
+    /// When the receiver is to settle this delivery: `AMQP_RECEIVER_FIRST` or `AMQP_RECEIVER_SECOND`.
     pub rcv_settle_mode: u32,
     /// Whether `delivery_id` is there.
     pub has_delivery_id: bool,

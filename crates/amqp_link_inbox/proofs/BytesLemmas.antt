@@ -1,9 +1,7 @@
 -- What is held of a delivery after a transfer are the bytes that have come of it.
 use Rattle.std.proofs.Common.{◌≡◌, ◌∙◌, ◌++◌, ap, refl, subst, sym, inl, inr, Bool, true, false, cond, map, List, [], ◌∷◌, Option, Some, None, ℕ}
 use Rattle.std.specs.Prelude.{if◌then◌else◌}
-use Rattle.std.specs.List.{concat}
 use Rattle.std.proofs.lemmas.List.{append-nil, map-append}
-use Rattle.std.proofs.lemmas.List.Folds.{concat-append}
 use Rattle.amqp_link_types.specs.Entries.{Tag, IsMap, entry_at, without_entry}
 use Rattle.amqp_link_types.specs.declared.types.transfer.Transfer.{Transfer}
 use Rattle.amqp_link_types.proofs.MapLemmas.{entry_at-put, entry_at-removed, same_tag}
@@ -11,8 +9,8 @@ use Rattle.amqp_link_core.specs.Held.{Held, held_bytes}
 use Rattle.amqp_link_receiver.specs.ReceiverDeliveries.{is_settled}
 use Rattle.amqp_link_receiver.specs.Receivers.{Receiver}
 use Rattle.amqp_link_inbox.specs.Bytes.{IsHeld, Wait, bytes_at, bytes_before, bytes_in, bytes_kept, if_held}
-use Rattle.amqp_link_inbox.specs.Inboxes.{Arrives, Handles, InboxState, begins, is_new, store_of, tag_of}
-use Rattle.amqp_link_inbox.specs.KeptDeliveries.{Grows, IsAdded, finished, first_kept, has_begun}
+use Rattle.amqp_link_inbox.specs.Inboxes.{Arrives, Handles, InboxState, begins, is_new, resumed_at, store_of, tag_of}
+use Rattle.amqp_link_inbox.specs.KeptDeliveries.{Grows, IsAdded, bytes_until, finished, first_kept, has_begun, start_of}
 use Rattle.amqp_link_inbox.specs.Storing.{AddsTo, IsStated, Store, added_arrival, first_arrival, first_held, held_in, next_arrival, stored, stored_by}
 use Rattle.amqp_link_inbox.specs.declared.arrival.Arrival.{Arrival}
 use Rattle.amqp_link_inbox.specs.declared.arrival.Arrival.TheVariants as arrival
@@ -22,12 +20,9 @@ use Rattle.amqp_link_inbox.specs.declared.kept.Contents.TheVariants.{Begun, Comp
 use Rattle.amqp_link_inbox.specs.declared.kept.Kept.{Kept}
 use Rattle.amqp_link_inbox.specs.declared.kept.Stage.{Stage}
 
--- the bytes of what has begun with one transfer, and of what one was added to
+-- the bytes of what has begun with one transfer
 first_bytes : (t : Transfer) (bytes : List ℕ) → held_bytes (first_held t bytes) ≡ bytes
 first_bytes t bytes = append-nil bytes
-
-more_bytes : (old new : List (List ℕ)) (bytes : List ℕ) → new ≡ old ++ bytes ∷ [] → concat new ≡ concat old ++ bytes
-more_bytes old new bytes is = ap concat is ∙ concat-append old (bytes ∷ []) ∙ ap (λ b. concat old ++ b) (append-nil bytes)
 
 module _ (s : Store) (tag : Tag) (is : IsMap s.entries) where
   none_left : bytes_at (without_entry s.entries tag) tag ≡ None
@@ -90,13 +85,13 @@ module _ (s : Store) (tag : Tag) (is : IsMap s.entries) where
   -- a further transfer
   added : (begins : Bool) (t : Transfer) (bytes : List ℕ) (kept next : Kept) (contents : Contents) → kept.contents ≡ contents
       → entry_at s.entries tag ≡ Some kept → IsAdded begins t bytes kept next
-      → IsHeld (added_arrival (has_begun contents) t.more next.settled) tag (bytes_before false (bytes_in contents) ++ bytes) s (stored t.more tag next s)
+      → IsHeld (added_arrival (has_begun contents) t.more next.settled) tag (bytes_before false (start_of begins t) (bytes_in contents) ++ bytes) s (stored t.more tag next s)
   added begins t bytes kept next (Begun held) is_held here a =
       let grows = subst (λ c. Grows begins t bytes c a.grown) is_held a.grows in
       let grown : Held = grows.0 in
       let now : next.contents ≡ (if t.more then Begun grown else Complete grown) = a.contents ∙ ap (finished t.more) grows.2 ∙ begun_finished t.more grown in
-      next_placed next.settled t.more (held_bytes held ++ bytes) (stored t.more tag next s)
-      (placed next.settled t.more next grown (held_bytes held ++ bytes) now (more_bytes held.pieces grown.pieces bytes grows.1.pieces))
+      let whole : List ℕ = bytes_until (start_of begins t) (held_bytes held) ++ bytes in
+      next_placed next.settled t.more whole (stored t.more tag next s) (placed next.settled t.more next grown whole now grows.1.joined)
     where
       begun_finished : (more : Bool) (held : Held) → finished more (Begun held) ≡ (if more then Begun held else Complete held)
       begun_finished true held = refl
@@ -110,20 +105,21 @@ module _ (s : Store) (tag : Tag) (is : IsMap s.entries) where
 
   module _ {T : Type 0} (before : Receiver T) (t : Transfer) (bytes : List ℕ) where
     added_to : (begins : Bool) (found : Option Kept) (came : Arrival) (new : Store) (after : Receiver T) → entry_at s.entries tag ≡ found
-        → AddsTo found begins tag t bytes s before came new after → IsHeld came tag (bytes_before false (bytes_kept found) ++ bytes) s new
+        → AddsTo found begins tag t bytes s before came new after → IsHeld came tag (bytes_before false (start_of begins t) (bytes_kept found) ++ bytes) s new
     added_to begins None came new after here a =
-        subst (λ c. IsHeld c tag (bytes_before false None ++ bytes) s new) (sym a.2) a.0
+        subst (λ c. IsHeld c tag (bytes_before false (start_of begins t) None ++ bytes) s new) (sym a.2) a.0
     added_to begins (Some kept) came new after here a =
         let next : Kept = a.0 in
-        subst (λ c. IsHeld c tag (bytes_before false (bytes_in kept.contents) ++ bytes) s new) (sym a.4)
-        (subst (λ n. IsHeld (added_arrival (has_begun kept.contents) t.more next.settled) tag (bytes_before false (bytes_in kept.contents) ++ bytes) s n) (sym a.2)
+        let whole : List ℕ = bytes_before false (start_of begins t) (bytes_in kept.contents) ++ bytes in
+        subst (λ c. IsHeld c tag whole s new) (sym a.4)
+        (subst (λ n. IsHeld (added_arrival (has_begun kept.contents) t.more next.settled) tag whole s n) (sym a.2)
         (added begins t bytes kept next kept.contents refl here a.1))
 
     pub bytes_handled : (aborted is_new begins : Bool) (came : Arrival) (replaced : Option Stage) (new : Store) (after : Receiver T)
         → Handles aborted is_new begins tag t bytes s before came replaced new after
-        → IsHeld came tag (bytes_before is_new (bytes_at s.entries tag) ++ bytes) s new
+        → IsHeld came tag (bytes_before is_new (start_of begins t) (bytes_at s.entries tag) ++ bytes) s new
     bytes_handled true is_new begins came replaced new after h =
-        subst (λ c. IsHeld c tag (bytes_before is_new (bytes_at s.entries tag) ++ bytes) s new) (sym h.2)
+        subst (λ c. IsHeld c tag (bytes_before is_new (start_of begins t) (bytes_at s.entries tag) ++ bytes) s new) (sym h.2)
         (ap (λ (n : Store). bytes_at n.entries tag) h.0 ∙ none_left)
     bytes_handled false true begins came replaced new after h =
         let first : Kept = first_kept (first_held t bytes) t.more in
@@ -135,9 +131,10 @@ module _ (s : Store) (tag : Tag) (is : IsMap s.entries) where
 
 pub bytes_come : {T : Type 0} (old new : InboxState T) (t : Transfer) (bytes : List ℕ) (came : Arrived) → IsStated old.deliveries old.link.unsettled
     → Arrives old t bytes came new → (tag : Tag) → tag_of old t ≡ Some tag
-    → IsHeld came.arrival tag (bytes_before (is_new old t) (bytes_at old.deliveries tag) ++ bytes) (store_of old) (store_of new)
+    → IsHeld came.arrival tag (bytes_before (is_new old t) (resumed_at old t) (bytes_at old.deliveries tag) ++ bytes) (store_of old) (store_of new)
 bytes_come old new t bytes came is a tag named =
-    subst (λ g. IsHeld came.arrival g (bytes_before (is_new old t) (bytes_at old.deliveries g) ++ bytes) (store_of old) (store_of new)) (same a.tag tag (sym a.tag_is ∙ named))
+    subst (λ g. IsHeld came.arrival g (bytes_before (is_new old t) (resumed_at old t) (bytes_at old.deliveries g) ++ bytes) (store_of old) (store_of new))
+    (same a.tag tag (sym a.tag_is ∙ named))
     (bytes_handled (store_of old) a.tag is.entries_map old.link t bytes t.aborted (is_new old t) (begins old) came.arrival came.replaced (store_of new) a.link a.handles)
   where
     same : (x y : Tag) → Some x ≡ Some y → x ≡ y

@@ -5,6 +5,7 @@ pub mod InfosLemmas
 pub mod KeptLemmas
 pub mod OtherLemmas
 pub mod RemovedLemmas
+pub mod StartLemmas
 pub mod StatedLemmas
 pub mod StoreLemmas
 pub mod Worked

@@ -1,8 +1,11 @@
 -- Values of the definitions that were worked out by hand: docs/DEFINITIONS.md lists them.
 use Rattle.std.proofs.Common.{◌≡◌, [], ◌∷◌, refl, true, false, Some, None, Ok, Err}
+use Rattle.amqp_link_payloads.specs.Header.{header_len}
+use Rattle.amqp_link_payloads.specs.Position.{starts}
 use Rattle.amqp_link_types.specs.declared.types.errors.ReceiverTransferError.TheVariants.{InconsistentFieldInMultiFrameDelivery}
 use Rattle.amqp_link_types.specs.declared.types.errors.ReceiverAttachError.TheVariants as attach
-use Rattle.amqp_link_types.specs.declared.types.delivery_state.DeliveryState.TheVariants.{Accepted}
+use Rattle.amqp_link_types.specs.Frames.{silent}
+use Rattle.amqp_link_types.specs.declared.types.delivery_state.DeliveryState.TheVariants.{Accepted, Received}
 use Rattle.amqp_link_types.specs.declared.types.definitions.ReceiverSettleMode.TheVariants.{First}
 use Rattle.amqp_link_types.specs.Refusals.{refusal}
 use Rattle.amqp_link_state.specs.declared.state.LinkState.TheVariants.{Attached, Detached}
@@ -11,7 +14,7 @@ use Rattle.amqp_link_inbox.specs.InboxAttaches.{is_stated_in, leaves_all, withou
 use Rattle.amqp_link_inbox.specs.Bytes.{bytes_at, bytes_before}
 use Rattle.amqp_link_inbox.specs.Disposing.{after_settling, disposed, info_to_dispose, infos_to_dispose, outcome_refusal_in, settled_at}
 use Rattle.amqp_link_inbox.specs.Inboxes.{InboxState}
-use Rattle.amqp_link_inbox.specs.KeptDeliveries.{empty_test, finished}
+use Rattle.amqp_link_inbox.specs.KeptDeliveries.{empty_test, finished, start_of}
 use Rattle.amqp_link_inbox.specs.Storing.{added_arrival, first_arrival, is_unsettled, stage_at, stored}
 use Rattle.amqp_link_inbox.specs.Taking.{complete_of, settled_refusal, take_refusal}
 use Rattle.amqp_link_inbox.specs.declared.arrival.Arrival.TheVariants as arrival
@@ -55,11 +58,28 @@ nothing_of_a_known_one = refl
 nothing_held : bytes_at one (1 ∷ []) ≡ None
 nothing_held = refl
 
-new_one_stands_alone : bytes_before true (Some (7 ∷ [])) ≡ []
+new_one_stands_alone : bytes_before true None (Some (7 ∷ [])) ≡ []
 new_one_stands_alone = refl
 
-old_bytes_first : bytes_before false (Some (7 ∷ [])) ≡ 7 ∷ []
+old_bytes_first : bytes_before false None (Some (7 ∷ [])) ≡ 7 ∷ []
 old_bytes_first = refl
+
+-- resumed from the second of three bytes on
+up_to_the_start : bytes_before false (Some (0, 1)) (Some (7 ∷ 8 ∷ 9 ∷ [])) ≡ 7 ∷ []
+unfolding starts header_len
+up_to_the_start = refl
+
+-- of three bytes there is no fifth to start from
+no_such_place : bytes_before false (Some (0, 5)) (Some (7 ∷ 8 ∷ 9 ∷ [])) ≡ 7 ∷ 8 ∷ 9 ∷ []
+unfolding starts header_len
+no_such_place = refl
+
+-- only the first transfer in an attachment says where it starts
+further_one_has_no_start : start_of false (record silent { state = Some (Received 0 1) }) ≡ None
+further_one_has_no_start = refl
+
+first_one_starts_there : start_of true (record silent { state = Some (Received 0 1) }) ≡ Some (0, 1)
+first_one_starts_there = refl
 
 -- ---- what is kept
 

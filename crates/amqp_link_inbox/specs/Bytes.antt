@@ -2,6 +2,7 @@
 use Rattle.std.specs.Prelude.{◌≡◌, ◌⊎◌, ◌++◌, ℕ, Bool, true, false, List, [], ◌∷◌, map, Option, Some, None, unwrap_or}
 use Rattle.amqp_link_types.specs.Entries.{Tag, Entries, entry_at}
 use Rattle.amqp_link_core.specs.Held.{held_bytes}
+use Rattle.amqp_link_inbox.specs.KeptDeliveries.{bytes_until}
 use Rattle.amqp_link_inbox.specs.Storing.{Store}
 use Rattle.amqp_link_inbox.specs.declared.arrival.Arrival.{Arrival}
 use Rattle.amqp_link_inbox.specs.declared.arrival.Arrival.TheVariants as arrival
@@ -23,10 +24,10 @@ bytes_kept (Some kept) = bytes_in kept.contents
 abbrev pub bytes_at : Entries Kept → Tag → Option (List ℕ)
 bytes_at entries tag = bytes_kept (entry_at entries tag)
 
--- those to which a transfer adds its own: none, if it begins a new delivery
-abbrev pub bytes_before : Bool → Option (List ℕ) → List ℕ
-bytes_before true held = []
-bytes_before false held = unwrap_or held []
+-- those to which a transfer adds its own: none, if it begins a new delivery; else those before the place where it starts
+abbrev pub bytes_before : Bool → Option (ℕ × ℕ) → Option (List ℕ) → List ℕ
+bytes_before true start held = []
+bytes_before false start held = bytes_until start (unwrap_or held [])
 
 -- as a list of at most one
 abbrev pub if_held : Option (List ℕ) → List (List ℕ)

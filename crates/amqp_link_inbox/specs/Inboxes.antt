@@ -11,6 +11,7 @@ use Rattle.amqp_link_core.specs.IncompleteRefusals.{Test, start_tests}
 use Rattle.amqp_link_receiver.specs.Completing.{asks_for_another_mode, may_receive}
 use Rattle.amqp_link_receiver.specs.ReceiverDeliveries.{forgotten, session_record}
 use Rattle.amqp_link_receiver.specs.Receivers.{Receiver, receiver_of_parts}
+use Rattle.amqp_link_inbox.specs.KeptDeliveries.{start_of}
 use Rattle.amqp_link_inbox.specs.Storing.{AddsTo, Begins, Store, dropped, kept_tests, stage_at}
 use Rattle.amqp_link_inbox.specs.declared.arrival.Arrival.{Arrival}
 use Rattle.amqp_link_inbox.specs.declared.arrival.Arrival.TheVariants as arrival
@@ -64,6 +65,10 @@ module _ {T : Type 0} where
   -- whether it begins a new delivery, for one credit
   abbrev pub is_new : InboxState T → Transfer → Bool
   is_new s t = begins s && not t.resume
+
+  -- the position from which it resumes its delivery, if it says so
+  abbrev pub resumed_at : InboxState T → Transfer → Option (ℕ × ℕ)
+  resumed_at s t = start_of (begins s) t
 
   -- a delivery that its sender has begun is counted, and what the sender may reach stays
   abbrev pub counted : Receiver T → Receiver T

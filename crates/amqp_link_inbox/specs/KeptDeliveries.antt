@@ -1,8 +1,11 @@
 -- What an inbox keeps of a delivery, and what a transfer makes of that (OASIS AMQP 1.0 core, 2.6.12 and 2.7.5).
-use Rattle.std.specs.Prelude.{◌≡◌, ◌++◌, ◌||◌, ◌==◌, not, Bool, true, false, ℕ, List, [], ◌∷◌, length, if◌then◌else◌}
+use Rattle.std.specs.Prelude.{◌≡◌, ◌++◌, ◌||◌, ◌==◌, not, Bool, true, false, ℕ, List, [], ◌∷◌, Option, Some, None, length, take, if◌then◌else◌}
+use Rattle.amqp_link_payloads.specs.Position.{place}
+use Rattle.amqp_link_types.specs.declared.types.delivery_state.DeliveryState.{DeliveryState}
+use Rattle.amqp_link_types.specs.declared.types.delivery_state.DeliveryState.TheVariants.{Received}
 use Rattle.amqp_link_types.specs.declared.types.errors.ReceiverTransferError.TheVariants.{InconsistentFieldInMultiFrameDelivery}
 use Rattle.amqp_link_types.specs.declared.types.transfer.Transfer.{Transfer}
-use Rattle.amqp_link_core.specs.Held.{Held}
+use Rattle.amqp_link_core.specs.Held.{Held, held_bytes}
 use Rattle.amqp_link_core.specs.IncompleteRefusals.{Test, add_tests}
 use Rattle.amqp_link_core.specs.Merging.{Came, Merged}
 use Rattle.amqp_link_receiver.specs.ReceiverDeliveries.{is_settled}
@@ -43,11 +46,38 @@ first_kept held more = record {
   mode = held.performative.rcv_settle_mode;
 }
 
+-- ---- where a resumption starts
+
+-- the position that a state names
+abbrev pub position_in : Option DeliveryState → Option (ℕ × ℕ)
+position_in (Some (Received number offset)) = Some (number, offset)
+position_in _ = None
+
+-- The position from which a transfer resumes its delivery, if it says so: the first one in an attachment does, by its state
+-- (3.4.1).
+abbrev pub start_of : Bool → Transfer → Option (ℕ × ℕ)
+start_of true t = position_in t.state
+start_of false t = None
+
+-- the bytes before a position: all of them, where there is none, or where they have no such place
+abbrev pub bytes_to : Option ℕ → List ℕ → List ℕ
+bytes_to None bytes = bytes
+bytes_to (Some place) bytes = take place bytes
+
+abbrev pub bytes_until : Option (ℕ × ℕ) → List ℕ → List ℕ
+bytes_until None bytes = bytes
+bytes_until (Some start) bytes = bytes_to (place bytes start.0 start.1) bytes
+
+-- what is held of a delivery before that position
+abbrev pub held_until : Option (ℕ × ℕ) → Held → Held
+held_until start held = record held { pieces = bytes_until start (held_bytes held) ∷ [] }
+
 -- ---- a further transfer
 
--- What is held once the transfer is added: its bytes follow, and its fields are merged with those of the transfers before.
+-- What is held once the transfer is added: its bytes follow those before the place where it starts, and its fields are merged
+-- with those of the transfers before.
 pub record Joins (begins : Bool) (t : Transfer) (bytes : List ℕ) (old new : Held) : Type 0 where
-  pub pieces : new.pieces ≡ old.pieces ++ bytes ∷ []
+  pub joined : held_bytes new ≡ bytes_until (start_of begins t) (held_bytes old) ++ bytes
   pub fields : (came : List Came) → Merged came old.performative
       → Merged (came ++ record { opens = begins; transfer = t } ∷ []) new.performative
 
@@ -76,7 +106,7 @@ abbrev pub empty_test : List ℕ → List Test
 empty_test bytes = (not (length bytes == 0), InconsistentFieldInMultiFrameDelivery) ∷ []
 
 abbrev pub tests_in : Bool → Contents → Transfer → List ℕ → List Test
-tests_in begins (contents.Begun held) t bytes = add_tests begins held t bytes
+tests_in begins (contents.Begun held) t bytes = add_tests begins (held_until (start_of begins t) held) t bytes
 tests_in begins _ t bytes = empty_test bytes
 
 abbrev pub addition_tests : Bool → Kept → Transfer → List ℕ → List Test

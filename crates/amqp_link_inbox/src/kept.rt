@@ -1,15 +1,17 @@
 //! What an inbox keeps of a delivery (2.6.12).
-ghost use Rattle.std.specs.Prelude.{◌≡◌, ◌||◌, [], not, IfErr, OnErr, OnOk};
-ghost use Rattle.amqp_link_types.specs.Refusals.{AnswersExactly, AnswersThenOutOfMemory};
-ghost use Rattle.amqp_link_core.specs.IncompleteRefusals.{AreReturned, with_error};
+ghost use Rattle.std.specs.Prelude.{◌≡◌, ◌||◌, [], not, IfErr, IfOk, OnErr, OnOk, Some};
+ghost use Rattle.amqp_link_types.specs.Refusals.{AnswersExactly, AnswersOrOutOfMemory};
+ghost use Rattle.amqp_link_core.specs.Held.{held_bytes};
+ghost use Rattle.amqp_link_core.specs.IncompleteRefusals.{AreReturned, add_tests, with_error};
 ghost use Rattle.amqp_link_receiver.specs.ReceiverDeliveries;
 ghost use Rattle.amqp_link_inbox.specs.KeptDeliveries;
-ghost use Rattle.amqp_link_inbox.specs.KeptDeliveries.{Grows, IsAdded, addition_tests, completed, empty_test, finished, first_kept, stage_of, tests_in};
+ghost use Rattle.amqp_link_inbox.specs.KeptDeliveries.{Grows, IsAdded, Joins, addition_tests, bytes_until, completed, empty_test, finished, first_kept, held_until, stage_of, tests_in};
 
 use amqp_link_core::incomplete_transfer::{IncompleteTransfer, RefusedTransfer};
 use amqp_link_types::types::{
-    DeliveryNumber, Payload, ReceiverSettleMode, ReceiverTransferError, Transfer,
+    DeliveryNumber, DeliveryState, Payload, ReceiverSettleMode, ReceiverTransferError, Transfer,
 };
+use std::alloc::AllocError;
 use std::mem;
 
 /// How far a delivery has come.
@@ -83,6 +85,88 @@ fn take_empty(transfer: Transfer, payload: Payload) -> Result<(), RefusedTransfe
     Ok(())
 }
 
+// The position from which a transfer resumes its delivery, if it says so (3.4.1).
+fn start_of(begins: bool, transfer: &Transfer) -> Option<(u32, u64)>
+    ensures { result ≡ KeptDeliveries.start_of begins transfer.now }
+{
+    match &transfer.state {
+        Some(
+            DeliveryState::Received {
+                section_number,
+                section_offset,
+            },
+        ) if begins => Some((*section_number, *section_offset)),
+        _ => None,
+    }
+}
+
+// Adds a further transfer to what is held. One that resumes the delivery starts at the end of that, unless it names a position
+// before: then what is held beyond that is dropped.
+fn join(
+    held: &mut IncompleteTransfer,
+    begins: bool,
+    transfer: Transfer,
+    payload: Payload,
+) -> Result<(), RefusedTransfer>
+    ensures joined { OnOk result (Joins begins transfer payload held.old held.new) }
+    ensures refused { AnswersOrOutOfMemory ReceiverTransferError.OutOfMemory (with_error result)
+        (add_tests begins (held_until (KeptDeliveries.start_of begins transfer) held.old) transfer payload) }
+    ensures back { IfErr result (λ refused. AreReturned transfer payload refused) }
+    ensures left { OnErr result (held.new ≡ held.old) }
+{
+    match start_of(begins, &transfer) {
+        Some(start) if start != held.position() => {
+            join_at(held, start, begins, transfer, payload)
+        }
+        _ => held.add_or_return(begins, transfer, payload),
+    }
+}
+
+// The same of one that names this position. What is kept is made apart, so that a refused one leaves all.
+fn join_at(
+    held: &mut IncompleteTransfer,
+    start: (u32, u64),
+    begins: bool,
+    transfer: Transfer,
+    payload: Payload,
+) -> Result<(), RefusedTransfer>
+    requires { Some start ≡ KeptDeliveries.start_of begins transfer }
+    ensures joined { OnOk result (Joins begins transfer payload held.old held.new) }
+    ensures refused { AnswersOrOutOfMemory ReceiverTransferError.OutOfMemory (with_error result)
+        (add_tests begins (held_until (KeptDeliveries.start_of begins transfer) held.old) transfer payload) }
+    ensures back { IfErr result (λ refused. AreReturned transfer payload refused) }
+    ensures left { OnErr result (held.new ≡ held.old) }
+{
+    let Ok(mut front) = front_of(held, start) else {
+        return Err(refuse(ReceiverTransferError::OutOfMemory, transfer, payload));
+    };
+    match front.add_or_return(begins, transfer, payload) {
+        Ok(()) => {
+            *held = front;
+            Ok(())
+        }
+        Err(refused) => {
+            drop(front);
+            Err(refused)
+        }
+    }
+}
+
+// A copy of what is held before a position; the bytes are shared.
+fn front_of(held: &IncompleteTransfer, start: (u32, u64)) -> Result<IncompleteTransfer, AllocError>
+    ensures bytes { IfOk result (λ front. held_bytes front ≡ bytes_until (Some start) (held_bytes held.now)) }
+    ensures performative { IfOk result (λ front. front.performative ≡ held.now.performative) }
+{
+    let mut front = held.clone()?;
+    match front.keep_buffer_till_section_number_and_offset(start.0, start.1) {
+        Ok(()) => Ok(front),
+        Err(refused) => {
+            drop(front);
+            Err(refused)
+        }
+    }
+}
+
 impl Contents {
     // Adds a further transfer: to what has begun. Otherwise it is known already.
     fn add(
@@ -92,13 +176,13 @@ impl Contents {
         payload: Payload,
     ) -> Result<(), RefusedTransfer>
         ensures grown { OnOk result (Grows begins transfer payload self.old self.new) }
-        ensures refused { AnswersThenOutOfMemory ReceiverTransferError.OutOfMemory
+        ensures refused { AnswersOrOutOfMemory ReceiverTransferError.OutOfMemory
             (with_error result) (tests_in begins self.old transfer payload) }
         ensures back { IfErr result (λ refused. AreReturned transfer payload refused) }
         ensures left { OnErr result (self.new ≡ self.old) }
     {
         match self {
-            Contents::Begun(held) => held.add_or_return(begins, transfer, payload),
+            Contents::Begun(held) => join(held, begins, transfer, payload),
             _ => take_empty(transfer, payload),
         }
     }
@@ -169,7 +253,7 @@ impl Kept {
         payload: Payload,
     ) -> Result<(), RefusedTransfer>
         ensures added { OnOk result (IsAdded begins transfer payload self.old self.new) }
-        ensures refused { AnswersThenOutOfMemory ReceiverTransferError.OutOfMemory
+        ensures refused { AnswersOrOutOfMemory ReceiverTransferError.OutOfMemory
             (with_error result) (addition_tests begins self.old transfer payload) }
         ensures back { IfErr result (λ refused. AreReturned transfer payload refused) }
         ensures left { OnErr result (self.new ≡ self.old) }

@@ -1,9 +1,7 @@
 -- Deliveries leave the queue of settled ones once, in the order in which they joined it.
 use Rattle.std.proofs.Common.{◌≡◌, ◌∙◌, ◌++◌, ap, append_assoc, refl, subst, sym, Bool, true, false, cond, map, List, [], ◌∷◌, Option, Some, None, Ok, Err, ℕ}
-use Rattle.std.specs.Prelude.{drop, flat_map, is_some, option_and_then, take, unwrap_or, if◌then◌else◌}
-use Rattle.std.specs.List.{concat}
+use Rattle.std.specs.Prelude.{drop, flat_map, is_some, option_and_then, take, if◌then◌else◌}
 use Rattle.std.proofs.lemmas.List.{append-nil, map-append}
-use Rattle.std.proofs.lemmas.List.Folds.{concat-append}
 use Rattle.amqp_link_types.specs.Entries.{Tag, IsMap, entry_at, without_entry}
 use Rattle.amqp_link_types.specs.declared.types.transfer.Transfer.{Transfer}
 use Rattle.amqp_link_types.proofs.MapLemmas.{entry_at-put, entry_at-removed, false_is_not_true, same_tag}
@@ -12,8 +10,8 @@ use Rattle.amqp_link_receiver.specs.ReceiverDeliveries.{is_settled}
 use Rattle.amqp_link_receiver.specs.Receivers.{Receiver}
 use Rattle.amqp_link_inbox.specs.Bytes.{bytes_at, bytes_before, bytes_in, bytes_kept, if_held}
 use Rattle.amqp_link_inbox.specs.Disposing.{settled_at, settled_in}
-use Rattle.amqp_link_inbox.specs.Inboxes.{Arrives, Handles, InboxState, begins, is_new, store_of, tag_of}
-use Rattle.amqp_link_inbox.specs.KeptDeliveries.{Grows, finished, first_kept, has_begun}
+use Rattle.amqp_link_inbox.specs.Inboxes.{Arrives, Handles, InboxState, begins, is_new, resumed_at, store_of, tag_of}
+use Rattle.amqp_link_inbox.specs.KeptDeliveries.{Grows, bytes_until, finished, first_kept, has_begun, start_of}
 use Rattle.amqp_link_inbox.specs.Storing.{AddsTo, IsStated, Store, added_arrival, first_arrival, first_held, held_in, next_arrival, stored, stored_by}
 use Rattle.amqp_link_inbox.specs.Taking.{has_taken}
 use Rattle.amqp_link_inbox.specs.declared.arrival.Arrival.{Arrival}
@@ -100,25 +98,26 @@ module _ (s : Store) (tag : Tag) (is : IsMap s.entries) where
 
     in_case : (begins : Bool) (kept next : Kept) (grown c : Contents) → kept.contents ≡ c → entry_at s.entries tag ≡ Some kept → Grows begins t bytes c grown
         → next.contents ≡ finished t.more grown
-        → Joins (added_arrival (has_begun c) t.more next.settled) (unwrap_or (bytes_in c) [] ++ bytes) (stored t.more tag next s)
+        → Joins (added_arrival (has_begun c) t.more next.settled) (bytes_before false (start_of begins t) (bytes_in c) ++ bytes) (stored t.more tag next s)
     in_case begins kept next grown (Begun old) is_held here g contents =
         let held : Held = g.0 in
-        stored_whole next.settled t.more next (held_bytes old ++ bytes) (Left (stored t.more tag next s))
-        (ap bytes_list (contents ∙ ap (finished t.more) g.2) ∙ finished_list t.more held
-        ∙ ap (λ b. b ∷ []) (ap concat g.1.pieces ∙ concat-append old.pieces (bytes ∷ []) ∙ ap (λ b. held_bytes old ++ b) (append-nil bytes)))
+        stored_whole next.settled t.more next (bytes_until (start_of begins t) (held_bytes old) ++ bytes) (Left (stored t.more tag next s))
+        (ap bytes_list (contents ∙ ap (finished t.more) g.2) ∙ finished_list t.more held ∙ ap (λ b. b ∷ []) g.1.joined)
     in_case begins kept next grown (Complete old) is_held here g contents =
         stored_again next.settled t.more kept next here (contents ∙ ap (finished t.more) g.0 ∙ finished_same t.more (Complete old) refl ∙ sym is_held)
     in_case begins kept next grown Taken is_held here g contents =
         stored_again next.settled t.more kept next here (contents ∙ ap (finished t.more) g.0 ∙ finished_same t.more Taken refl ∙ sym is_held)
 
     added_joins : (begins : Bool) (found : Option Kept) (came : Arrival) (new : Store) (after : Receiver T) → entry_at s.entries tag ≡ found
-        → AddsTo found begins tag t bytes s before came new after → Joins came (unwrap_or (bytes_kept found) [] ++ bytes) new
+        → AddsTo found begins tag t bytes s before came new after → Joins came (bytes_before false (start_of begins t) (bytes_kept found) ++ bytes) new
     added_joins begins None came new after here a =
-        subst (λ c. Joins c ([] ++ bytes) new) (sym a.2) (subst (λ (n : Store). Joins Ignored ([] ++ bytes) n) (sym a.0) (sym (append-nil (waiting s))))
+        let whole : List ℕ = bytes_before false (start_of begins t) None ++ bytes in
+        subst (λ c. Joins c whole new) (sym a.2) (subst (λ (n : Store). Joins Ignored whole n) (sym a.0) (sym (append-nil (waiting s))))
     added_joins begins (Some kept) came new after here a =
         let next : Kept = a.0 in
-        subst (λ c. Joins c (unwrap_or (bytes_in kept.contents) [] ++ bytes) new) (sym a.4)
-        (subst (λ (n : Store). Joins (added_arrival (has_begun kept.contents) t.more next.settled) (unwrap_or (bytes_in kept.contents) [] ++ bytes) n) (sym a.2)
+        let whole : List ℕ = bytes_before false (start_of begins t) (bytes_in kept.contents) ++ bytes in
+        subst (λ c. Joins c whole new) (sym a.4)
+        (subst (λ (n : Store). Joins (added_arrival (has_begun kept.contents) t.more next.settled) whole n) (sym a.2)
         (in_case begins kept next a.1.grown kept.contents refl here a.1.grows a.1.contents))
 
     first_list : (more : Bool) → bytes_list (if more then Begun (first_held t bytes) else Complete (first_held t bytes)) ≡ bytes ∷ []
@@ -126,9 +125,9 @@ module _ (s : Store) (tag : Tag) (is : IsMap s.entries) where
     first_list false = ap (λ b. b ∷ []) (append-nil bytes)
 
     handled_joins : (aborted is_new begins : Bool) (came : Arrival) (replaced : Option Stage) (new : Store) (after : Receiver T)
-        → Handles aborted is_new begins tag t bytes s before came replaced new after → Joins came (bytes_before is_new (bytes_at s.entries tag) ++ bytes) new
+        → Handles aborted is_new begins tag t bytes s before came replaced new after → Joins came (bytes_before is_new (start_of begins t) (bytes_at s.entries tag) ++ bytes) new
     handled_joins true is_new begins came replaced new after h =
-        subst (λ c. Joins c (bytes_before is_new (bytes_at s.entries tag) ++ bytes) new) (sym h.2)
+        subst (λ c. Joins c (bytes_before is_new (start_of begins t) (bytes_at s.entries tag) ++ bytes) new) (sym h.2)
         (ap waiting h.0 ∙ sym (append-nil (waiting s)))
     handled_joins false true begins came replaced new after h =
         let first : Kept = first_kept (first_held t bytes) t.more in
@@ -175,10 +174,11 @@ module _ {T B : Type 0} (decoded : Decoder B) where
 
       comes : (t : Transfer) (bytes : List ℕ) (came : Arrived) → Arrives old t bytes came new
           → map held_bytes new.settled ≡ map held_bytes old.settled
-          ++ if_settled came.arrival (bytes_before (is_new old t) (option_and_then (bytes_at old.deliveries) (tag_of old t)) ++ bytes) (if_left (tag_of old t) old new)
+          ++ if_settled came.arrival (bytes_before (is_new old t) (resumed_at old t) (option_and_then (bytes_at old.deliveries) (tag_of old t)) ++ bytes)
+          (if_left (tag_of old t) old new)
       comes t bytes came a =
           subst (λ o. map held_bytes new.settled ≡ map held_bytes old.settled
-          ++ if_settled came.arrival (bytes_before (is_new old t) (option_and_then (bytes_at old.deliveries) o) ++ bytes) (if_left o old new)) (sym a.tag_is)
+          ++ if_settled came.arrival (bytes_before (is_new old t) (resumed_at old t) (option_and_then (bytes_at old.deliveries) o) ++ bytes) (if_left o old new)) (sym a.tag_is)
           (handled_joins (store_of old) a.tag is.entries_map old.link t bytes t.aborted (is_new old t) (begins old) came.arrival came.replaced (store_of new) a.link a.handles)
 
       settles : (settled : Bool) (tag : Tag) (unsettled : _) → Has (if settled then settled_at tag (store_of old) else store_of old) unsettled new

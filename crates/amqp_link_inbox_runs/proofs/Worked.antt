@@ -1,12 +1,16 @@
 -- Values of the definitions that were worked out by hand: docs/DEFINITIONS.md lists them.
 use Rattle.std.proofs.Common.{◌≡◌, [], ◌∷◌, refl, true, false, Some, None, Ok}
+use Rattle.amqp_link_payloads.specs.Header.{header_len}
+use Rattle.amqp_link_payloads.specs.Position.{starts}
 use Rattle.amqp_link_types.specs.Frames.{silent}
 use Rattle.amqp_link_types.specs.declared.types.delivery_state.DeliveryState.TheVariants.{Accepted}
 use Rattle.amqp_link_types.specs.declared.types.performatives.LinkFlow.{LinkFlow}
 use Rattle.amqp_link_types.specs.declared.types.transfer.Transfer.{Transfer}
 use Rattle.amqp_link_inbox.specs.Inboxes.{InboxState}
+use Rattle.amqp_link_inbox.specs.declared.arrival.Arrival.TheVariants as arrival
 use Rattle.amqp_link_inbox.specs.declared.arrival.Arrived.{Arrived}
-use Rattle.amqp_link_inbox_runs.specs.InboxRuns.{Moment, brought, came, does_begin, is_among, joined, last_stated, names, since_begun, takes, until_begun}
+use Rattle.amqp_link_inbox_runs.specs.FromLedger.{brought, since_begun}
+use Rattle.amqp_link_inbox_runs.specs.InboxRuns.{Moment, came, come_by, does_begin, is_among, joined, last_stated, names, start_for, takes, until_begun}
 use Rattle.amqp_link_inbox_runs.specs.declared.call.AnswerOf.TheVariants as answer
 use Rattle.amqp_link_inbox_runs.specs.declared.call.Call.TheVariants as call
 
@@ -55,6 +59,14 @@ module _ (T B : Type 0) (w : InboxState T) (arrived : Arrived) (flow : LinkFlow)
 
   of_02_all_stays : came (9 ∷ []) (2 ∷ []) (flowed ∷ begun ∷ []) ≡ 9 ∷ []
   of_02_all_stays = refl
+
+  -- resumed from the second byte on
+  stands_where_it_starts : come_by true false (Some (0, 1)) (8 ∷ 9 ∷ []) (7 ∷ 8 ∷ []) ≡ 7 ∷ 8 ∷ 9 ∷ []
+  unfolding starts header_len
+  stands_where_it_starts = refl
+
+  known_one_starts_nowhere : start_for arrival.Known (Some (0, 1)) ≡ None
+  known_one_starts_nowhere = refl
 
   since_it_began : since_begun (1 ∷ []) (flowed ∷ begun ∷ accepted ∷ []) ≡ begun ∷ accepted ∷ []
   since_it_began = refl

@@ -12,7 +12,8 @@ use Rattle.amqp_link_types.specs.declared.types.transfer.Transfer.{Transfer}
 use Rattle.amqp_link_receiver.specs.Completing.{IsDelivery}
 use Rattle.amqp_link_core.specs.Held.{held_bytes}
 use Rattle.amqp_link_inbox.specs.Bytes.{bytes_at, bytes_before, if_held}
-use Rattle.amqp_link_inbox.specs.Inboxes.{InboxState, is_new, tag_of}
+use Rattle.amqp_link_inbox.specs.Inboxes.{InboxState, is_new, resumed_at, tag_of}
+use Rattle.amqp_link_inbox.specs.KeptDeliveries.{bytes_until}
 use Rattle.amqp_link_inbox.specs.Storing.{IsStated, is_unsettled}
 use Rattle.amqp_link_inbox.specs.Taking.{has_taken}
 use Rattle.amqp_link_inbox.specs.declared.arrival.Arrival.{Arrival}
@@ -48,10 +49,20 @@ abbrev pub payload_of : Call → List ℕ
 payload_of (call.OnIncomingTransfer t bytes) = bytes
 payload_of _ = []
 
+-- the start of a transfer that is an arrival of this kind
+abbrev pub start_for : Arrival → Option (ℕ × ℕ) → Option (ℕ × ℕ)
+start_for arrival.Known start = None
+start_for _ start = start
+
 -- whether a transfer begins a delivery
 abbrev pub begins_by : {T : Type 0} → InboxState T → Call → Bool
 begins_by before (call.OnIncomingTransfer t bytes) = not t.aborted && is_new before t
 begins_by before _ = false
+
+-- what has come of a delivery after a call, by whether it brings some of it, and begins it: a transfer's bytes stand where it
+-- starts, and without such a place follow all before
+abbrev pub come_by : Bool → Bool → Option (ℕ × ℕ) → List ℕ → List ℕ → List ℕ
+come_by brings begins start bytes held = if brings then (if begins then bytes else bytes_until start held ++ bytes) else held
 
 module _ {T B : Type 0} where
   -- whether a transfer that was taken belongs to the delivery with this tag
@@ -65,24 +76,24 @@ module _ {T B : Type 0} where
   abbrev pub does_begin : Tag → Moment T B → Bool
   does_begin tag m = brings tag m && begins_by m.before m.call
 
-  -- the bytes that a call brings of the delivery with this tag
-  abbrev pub brought : Tag → Moment T B → List ℕ
-  brought tag m = if brings tag m then payload_of m.call else []
-
-  -- the calls from the last one on that begins a delivery with this tag, or all if none does
-  abbrev pub since_begun : Tag → List (Moment T B) → List (Moment T B)
-  since_begun tag [] = []
-  since_begun tag (m ∷ moments) = if list_any (does_begin tag) moments then since_begun tag moments else m ∷ moments
-
   -- the calls before the first one that begins a delivery with this tag
   abbrev pub until_begun : Tag → List (Moment T B) → List (Moment T B)
   until_begun tag [] = []
   until_begun tag (m ∷ moments) = if does_begin tag m then [] else m ∷ until_begun tag moments
 
-  -- What has come of the latest delivery with this tag: what was held of it at first, if it began before these calls, and
-  -- then the bytes of its transfers, in order.
+  -- the position from which a transfer resumes its delivery, if it says so; one of a delivery that was complete before adds
+  -- nothing, wherever it starts
+  abbrev pub start_by : InboxState T → Call → AnswerOf B → Option (ℕ × ℕ)
+  start_by before (call.OnIncomingTransfer t bytes) (answer.Arrived (Ok arrived)) = start_for arrived.arrival (resumed_at before t)
+  start_by before _ _ = None
+
+  abbrev pub come_after : Tag → Moment T B → List ℕ → List ℕ
+  come_after tag m held = come_by (brings tag m) (begins_by m.before m.call) (start_by m.before m.call m.answer) (payload_of m.call) held
+
+  -- What has come of the latest delivery with this tag after these calls, where this was held of it before them.
   abbrev pub came : List ℕ → Tag → List (Moment T B) → List ℕ
-  came held tag moments = (if list_any (does_begin tag) moments then [] else held) ++ flat_map (brought tag) (since_begun tag moments)
+  came held tag [] = held
+  came held tag (m ∷ moments) = came (come_after tag m held) tag moments
 
 -- the bytes that are held of a delivery, none if there are none
 abbrev pub held_at : {T : Type 0} → InboxState T → Tag → List ℕ
@@ -161,7 +172,8 @@ module _ {T B : Type 0} where
   -- the bytes of the delivery that a call adds to the queue, as a list of at most one
   abbrev pub joined_by : InboxState T → Call → AnswerOf B → InboxState T → List (List ℕ)
   joined_by before (call.OnIncomingTransfer t bytes) (answer.Arrived (Ok arrived)) after =
-      if_settled arrived.arrival (bytes_before (is_new before t) (option_and_then (bytes_at before.deliveries) (tag_of before t)) ++ bytes)
+      if_settled arrived.arrival
+      (bytes_before (is_new before t) (resumed_at before t) (option_and_then (bytes_at before.deliveries) (tag_of before t)) ++ bytes)
       (if_left (tag_of before t) before after)
   joined_by before (call.OnIncomingDisposition settled state tag) (answer.DispositionTaken (Ok done)) after = if_left (Some tag) before after
   joined_by before _ _ after = []

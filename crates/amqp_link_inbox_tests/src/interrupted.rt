@@ -52,6 +52,48 @@ fn a_refused_growth_loses_nothing(rt: HostRuntime) {
     expect_script(&rt, CUT_TWICE.as_slice());
 }
 
+// The peer resumes the delivery three times: it sends again what had come but for its first byte, then all, then nothing of it.
+pub(crate) const SENT_AGAIN: [Row; 13] = [
+    (Attach(&[]), Seen::Forgotten(0), 0, 0),
+    (Grant(1), Seen::Done, 1, 0),
+    (
+        Come(First(0, 1), &[1, 2, 3], MORE),
+        Seen::Came(Arrival::Begun),
+        0,
+        1,
+    ),
+    (Cut, Seen::Done, 0, 1),
+    (Attach(&[1]), Seen::Forgotten(0), 0, 1),
+    (
+        Come(ResumesAt(0, 1, 1), &[2, 3, 4], MORE),
+        Seen::Came(Arrival::Continued),
+        0,
+        1,
+    ),
+    (Cut, Seen::Done, 0, 1),
+    (Attach(&[1]), Seen::Forgotten(0), 0, 1),
+    (
+        Come(ResumesAt(0, 1, 0), &[1, 2, 3, 4], MORE),
+        Seen::Came(Arrival::Continued),
+        0,
+        1,
+    ),
+    (Cut, Seen::Done, 0, 1),
+    (Attach(&[1]), Seen::Forgotten(0), 0, 1),
+    (
+        Come(ResumesAt(0, 1, 4), &[5], LAST),
+        Seen::Came(Arrival::Complete),
+        0,
+        1,
+    ),
+    (Take(1, &[1, 2, 3, 4, 5]), Seen::Taken(true), 0, 1),
+];
+
+#[test]
+fn what_is_sent_again_is_held_once(rt: HostRuntime) {
+    expect_script(&rt, SENT_AGAIN.as_slice());
+}
+
 // Three deliveries, of which the third is disposed of with the others once it was taken: by one disposition for ids that follow
 // each other.
 pub(crate) const THREE: [Row; 12] = [

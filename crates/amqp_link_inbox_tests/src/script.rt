@@ -23,6 +23,8 @@ pub(crate) enum Frame {
     FirstSettled(u32, u8),
     /// The first of a delivery that is resumed.
     Resumes(u32, u8),
+    /// The same, which says from which offset of the first section on.
+    ResumesAt(u32, u8, u64),
     /// A further one.
     Further,
     /// A further one, which settles the delivery.
@@ -184,6 +186,7 @@ fn names_of(frame: Frame) -> Option<(u32, u8)> {
         Frame::First(id, tag)
         | Frame::FirstSettled(id, tag)
         | Frame::Resumes(id, tag)
+        | Frame::ResumesAt(id, tag, _)
         | Frame::AbortsFirst(id, tag) => Some((id, tag)),
         Frame::Further | Frame::Settles | Frame::Aborts => None,
     }
@@ -198,7 +201,14 @@ pub(crate) fn transfer_of(alloc: Global, frame: Frame, more: bool) -> Result<Tra
             None => None,
         },
         more,
-        resume: matches!(frame, Frame::Resumes(_, _)),
+        resume: matches!(frame, Frame::Resumes(_, _) | Frame::ResumesAt(_, _, _)),
+        state: match frame {
+            Frame::ResumesAt(_, _, section_offset) => Some(DeliveryState::Received {
+                section_number: 0,
+                section_offset,
+            }),
+            _ => None,
+        },
         settled: match frame {
             Frame::FirstSettled(_, _) | Frame::Settles => Some(true),
             _ => None,

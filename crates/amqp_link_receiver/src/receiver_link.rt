@@ -27,15 +27,21 @@ use std::marker::Model;
 /// - **Attach**: `on_incoming_attach` returns `Complete` if the sender's attach states no unsettled delivery. Otherwise it
 ///   returns `Resume`: the sender resumes deliveries; or `IncompleteUnsettled`, if an attach did not state all of them:
 ///   the sender resumes those that were stated, and then the link is attached anew until an exchange is complete
-///   (`Link`, **Detach**). What is held of a delivery that a complete map of the sender's lacks is dropped.
+///   (`Link`, **Detach**). Of a delivery that a complete map of the sender's lacks, drop what is held, and take the entry out
+///   by `on_incoming_disposition(true, None, tag)`: no call does either.
 /// - **Grant credit**: `send_flow` sets the link-credit and makes the flow to send. `on_incoming_flow` takes the
 ///   sender's, and returns the flow to send back, if there is one.
 /// - **Take in**: `begins_delivery` says whether the next transfer begins a delivery in this attachment.
 ///   `on_incoming_transfer` takes the transfer from the session and returns the frame for the link's user. The
 ///   user keeps an `IncompleteTransfer`, to which `try_add` adds each further transfer, and reports the
-///   position of what it holds by `on_incomplete_transfer`; with the last transfer `on_complete_transfer`
-///   returns the delivery and spends a credit. `on_transfer_state` takes the state that a transfer carries, before
-///   the position is reported. What is held is kept as long as the delivery's entry. After a transfer that aborts,
+///   position of what it holds by `on_incomplete_transfer`, after the last one too; then `on_complete_transfer`
+///   returns the delivery and spends a credit. (If it is refused for lack of credit, the next attach states all that is
+///   held.) `on_transfer_state` takes the state that a transfer carries, before the position is reported. Once a transfer
+///   is settled, nothing is reported: `on_incoming_disposition(true, None, tag)` takes the entry out, which
+///   `on_complete_transfer` leaves. What is held is kept as long as the delivery's entry. A first transfer without
+///   `resume` takes the place of what is held of its tag (`start`, not `try_add`). One with `resume` of which nothing is
+///   held begins nothing: if the map has its tag, the delivery was complete, and has this id now; otherwise it is ignored.
+///   After a transfer that aborts,
 ///   `on_aborted`, and what is held is dropped; it takes no credit, so a sender that has counted the delivery has one
 ///   less than the link shows: `send_flow` with `echo` asks for its count, `move_delivery_count` sets it.
 ///   `on_incoming_disposition` takes the sender's disposition, and returns nothing to send.

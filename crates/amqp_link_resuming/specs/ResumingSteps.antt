@@ -78,13 +78,14 @@ module _ {T : Type 0} where
 
 -- ---- a list of them
 
--- the first of the list is taken from it, and this is done of it
+-- the first of the list is taken from it, this is done of it, and no test of that holds
 pub record DoesFirst {T : Type 0} (is_sent : Bool) (list : Entries ResumingDelivery) (old : Ledger T) (what : Step)
     (rest : Entries ResumingDelivery) (new : Ledger T) : Type 0 where
   pub tag : Tag
   pub next_is : ResumingDelivery
   pub first : list ≡ (tag, next_is) ∷ rest
   pub does : DoesOf is_sent tag next_is old new what
+  pub passes : refusal (step_tests is_sent tag next_is old.link) ≡ None
 
 module _ {T : Type 0} where
   -- the same, or nothing with nothing changed, which comes exactly of an empty list

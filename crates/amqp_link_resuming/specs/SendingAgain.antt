@@ -8,6 +8,7 @@ use Rattle.amqp_link_types.specs.declared.types.definitions.OutputHandle.{Output
 use Rattle.amqp_link_types.specs.declared.types.errors.LinkStateError.{LinkStateError}
 use Rattle.amqp_link_types.specs.declared.types.errors.LinkStateError.TheVariants.{IllegalState, OutOfMemory}
 use Rattle.amqp_link_types.specs.declared.types.transfer.Transfer.{Transfer}
+use Rattle.amqp_link_split.specs.Fitting.{IsFitting}
 use Rattle.amqp_link_sender.specs.Senders.{IsSent, Sender, delivery_of, new_transfer, resuming_transfer, unsettled_transfer_tests}
 use Rattle.amqp_link_ledger.specs.Fates.{Enters, after}
 use Rattle.amqp_link_ledger.specs.Ledgers.{Ledger}
@@ -36,10 +37,11 @@ abbrev pub HandsBackOrOutOfMemory : {A : Type 0} → Result A (LinkStateError ×
 HandsBackOrOutOfMemory (Ok a) entry tests = refusal tests ≡ None
 HandsBackOrOutOfMemory (Err e) entry tests = (e.1 ≡ entry) × ((e.0 ≡ OutOfMemory) ⊎ (refusal tests ≡ Some e.0))
 
--- A delivery is sent again by this transfer, with these bytes: it is in the unsettled map with its entry, and has a new
--- registration. No credit is spent.
+-- A delivery is sent again by this transfer, with these bytes, in the fewest frames that fit: it is in the unsettled map with
+-- its entry, and has a new registration. All else of the link stays, its credit too.
 pub record SendsAgain {T : Type 0} (tag : Tag) (entry : UnsettledMessage) (transfer : OutputHandle → Transfer) (bytes : List ℕ)
     (old : Ledger T) (frames : List LinkFrame) (new : Ledger T) : Type 0 where
   pub sent : IsSomeAnd old.link.output_handle (λ handle. IsSent old.link (transfer handle) bytes frames)
-  pub kept : new.link.unsettled ≡ with_entry old.link.unsettled tag entry
+  pub fits : IsSomeAnd old.link.output_handle (λ handle. IsFitting (transfer handle) old.link.max_frame_size bytes frames)
+  pub link : new.link ≡ record old.link { unsettled = with_entry old.link.unsettled tag entry }
   pub registered : new.records ≡ after (Enters tag) old.records

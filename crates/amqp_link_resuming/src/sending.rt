@@ -3,6 +3,7 @@ ghost use Rattle.std.specs.Prelude.{◌≡◌, ◌++◌, List, ℕ, map, false, 
 ghost use Rattle.std.specs.List.{concat};
 ghost use Rattle.amqp_link_types.specs.Entries.{with_entry};
 ghost use Rattle.amqp_link_types.specs.Frames.{payload_of};
+ghost use Rattle.amqp_link_split.specs.Fitting.{IsFitting};
 ghost use Rattle.amqp_link_sender.specs.Senders.{IsSent, delivery_of, new_transfer, resuming_transfer};
 ghost use Rattle.amqp_link_ledger.specs.Fates.{Change, after};
 ghost use Rattle.amqp_link_resuming.specs.SendingAgain.{HandsBackOrOutOfMemory, again_tests, rest_tests};
@@ -34,8 +35,12 @@ pub fn send_rest<T: LinkTarget>(
     ensures resumed { IfOk result (λ frames. IsSomeAnd ledger.old.link.output_handle (λ handle.
         IsSent ledger.old.link (resuming_transfer ledger.old.link handle tag.now
         (delivery_of entry.message_format None None false)) rest.now frames.items)) }
-    ensures entry { OnOk result
-        (ledger.new.link.unsettled ≡ with_entry ledger.old.link.unsettled tag.now entry) }
+    ensures fits { IfOk result (λ frames. IsSomeAnd ledger.old.link.output_handle (λ handle.
+        IsFitting (resuming_transfer ledger.old.link handle tag.now
+        (delivery_of entry.message_format None None false)) ledger.old.link.max_frame_size rest.now frames.items)) }
+    ensures link { OnOk result (ledger.new.link ≡ record ledger.old.link {
+      unsettled = with_entry ledger.old.link.unsettled tag.now entry;
+    }) }
     ensures registered { OnOk result (ledger.new.records ≡ after (Change.Enters tag.now) ledger.old.records) }
     ensures refused { HandsBackOrOutOfMemory result entry (rest_tests ledger.old.link tag.now entry rest.now) }
     ensures left { OnErr result (ledger.new ≡ ledger.old) }
@@ -82,8 +87,12 @@ pub fn send_again<T: LinkTarget>(
     ensures sent { IfOk result (λ frames. IsSomeAnd ledger.old.link.output_handle (λ handle.
         IsSent ledger.old.link (new_transfer ledger.old.link handle tag.now
         (delivery_of entry.message_format (Some false) None false)) entry.payload frames.items)) }
-    ensures entry { OnOk result
-        (ledger.new.link.unsettled ≡ with_entry ledger.old.link.unsettled tag.now entry) }
+    ensures fits { IfOk result (λ frames. IsSomeAnd ledger.old.link.output_handle (λ handle.
+        IsFitting (new_transfer ledger.old.link handle tag.now
+        (delivery_of entry.message_format (Some false) None false)) ledger.old.link.max_frame_size entry.payload frames.items)) }
+    ensures link { OnOk result (ledger.new.link ≡ record ledger.old.link {
+      unsettled = with_entry ledger.old.link.unsettled tag.now entry;
+    }) }
     ensures registered { OnOk result (ledger.new.records ≡ after (Change.Enters tag.now) ledger.old.records) }
     ensures refused { HandsBackOrOutOfMemory result entry (again_tests ledger.old.link tag.now entry) }
     ensures left { OnErr result (ledger.new ≡ ledger.old) }

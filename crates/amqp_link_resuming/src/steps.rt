@@ -1,5 +1,6 @@
 //! What is done of one delivery that an exchange lists (2.6.13).
-ghost use Rattle.std.specs.Prelude.{◌≡◌, ◌∷◌, [], Ok, Some, IfErr, IfOk, OnErr, false, true};
+ghost use Rattle.std.specs.Prelude.{◌≡◌, ◌∷◌, [], None, Ok, Some, IfErr, IfOk, OnErr, OnOk, false, true};
+ghost use Rattle.amqp_link_types.specs.Refusals.{refusal};
 ghost use Rattle.amqp_link_sender.specs.Senders.{is_pending};
 ghost use Rattle.amqp_link_resuming.specs.ResumingSteps.{DoesOf, StopsStep, left_as, step_tests};
 
@@ -55,6 +56,7 @@ pub fn resume_one<T: LinkTarget>(
     ensures done { IfOk result (DoesOf true tag next ledger.old ledger.new) }
     ensures back { IfErr result (λ left. (left.tag ≡ tag) × (left.next ≡ next)) }
     ensures refused { IfErr result (λ left. StopsStep left.refused (step_tests true tag next ledger.old.link)) }
+    ensures passes { OnOk result (refusal (step_tests true tag next ledger.old.link) ≡ None) }
     ensures left { OnErr result (ledger.new ≡ ledger.old) }
 {
     match next {
@@ -83,6 +85,7 @@ fn resume<T: LinkTarget>(
     ensures done { IfOk result (DoesOf true tag (ResumingDelivery.Resume entry rest) ledger.old ledger.new) }
     ensures back { IfErr result (λ left. (left.tag ≡ tag) × (left.next ≡ ResumingDelivery.Resume entry rest)) }
     ensures refused { IfErr result (λ left. StopsStep left.refused (step_tests true tag (ResumingDelivery.Resume entry rest) ledger.old.link)) }
+    ensures passes { OnOk result (refusal (step_tests true tag (ResumingDelivery.Resume entry rest) ledger.old.link) ≡ None) }
     ensures left { OnErr result (ledger.new ≡ ledger.old) }
 {
     match send_rest(ledger, &tag, entry, &rest) {
@@ -107,6 +110,7 @@ fn resend<T: LinkTarget>(
     ensures done { IfOk result (DoesOf true tag (ResumingDelivery.Resend entry) ledger.old ledger.new) }
     ensures back { IfErr result (λ left. (left.tag ≡ tag) × (left.next ≡ ResumingDelivery.Resend entry)) }
     ensures refused { IfErr result (λ left. StopsStep left.refused (step_tests true tag (ResumingDelivery.Resend entry) ledger.old.link)) }
+    ensures passes { OnOk result (refusal (step_tests true tag (ResumingDelivery.Resend entry) ledger.old.link) ≡ None) }
     ensures left { OnErr result (ledger.new ≡ ledger.old) }
 {
     match send_again(ledger, &tag, entry) {
@@ -133,6 +137,7 @@ fn abort<T: LinkTarget>(
     ensures back { IfErr result (λ left. (left.tag ≡ tag) × (left.next ≡ ResumingDelivery.Abort message_format own)) }
     ensures refused { IfErr result (λ left. StopsStep left.refused
         (step_tests true tag (ResumingDelivery.Abort message_format own) ledger.now.link)) }
+    ensures passes { OnOk result (refusal (step_tests true tag (ResumingDelivery.Abort message_format own) ledger.now.link) ≡ None) }
 {
     match ledger.link().send_abort(&tag, message_format) {
         Ok(frame) => {
@@ -174,6 +179,7 @@ pub fn put_back_one<T: LinkTarget>(
     ensures done { IfOk result (DoesOf false tag next ledger.old ledger.new) }
     ensures back { IfErr result (λ left. (left.tag ≡ tag) × (left.next ≡ next)) }
     ensures refused { IfErr result (λ left. StopsStep left.refused (step_tests false tag next ledger.old.link)) }
+    ensures passes { OnOk result (refusal (step_tests false tag next ledger.old.link) ≡ None) }
     ensures left { OnErr result (ledger.new ≡ ledger.old) }
 {
     match next {
@@ -213,6 +219,7 @@ fn put_back<T: LinkTarget>(
     ensures back { IfErr result (λ left. (left.tag ≡ tag) × (left.next ≡ left_as entry rest)) }
     ensures refused { IfErr result (λ left. StopsStep left.refused
         ((is_pending ledger.old.link tag, LinkStateError.TagPending) ∷ [])) }
+    ensures passes { OnOk result (is_pending ledger.old.link tag ≡ false) }
     ensures left { OnErr result (ledger.new ≡ ledger.old) }
 {
     let Ok(own) = tag.clone() else {

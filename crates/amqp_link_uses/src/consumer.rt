@@ -8,7 +8,7 @@ ghost use Rattle.std.specs.Prelude.{◌≡◌, ◌⊎◌, ◌++◌, ◌∷◌, [
 ghost use Rattle.amqp_link.specs.Bytes.{bytes_at, bytes_before};
 ghost use Rattle.amqp_link.specs.Disposing.{outcome_refusal};
 ghost use Rattle.amqp_link.specs.Entries.{changed_at, entry_at, without_entry};
-ghost use Rattle.amqp_link.specs.Inboxes.{Arrives, is_new, tag_of};
+ghost use Rattle.amqp_link.specs.Inboxes.{Arrives, is_new, resumed_at, tag_of};
 ghost use Rattle.amqp_link.specs.IncompleteRefusals.{AreReturned};
 ghost use Rattle.amqp_link.specs.declared.inbox.Arrived.{Arrived as TheArrived};
 
@@ -36,7 +36,8 @@ pub fn take_in(
     payload: Payload,
 ) -> Result<Option<Delivery<Whole>>, TakeInError>
     ensures whole { IfOk result (λ came. IfSome came (λ delivery. IsSomeAnd (tag_of inbox.old transfer) (λ tag.
-        delivery.message.body.0 ≡ bytes_before (is_new inbox.old transfer) (bytes_at inbox.old.deliveries tag) ++ payload))) }
+        delivery.message.body.0 ≡ bytes_before (is_new inbox.old transfer) (resumed_at inbox.old transfer)
+        (bytes_at inbox.old.deliveries tag) ++ payload))) }
     ensures none { IfOk result (λ message. IfNone message ((came : TheArrived) × Arrives inbox.old transfer payload came inbox.new
         × (came.arrival ≡ Arrival.Complete → came.tag ≡ None))) }
     ensures back { (refused : _) → result ≡ Err (TakeInError.Transfer refused)

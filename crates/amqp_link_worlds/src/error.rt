@@ -53,10 +53,10 @@ pub enum PairError {
     /// The delivery was handed out already.
     #[error("the delivery was handed out already")]
     AlreadyHandedOut,
-    /// The receiver has no credit left.
+    /// The receiver has no credit left: a resumed delivery takes one here. Grant credit, then hand it out.
     #[error("the transfer limit is exceeded")]
     TransferLimitExceeded,
-    /// The message could not be decoded. It counts as handed out.
+    /// The message could not be decoded. It counts as handed out: settle it.
     #[error("the message could not be decoded")]
     Decode,
     /// A transfer of this delivery is still under way.

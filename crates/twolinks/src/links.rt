@@ -1,7 +1,7 @@
 //! The two link endpoints: a sender that records what became of each delivery, and a receiver that keeps what has arrived.
 use crate::session::Session;
-use amqp_link::inbox::Arrival;
-use amqp_link::resumption::ResumingDelivery;
+use amqp_link::inbox::Arrived;
+use amqp_link::resumption::{ResumingDelivery, Step, resume_next};
 use amqp_link::sender_link::SenderAttachExchange;
 use amqp_link::types::{Attach, DataBody, OutputHandle, Source, Target, Text};
 use amqp_link::{
@@ -10,6 +10,7 @@ use amqp_link::{
 };
 use program_support::{Refused, done};
 use std::alloc::{AllocError, Global};
+use std::collections::VecDeque;
 
 // What both endpoints state of the link. A frame has at most 64 bytes behind the four of its size.
 fn parts(alloc: Global) -> Result<LinkParts<Target>, AllocError> {
@@ -50,7 +51,7 @@ fn receiver_attach(receiver: &mut Inbox<Target>) -> Result<Attach, Refused> {
 }
 
 /// The deliveries to send again after an attach, each with its tag.
-pub type ToResume = Vec<(DeliveryTag, ResumingDelivery)>;
+pub type ToResume = VecDeque<(DeliveryTag, ResumingDelivery)>;
 
 fn take_receiver_attach(
     alloc: Global,
@@ -60,9 +61,9 @@ fn take_receiver_attach(
     let (exchange, outcomes) = done(sender.on_incoming_attach(attach))?;
     drop(outcomes);
     Ok(match exchange {
-        SenderAttachExchange::Complete => Vec::new(alloc),
+        SenderAttachExchange::Complete => VecDeque::new(alloc),
         SenderAttachExchange::IncompleteUnsettled(list) | SenderAttachExchange::Resume(list) => {
-            list.into_vec()
+            VecDeque::from_vec(list.into_vec())
         }
     })
 }
@@ -105,20 +106,16 @@ pub fn send(
     }
 }
 
-/// The frames with the rest of a delivery.
+/// The frames of the first delivery of the list, which is sent again; none if the list is empty.
 pub fn resume(
     sender: &mut OutcomeLedger<Target>,
-    tag: DeliveryTag,
-    delivery: ResumingDelivery,
-) -> Result<Vec<LinkFrame>, Refused> {
-    let ResumingDelivery::Resume { entry, rest } = delivery else {
-        return Err(Refused);
-    };
-    let own = tag.clone()?;
-    let format = entry.message_format;
-    let link = sender.link();
-    let transfer = done(link.generate_resuming_transfer_performative(own, format, None, false))?;
-    done(sender.send_unsettled_transfer(transfer, &rest, tag, entry))
+    list: &mut ToResume,
+) -> Result<Option<Vec<LinkFrame>>, Refused> {
+    match done(resume_next(sender, list))? {
+        Step::Sent(frames) => Ok(Some(frames)),
+        Step::Nothing => Ok(None),
+        _ => Err(Refused),
+    }
 }
 
 /// A frame of the sender's arrives at the receiver.
@@ -126,10 +123,9 @@ pub fn arrive(
     session: &mut Session,
     receiver: &mut Inbox<Target>,
     frame: LinkFrame,
-) -> Result<Arrival, Refused> {
+) -> Result<Arrived, Refused> {
     let (transfer, payload) = session.carry(frame)?;
-    let arrived = done(receiver.on_incoming_transfer(transfer, payload))?;
-    Ok(arrived.arrival)
+    done(receiver.on_incoming_transfer(transfer, payload))
 }
 
 /// The receiver's user takes a complete delivery.

@@ -24,23 +24,25 @@ use std::process::ExitCode;
 const MESSAGE: &[u8] =
     b"\x00\x53\x75\xa0\x55Dear Sir, this letter takes three frames. The connection may be lost after each. Ann.";
 
-// Frames arrive, up to so many; those after them are lost.
+// Frames arrive, up to so many; those after them are lost. The tag of the delivery that they complete.
 fn arrive_some<O: Write>(
     output: &mut O,
     session: &mut Session,
     receiver: &mut Inbox<Target>,
     frames: Vec<LinkFrame>,
     count: usize,
-) -> Result<(), Refused> {
-    let mut arrived = 0;
+) -> Result<Option<DeliveryTag>, Refused> {
+    let (mut arrived, mut complete) = (0, None);
     for frame in frames {
         if arrived < count {
-            let word = arrival_word(arrive(session, receiver, frame)?);
+            let came = arrive(session, receiver, frame)?;
+            let word = arrival_word(came.arrival);
             writeln!(output, "  a frame arrives: {word}")?;
+            complete = came.tag;
             arrived += 1;
         }
     }
-    Ok(())
+    Ok(complete)
 }
 
 // The message is sent, and its connection is lost after the first frame.
@@ -56,7 +58,7 @@ fn send_and_lose<O: Write>(
     let payload = Payload::copy_from_slice(alloc, MESSAGE)?;
     let frames = send(sender, &payload)?;
     writeln!(output, "sent in {} frames", frames.len())?;
-    arrive_some(output, &mut session, receiver, frames, 1)?;
+    drop(arrive_some(output, &mut session, receiver, frames, 1)?);
     lose_session(sender, receiver);
     writeln!(output, "the connection is lost")?;
     Ok(())
@@ -93,7 +95,26 @@ fn take_and_accept<O: Write>(
     Ok(())
 }
 
-// After a new attach the rest of each delivery is sent.
+// The first delivery of the list is sent again, and taken if it is complete then.
+fn resume_first<O: Write>(
+    output: &mut O,
+    session: &mut Session,
+    sender: &mut OutcomeLedger<Target>,
+    receiver: &mut Inbox<Target>,
+    list: &mut ToResume,
+) -> Result<(), Refused> {
+    let Some(frames) = resume(sender, list)? else {
+        return Ok(());
+    };
+    writeln!(output, "resumed in {} frames", frames.len())?;
+    let count = frames.len();
+    if let Some(tag) = arrive_some(output, session, receiver, frames, count)? {
+        take_and_accept(output, session, sender, receiver, &tag)?;
+    }
+    Ok(())
+}
+
+// After a new attach each delivery of the list is sent again.
 fn resume_all<O: Write>(
     alloc: Global,
     output: &mut O,
@@ -101,14 +122,9 @@ fn resume_all<O: Write>(
     receiver: &mut Inbox<Target>,
 ) -> Result<(), Refused> {
     let mut session = Session::new(alloc);
-    let resuming: ToResume = attach(alloc, sender, receiver)?;
-    for (tag, delivery) in resuming {
-        let own = tag.clone()?;
-        let frames = resume(sender, own, delivery)?;
-        writeln!(output, "resumed in {} frames", frames.len())?;
-        let count = frames.len();
-        arrive_some(output, &mut session, receiver, frames, count)?;
-        take_and_accept(output, &session, sender, receiver, &tag)?;
+    let mut list: ToResume = attach(alloc, sender, receiver)?;
+    for _ in 0..list.len() {
+        resume_first(output, &mut session, sender, receiver, &mut list)?;
     }
     Ok(())
 }

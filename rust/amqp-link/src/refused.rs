@@ -103,65 +103,107 @@ pub enum Refused {
     NotTaken,
     /// The sender has not resumed the delivery since the link was attached again.
     NotResumed,
-    /// A registration below that number is still pending.
-    StillPending,
+    /// A registration below that number is still pending: the one with this number is the first.
+    StillPending(usize),
     /// A status that this version does not know.
     Other(u32),
 }
 
+// The number of each status, but of the two that carry one.
+const STATUSES: [(u32, Refused); 48] = [
+    (sys::EMPTY, Refused::Empty),
+    (sys::WRONG_KIND, Refused::WrongKind),
+    (sys::OUT_OF_MEMORY, Refused::OutOfMemory),
+    (sys::NO_TEXT, Refused::NoText),
+    (sys::NO_SUCH_NUMBER, Refused::NoSuchNumber),
+    (sys::BUFFER_TOO_SMALL, Refused::BufferTooSmall),
+    (sys::NO_SUCH_ENTRY, Refused::NoSuchEntry),
+    (sys::ILLEGAL_STATE, Refused::IllegalState),
+    (sys::CREDIT_MISSING, Refused::CreditMissing),
+    (sys::TAG_PENDING, Refused::TagPending),
+    (sys::NO_ROOM, Refused::NoRoom),
+    (sys::REMOTE_DETACHED, Refused::RemoteDetached),
+    (sys::REMOTE_DETACHED_WITH_ERROR, Refused::RemoteDetachedWithError),
+    (sys::REMOTE_CLOSED, Refused::RemoteClosed),
+    (sys::REMOTE_CLOSED_WITH_ERROR, Refused::RemoteClosedWithError),
+    (sys::EXPECT_IMMEDIATE_DETACH, Refused::ExpectImmediateDetach),
+    (sys::SESSION_STOPPED, Refused::SessionStopped),
+    (sys::SESSION_NOT_MAPPED, Refused::SessionNotMapped),
+    (sys::NON_ATTACH_FRAME_RECEIVED, Refused::NonAttachFrameReceived),
+    (sys::DUPLICATED_LINK_NAME, Refused::DuplicatedLinkName),
+    (
+        sys::COORDINATOR_IS_NOT_IMPLEMENTED,
+        Refused::CoordinatorIsNotImplemented,
+    ),
+    (sys::INCOMING_TARGET_IS_NONE, Refused::IncomingTargetIsNone),
+    (sys::SND_SETTLE_MODE_NOT_SUPPORTED, Refused::SndSettleModeNotSupported),
+    (
+        sys::SOURCE_ADDRESS_IS_SOME_WHEN_DYNAMIC_IS_TRUE,
+        Refused::SourceAddressIsSomeWhenDynamicIsTrue,
+    ),
+    (
+        sys::TARGET_ADDRESS_IS_NONE_WHEN_DYNAMIC_IS_TRUE,
+        Refused::TargetAddressIsNoneWhenDynamicIsTrue,
+    ),
+    (
+        sys::DYNAMIC_NODE_PROPERTIES_IS_SOME_WHEN_DYNAMIC_IS_FALSE,
+        Refused::DynamicNodePropertiesIsSomeWhenDynamicIsFalse,
+    ),
+    (sys::ATTACH_TOO_LARGE, Refused::AttachTooLarge),
+    (sys::INCOMING_SOURCE_IS_NONE, Refused::IncomingSourceIsNone),
+    (sys::INITIAL_DELIVERY_COUNT_IS_NONE, Refused::InitialDeliveryCountIsNone),
+    (sys::DESIRED_FILTER_NOT_SUPPORTED, Refused::DesiredFilterNotSupported),
+    (
+        sys::SOURCE_ADDRESS_IS_NONE_WHEN_DYNAMIC_IS_TRUE,
+        Refused::SourceAddressIsNoneWhenDynamicIsTrue,
+    ),
+    (
+        sys::TARGET_ADDRESS_IS_SOME_WHEN_DYNAMIC_IS_TRUE,
+        Refused::TargetAddressIsSomeWhenDynamicIsTrue,
+    ),
+    (sys::UNATTACHED_HANDLE, Refused::UnattachedHandle),
+    (sys::TRANSFER_FRAME_TO_SENDER, Refused::TransferFrameToSender),
+    (sys::TRANSFER_LIMIT_EXCEEDED, Refused::TransferLimitExceeded),
+    (sys::DELIVERY_ID_IS_NONE, Refused::DeliveryIdIsNone),
+    (sys::DELIVERY_TAG_IS_NONE, Refused::DeliveryTagIsNone),
+    (
+        sys::ILLEGAL_RCV_SETTLE_MODE_IN_TRANSFER,
+        Refused::IllegalRcvSettleModeInTransfer,
+    ),
+    (
+        sys::INCONSISTENT_FIELD_IN_MULTI_FRAME_DELIVERY,
+        Refused::InconsistentFieldInMultiFrameDelivery,
+    ),
+    (sys::PAYLOAD_TOO_LONG, Refused::PayloadTooLong),
+    (sys::MESSAGE_DECODE, Refused::MessageDecode),
+    (sys::UNKNOWN_TAG, Refused::UnknownTag),
+    (sys::NOT_COMPLETE, Refused::NotComplete),
+    (sys::ALREADY_TAKEN, Refused::AlreadyTaken),
+    (sys::NOT_ATTACHED, Refused::NotAttached),
+    (sys::UNDECODED, Refused::Undecoded),
+    (sys::NOT_TAKEN, Refused::NotTaken),
+    (sys::NOT_RESUMED, Refused::NotResumed),
+];
+
 impl Refused {
+    /// The refusal with this status.
     pub(crate) fn of(status: u32) -> Refused {
-        match status {
-            sys::EMPTY => Refused::Empty,
-            sys::WRONG_KIND => Refused::WrongKind,
-            sys::OUT_OF_MEMORY => Refused::OutOfMemory,
-            sys::NO_TEXT => Refused::NoText,
-            sys::NO_SUCH_NUMBER => Refused::NoSuchNumber,
-            sys::BUFFER_TOO_SMALL => Refused::BufferTooSmall,
-            sys::NO_SUCH_ENTRY => Refused::NoSuchEntry,
-            sys::ILLEGAL_STATE => Refused::IllegalState,
-            sys::CREDIT_MISSING => Refused::CreditMissing,
-            sys::TAG_PENDING => Refused::TagPending,
-            sys::NO_ROOM => Refused::NoRoom,
-            sys::REMOTE_DETACHED => Refused::RemoteDetached,
-            sys::REMOTE_DETACHED_WITH_ERROR => Refused::RemoteDetachedWithError,
-            sys::REMOTE_CLOSED => Refused::RemoteClosed,
-            sys::REMOTE_CLOSED_WITH_ERROR => Refused::RemoteClosedWithError,
-            sys::EXPECT_IMMEDIATE_DETACH => Refused::ExpectImmediateDetach,
-            sys::SESSION_STOPPED => Refused::SessionStopped,
-            sys::SESSION_NOT_MAPPED => Refused::SessionNotMapped,
-            sys::NON_ATTACH_FRAME_RECEIVED => Refused::NonAttachFrameReceived,
-            sys::DUPLICATED_LINK_NAME => Refused::DuplicatedLinkName,
-            sys::COORDINATOR_IS_NOT_IMPLEMENTED => Refused::CoordinatorIsNotImplemented,
-            sys::INCOMING_TARGET_IS_NONE => Refused::IncomingTargetIsNone,
-            sys::SND_SETTLE_MODE_NOT_SUPPORTED => Refused::SndSettleModeNotSupported,
-            sys::SOURCE_ADDRESS_IS_SOME_WHEN_DYNAMIC_IS_TRUE => Refused::SourceAddressIsSomeWhenDynamicIsTrue,
-            sys::TARGET_ADDRESS_IS_NONE_WHEN_DYNAMIC_IS_TRUE => Refused::TargetAddressIsNoneWhenDynamicIsTrue,
-            sys::DYNAMIC_NODE_PROPERTIES_IS_SOME_WHEN_DYNAMIC_IS_FALSE => Refused::DynamicNodePropertiesIsSomeWhenDynamicIsFalse,
-            sys::ATTACH_TOO_LARGE => Refused::AttachTooLarge,
-            sys::INCOMING_SOURCE_IS_NONE => Refused::IncomingSourceIsNone,
-            sys::INITIAL_DELIVERY_COUNT_IS_NONE => Refused::InitialDeliveryCountIsNone,
-            sys::DESIRED_FILTER_NOT_SUPPORTED => Refused::DesiredFilterNotSupported,
-            sys::SOURCE_ADDRESS_IS_NONE_WHEN_DYNAMIC_IS_TRUE => Refused::SourceAddressIsNoneWhenDynamicIsTrue,
-            sys::TARGET_ADDRESS_IS_SOME_WHEN_DYNAMIC_IS_TRUE => Refused::TargetAddressIsSomeWhenDynamicIsTrue,
-            sys::UNATTACHED_HANDLE => Refused::UnattachedHandle,
-            sys::TRANSFER_FRAME_TO_SENDER => Refused::TransferFrameToSender,
-            sys::TRANSFER_LIMIT_EXCEEDED => Refused::TransferLimitExceeded,
-            sys::DELIVERY_ID_IS_NONE => Refused::DeliveryIdIsNone,
-            sys::DELIVERY_TAG_IS_NONE => Refused::DeliveryTagIsNone,
-            sys::ILLEGAL_RCV_SETTLE_MODE_IN_TRANSFER => Refused::IllegalRcvSettleModeInTransfer,
-            sys::INCONSISTENT_FIELD_IN_MULTI_FRAME_DELIVERY => Refused::InconsistentFieldInMultiFrameDelivery,
-            sys::PAYLOAD_TOO_LONG => Refused::PayloadTooLong,
-            sys::MESSAGE_DECODE => Refused::MessageDecode,
-            sys::UNKNOWN_TAG => Refused::UnknownTag,
-            sys::NOT_COMPLETE => Refused::NotComplete,
-            sys::ALREADY_TAKEN => Refused::AlreadyTaken,
-            sys::NOT_ATTACHED => Refused::NotAttached,
-            sys::UNDECODED => Refused::Undecoded,
-            sys::NOT_TAKEN => Refused::NotTaken,
-            sys::NOT_RESUMED => Refused::NotResumed,
-            sys::STILL_PENDING => Refused::StillPending,
-            status => Refused::Other(status),
+        if status == sys::STILL_PENDING {
+            return Refused::StillPending(0);
+        }
+        let known = STATUSES.iter().find(|(number, _)| *number == status);
+        known.map_or(Refused::Other(status), |(_, refused)| *refused)
+    }
+
+    /// The number of the status, as the C header has it.
+    pub fn status(self) -> u32 {
+        match self {
+            Refused::StillPending(_) => sys::STILL_PENDING,
+            Refused::Other(status) => status,
+            refused => {
+                let known = STATUSES.iter().find(|(_, one)| *one == refused);
+                known.map_or(sys::OK, |(number, _)| *number)
+            }
         }
     }
 }
@@ -173,3 +215,19 @@ impl fmt::Display for Refused {
 }
 
 impl Error for Refused {}
+
+#[cfg(test)]
+mod tests {
+    use super::Refused;
+
+    #[test]
+    fn each_status_has_one_refusal() {
+        for status in 0..1000 {
+            assert_eq!(Refused::of(status).status(), status);
+            let is_known = (1..=7).contains(&status) || (10..=51).contains(&status);
+            assert_eq!(matches!(Refused::of(status), Refused::Other(_)), !is_known);
+        }
+        assert_eq!(Refused::of(u32::MAX), Refused::Other(u32::MAX));
+        assert_eq!(Refused::StillPending(9).status(), 51);
+    }
+}

@@ -1,5 +1,5 @@
 //! Transfers that arrive at a receiver (2.7.5).
-ghost use Rattle.std.specs.Prelude.{◌≡◌, ◌≤◌, ◌<◌, None, IfSome, IsSome, IsSomeAnd, MatchOption, length};
+ghost use Rattle.std.specs.Prelude.{◌≡◌, ◌⊎◌, ◌≤◌, ◌<◌, None, IfSome, IsSome, IsSomeAnd, MatchOption, length};
 ghost use Rattle.amqp_link_c.specs.Calls.{OfReceiver, Tested, wrong_status};
 ghost use Rattle.amqp_link_c.specs.ReceiverCalls.{NamesOver, TakesTransfer, aborted_number, arrival_number, plain_arriving};
 ghost use Rattle.amqp_link_flat.specs.Statuses.{transfer_status};
@@ -152,13 +152,15 @@ fn take_passed(
 ) -> u32
     ensures taken { result ≡ 0 → IsSomeAnd (stated_transfer transfer.now tag.now) (λ part.
         TakesTransfer part payload.now arriving.new ended_tag.old ended_tag.new ended_tag_size.new inbox.old inbox.new) }
-    ensures small { length ended_tag.old < length tag.now → (result ≡ 6) }
+    ensures small { length ended_tag.old < length tag.now → (result ≡ 6) × (ended_tag_size.new ≡ length tag.now) }
     ensures refused { length tag.now ≤ length ended_tag.old → MatchOption (stated_transfer transfer.now tag.now) (result ≡ 5)
         (λ part. Tested transfer_status (arrival_tests inbox.old part payload.now) result) }
     ensures left { (result ≡ 0 → ⊥) → (inbox.new ≡ inbox.old) × (arriving.new ≡ arriving.old)
-        × (ended_tag.new ≡ ended_tag.old) × (ended_tag_size.new ≡ ended_tag_size.old) }
+        × (ended_tag.new ≡ ended_tag.old) }
+    ensures size { (result ≡ 0) ⊎ ((result ≡ 6) ⊎ (ended_tag_size.new ≡ ended_tag_size.old)) }
 {
     if ended_tag.len() < tag.len() {
+        *ended_tag_size = tag.len();
         return BUFFER_TOO_SMALL;
     }
     let transfer = match transfer.to_transfer(alloc, tag) {
@@ -184,11 +186,19 @@ fn take_passed(
 /// that is 0. After `AMQP_ARRIVAL_COMPLETE` call `amqp_receiver_take` with it, after `AMQP_ARRIVAL_COMPLETE_SETTLED`
 /// `amqp_receiver_take_settled`. If the sender may dispose of deliveries, note the id and the tag of each first transfer.
 ///
-/// With nothing changed: `AMQP_BUFFER_TOO_SMALL` if the tag is longer than `ended_tag` has room: 32 bytes are room for each
-/// that the standard allows (2.8.7). `AMQP_NO_SUCH_NUMBER`; `AMQP_ILLEGAL_STATE` unless both attaches were exchanged: ignore
-/// what comes after your own detach. `AMQP_DELIVERY_ID_IS_NONE`, `AMQP_DELIVERY_TAG_IS_NONE`,
-/// `AMQP_ILLEGAL_RCV_SETTLE_MODE_IN_TRANSFER`, `AMQP_INCONSISTENT_FIELD_IN_MULTI_FRAME_DELIVERY`, `AMQP_PAYLOAD_TOO_LONG`: the
-/// sender's fault, end the link.
+/// The first transfer that resumes a delivery starts at the position in its state, if that is `AMQP_RECEIVED`: what is held
+/// beyond that is dropped. Without such a state, or if nothing is held there, its payload follows what is held.
+///
+/// Give `ended_tag` room for the longest tag that you accept, the same at each transfer: only the tag that comes with a transfer
+/// is measured, and not that of the delivery under way, which is given back. If that is longer than the room, since its first
+/// transfer came with a larger buffer, the transfer is taken, `AMQP_OK`, but no tag is copied, and `ended_tag_size` is 0.
+///
+/// Refused in this order, with nothing changed: `AMQP_BUFFER_TOO_SMALL` if the tag that comes with the transfer is longer than
+/// `ended_tag` has room, with its size in `ended_tag_size`: 32 bytes are room for each that the standard allows (2.8.7).
+/// `AMQP_NO_SUCH_NUMBER` if the mode or the kind of the state is none. `AMQP_ILLEGAL_STATE` unless both attaches were exchanged:
+/// ignore what comes after your own detach. `AMQP_DELIVERY_ID_IS_NONE`, `AMQP_DELIVERY_TAG_IS_NONE` and
+/// `AMQP_ILLEGAL_RCV_SETTLE_MODE_IN_TRANSFER` of a first transfer; `AMQP_INCONSISTENT_FIELD_IN_MULTI_FRAME_DELIVERY`,
+/// `AMQP_PAYLOAD_TOO_LONG`: the sender's fault, end the link.
 #[unsafe(no_mangle)]
 pub extern "C" fn amqp_receiver_on_transfer(
     alloc: Global,
@@ -204,12 +214,14 @@ pub extern "C" fn amqp_receiver_on_transfer(
     ensures taken { result ≡ 0 → OfReceiver receiver.old receiver.new (λ before after.
         IsSomeAnd (stated_transfer transfer.now tag.now) (λ part.
         TakesTransfer part payload.now arriving.new ended_tag.old ended_tag.new ended_tag_size.new before after)) }
-    ensures small { IsSome (receiver_in (value_in receiver.old)) → length ended_tag.old < length tag.now → (result ≡ 6) }
+    ensures small { IsSome (receiver_in (value_in receiver.old)) → length ended_tag.old < length tag.now
+        → (result ≡ 6) × (ended_tag_size.new ≡ length tag.now) }
     ensures refused { length tag.now ≤ length ended_tag.old → IfSome (receiver_in (value_in receiver.old)) (λ before.
         MatchOption (stated_transfer transfer.now tag.now) (result ≡ 5) (λ part.
         Tested transfer_status (arrival_tests before part payload.now) result)) }
     ensures left { (result ≡ 0 → ⊥) → (value_in receiver.new ≡ value_in receiver.old) × (arriving.new ≡ arriving.old)
-        × (ended_tag.new ≡ ended_tag.old) × (ended_tag_size.new ≡ ended_tag_size.old) }
+        × (ended_tag.new ≡ ended_tag.old) }
+    ensures size { (result ≡ 0) ⊎ ((result ≡ 6) ⊎ (ended_tag_size.new ≡ ended_tag_size.old)) }
 {
     with_value!(alloc, receiver, Receiver, inbox => {
         take_passed(alloc, inbox, transfer, tag, payload, arriving, ended_tag, ended_tag_size)

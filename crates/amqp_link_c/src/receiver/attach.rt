@@ -25,11 +25,12 @@ pub const EXCHANGE_COMPLETE: u32 = 0;
 pub const EXCHANGE_INCOMPLETE: u32 = 1;
 /// The sender resumes deliveries.
 pub const EXCHANGE_RESUME: u32 = 2;
-/// Its last transfer had not arrived.
+
+/// The last transfer of the delivery had not arrived.
 pub const STAGE_BEGUN: u32 = 1;
-/// It was complete, and was not taken.
+/// The delivery was complete, and was not taken.
 pub const STAGE_COMPLETE: u32 = 2;
-/// It was taken.
+/// The delivery was taken.
 pub const STAGE_TAKEN: u32 = 3;
 
 // The number of a stage.
@@ -72,8 +73,9 @@ fn send_attach(
 /// Puts the attach to send into `attach`. Pass false for `is_reattaching` to resume what is unsettled; true is for a link that
 /// begins anew: its attach states no delivery, and nothing is kept by a tag.
 ///
-/// Refused with nothing changed: `AMQP_ILLEGAL_STATE` without output handle, or if there is no transition from the link's state;
-/// `AMQP_ATTACH_TOO_LARGE`.
+/// Refused with nothing changed: `AMQP_ILLEGAL_STATE` without output handle, or in a state from which no attach is sent, which
+/// are all but `AMQP_STATE_UNATTACHED`, `AMQP_STATE_DETACHED`, `AMQP_STATE_DETACH_SENT` and those in which an attach has
+/// arrived; `AMQP_ATTACH_TOO_LARGE`.
 #[unsafe(no_mangle)]
 pub extern "C" fn amqp_receiver_send_attach(
     alloc: Global,
@@ -171,8 +173,14 @@ fn take_into(
 /// Takes the sender's attach; `attach` keeps what it has. `exchange` says what follows: `AMQP_EXCHANGE_COMPLETE` and so
 /// on. `forgotten` gets the deliveries that the sender does not know any more: of those nothing is kept.
 ///
-/// `AMQP_ILLEGAL_STATE`, with nothing changed, if there is no transition from the link's state. The other refusals of an
-/// attach move the state: `amqp_receiver_attach_failed` makes the detach to send.
+/// The name and the role in `attach` are not compared with the link's: the session finds the link by them.
+///
+/// Refused in this order: `AMQP_EMPTY` and `AMQP_WRONG_KIND` of `attach`, and then of `receiver`; `AMQP_ILLEGAL_STATE`, with
+/// nothing changed, in all states but `AMQP_STATE_UNATTACHED`, `AMQP_STATE_DETACHED` and those in which an attach was sent;
+/// and with the state moved and the input handle set, `AMQP_INCOMING_SOURCE_IS_NONE`,
+/// `AMQP_SOURCE_ADDRESS_IS_NONE_WHEN_DYNAMIC_IS_TRUE`, and with the peer's source and `snd_settle_mode` taken too,
+/// `AMQP_INITIAL_DELIVERY_COUNT_IS_NONE`, `AMQP_TARGET_ADDRESS_IS_SOME_WHEN_DYNAMIC_IS_TRUE`. After these four
+/// `amqp_receiver_attach_failed` makes the detach to send.
 #[unsafe(no_mangle)]
 pub extern "C" fn amqp_receiver_on_attach(
     alloc: Global,
@@ -230,7 +238,8 @@ fn copy_forgotten(
     tag: &mut [u8],
     tag_size: &mut usize,
 ) -> u32
-    ensures absent { slice_get list.now.items number ≡ None → (result ≡ 7) × (tag.new ≡ tag.old) }
+    ensures absent { slice_get list.now.items number ≡ None
+        → (result ≡ 7) × (tag.new ≡ tag.old) × (tag_size.new ≡ tag_size.old) }
     ensures copied { IfSome (slice_get list.now.items number) (λ gone. IsCopied gone.tag tag.old tag.new tag_size.new result) }
     ensures stage { result ≡ 0 → IsSomeAnd (slice_get list.now.items number) (λ gone. stage.new ≡ stage_number gone.stage) }
     ensures unwritten { (result ≡ 0 → ⊥) → stage.new ≡ stage.old }
@@ -256,9 +265,9 @@ pub extern "C" fn amqp_forgotten_at(
     tag_size: &mut usize,
 ) -> Status
     ensures kind { forgotten_in (value_in forgotten.old) ≡ None
-        → (result ≡ wrong_status (value_in forgotten.old)) × (tag.new ≡ tag.old) }
+        → (result ≡ wrong_status (value_in forgotten.old)) × (tag.new ≡ tag.old) × (tag_size.new ≡ tag_size.old) }
     ensures absent { IfSome (forgotten_in (value_in forgotten.old)) (λ list. slice_get list number ≡ None
-        → (result ≡ 7) × (tag.new ≡ tag.old)) }
+        → (result ≡ 7) × (tag.new ≡ tag.old) × (tag_size.new ≡ tag_size.old)) }
     ensures copied { IfSome (forgotten_in (value_in forgotten.old)) (λ list. IfSome (slice_get list number) (λ gone.
         IsCopied gone.tag tag.old tag.new tag_size.new result)) }
     ensures stage { result ≡ 0 → IsSomeAnd (forgotten_in (value_in forgotten.old)) (λ list.

@@ -1,5 +1,5 @@
 //! Dispositions that a receiver sends, keeps for later or takes (2.6.12, 2.7.6).
-ghost use Rattle.std.specs.Prelude.{◌≡◌, ◌⊎◌, ◌↔◌, ◌∷◌, [], None, IfErr, IfOk, IfSome, IsSome, IsSomeAnd, OnErr};
+ghost use Rattle.std.specs.Prelude.{◌≡◌, ◌⊎◌, ◌↔◌, ◌∷◌, [], None, IfErr, IfOk, IfSome, IsSome, IsSomeAnd, IsUtf8, OnErr};
 ghost use Rattle.amqp_link_c.specs.Calls.{OfReceiver, outcome_stated, status_in, wrong_status};
 ghost use Rattle.amqp_link_c.specs.ReceiverCalls.{DisposeStatus, Disposes, KeepStatus, KeepsOutcome, dispose_status};
 ghost use Rattle.amqp_link_flat.specs.Flat.{CarriesError, stated_state};
@@ -104,9 +104,9 @@ fn dispose_into(
 /// Makes the disposition of a delivery that was taken, with this state, and puts it into `frames`. `settled` is
 /// `AMQP_NOT_SETTLED`, `AMQP_SETTLED` or `AMQP_SETTLED_BY_MODE`.
 ///
-/// With nothing changed: `AMQP_NO_SUCH_NUMBER` if there is no state of that kind, none at all, or `settled` is none of
-/// the three; `AMQP_NO_TEXT`; `AMQP_NOT_ATTACHED`, `AMQP_UNKNOWN_TAG`, `AMQP_NOT_TAKEN`, `AMQP_NOT_RESUMED`: keep the
-/// outcome then by `amqp_receiver_keep_outcome`.
+/// Refused in this order, with nothing changed: `AMQP_NO_SUCH_NUMBER` if there is no state of that kind, none at all, or
+/// `settled` is none of the three; `AMQP_NO_TEXT` if a text is no UTF-8; `AMQP_NOT_ATTACHED`, `AMQP_UNKNOWN_TAG`,
+/// `AMQP_NOT_TAKEN`, `AMQP_NOT_RESUMED`: keep the outcome then by `amqp_receiver_keep_outcome`.
 #[unsafe(no_mangle)]
 pub extern "C" fn amqp_receiver_dispose(
     alloc: Global,
@@ -128,6 +128,9 @@ pub extern "C" fn amqp_receiver_dispose(
         ⊎ (outcome_stated state.now condition.now description.now ≡ None)) }
     ensures no_text { result ≡ 4 → ¬ (AreTexts (CarriesError state.now)
         state.now.has_description condition.now description.now) }
+    ensures utf8 { IsSome (receiver_in (value_in receiver.old)) → IsValueRefusal result ⊎ AreTexts (CarriesError state.now)
+        state.now.has_description condition.now description.now }
+    ensures condition { result ≡ 3 → CarriesError state.now → IsUtf8 condition.now }
     ensures refused { IfSome (receiver_in (value_in receiver.old)) (λ before.
         IsValueRefusal result ⊎ DisposeStatus tag.now before result) }
     ensures left { (result ≡ 0 → ⊥) →
@@ -165,7 +168,8 @@ fn keep_outcome(alloc: Global, inbox: &mut Inbox<Target>, tag: &[u8], state: Del
 
 /// Keeps the outcome of a delivery that was taken, in any state of the link: the next attach states it.
 ///
-/// With nothing changed: `AMQP_NO_SUCH_NUMBER`, `AMQP_NO_TEXT`; `AMQP_UNKNOWN_TAG`, `AMQP_NOT_TAKEN`.
+/// Refused in this order, with nothing changed: `AMQP_NO_SUCH_NUMBER` if there is no state of that kind, or none at all;
+/// `AMQP_NO_TEXT` if a text is no UTF-8; `AMQP_UNKNOWN_TAG`, `AMQP_NOT_TAKEN`.
 #[unsafe(no_mangle)]
 pub extern "C" fn amqp_receiver_keep_outcome(
     alloc: Global,
@@ -183,6 +187,9 @@ pub extern "C" fn amqp_receiver_keep_outcome(
         → (result ≡ 5) ↔ (outcome_stated state.now condition.now description.now ≡ None) }
     ensures no_text { result ≡ 4 → ¬ (AreTexts (CarriesError state.now)
         state.now.has_description condition.now description.now) }
+    ensures utf8 { IsSome (receiver_in (value_in receiver.old)) → IsValueRefusal result ⊎ AreTexts (CarriesError state.now)
+        state.now.has_description condition.now description.now }
+    ensures condition { result ≡ 3 → CarriesError state.now → IsUtf8 condition.now }
     ensures refused { IfSome (receiver_in (value_in receiver.old)) (λ before.
         IsValueRefusal result ⊎ KeepStatus tag.now before result) }
     ensures left { (result ≡ 0 → ⊥) → value_in receiver.new ≡ value_in receiver.old }
@@ -221,7 +228,8 @@ fn take_disposition(
 /// Takes the sender's disposition of the delivery with this tag, which the session finds by the id. If it settles the
 /// delivery, one that is complete waits to be taken as a settled one, and of one that was taken nothing is kept.
 ///
-/// `AMQP_NO_SUCH_NUMBER` if the kind of the state is none, `AMQP_NO_TEXT`.
+/// Refused in this order, with nothing changed: `AMQP_NO_SUCH_NUMBER` if the kind of the state is none; `AMQP_NO_TEXT` if a
+/// text is no UTF-8. A tag of which nothing is kept is no refusal.
 #[unsafe(no_mangle)]
 pub extern "C" fn amqp_receiver_on_disposition(
     alloc: Global,
@@ -240,6 +248,9 @@ pub extern "C" fn amqp_receiver_on_disposition(
         → (result ≡ 5) ↔ (stated_state state.now condition.now description.now ≡ None) }
     ensures no_text { result ≡ 4 → ¬ (AreTexts (CarriesError state.now)
         state.now.has_description condition.now description.now) }
+    ensures utf8 { IsSome (receiver_in (value_in receiver.old)) → IsValueRefusal result ⊎ AreTexts (CarriesError state.now)
+        state.now.has_description condition.now description.now }
+    ensures condition { result ≡ 3 → CarriesError state.now → IsUtf8 condition.now }
     ensures refused { IsSome (receiver_in (value_in receiver.old)) → (result ≡ 0) ⊎ IsValueRefusal result }
     ensures left { (result ≡ 0 → ⊥) → value_in receiver.new ≡ value_in receiver.old }
 {

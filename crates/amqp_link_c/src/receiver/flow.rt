@@ -82,7 +82,8 @@ pub extern "C" fn amqp_receiver_on_flow(
         flow_state = receiver_after (link_flow flow.now) (moved_by (link_flow flow.now) before.link.flow_state);
       };
     }) }
-    ensures left { (result ≡ 0 → ⊥) → value_in receiver.new ≡ value_in receiver.old }
+    ensures left { (result ≡ 0 → ⊥) → (value_in receiver.new ≡ value_in receiver.old)
+        × (reply.new ≡ reply.old) × (has_reply.new ≡ has_reply.old) }
 {
     with_value!(alloc, receiver, Receiver, inbox => {
         answer(inbox.on_incoming_flow(flow.to_flow()), reply, has_reply)

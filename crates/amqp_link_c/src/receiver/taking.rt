@@ -1,5 +1,5 @@
 //! Complete deliveries that are taken, and what is kept of the others.
-ghost use Rattle.std.specs.Prelude.{◌≡◌, ◌⊎◌, None, IfErr, IfOk, IfSome, IsSomeAnd, MatchOption, OnErr, length};
+ghost use Rattle.std.specs.Prelude.{◌≡◌, ◌<◌, ◌⊎◌, None, IfErr, IfOk, IfSome, IsSomeAnd, MatchOption, OnErr, length};
 ghost use Rattle.std.specs.Option.{option_map_or};
 ghost use Rattle.amqp_link_c.specs.Calls.{OfReceiver, status_in, wrong_status};
 ghost use Rattle.amqp_link_c.specs.ReceiverCalls.{TakeSettledStatus, TakeStatus, Takes, TakesSettled, plain_delivery, plain_kept, take_status};
@@ -170,7 +170,7 @@ fn take_settled_into(alloc: Global, inbox: &mut Inbox<Target>, delivery: &mut Ob
 
 /// Takes the first of the complete deliveries that their sender has settled.
 ///
-/// Refused with nothing changed: `AMQP_NO_SUCH_ENTRY` if there is none; `AMQP_NOT_ATTACHED`.
+/// Refused in this order, with nothing changed: `AMQP_NO_SUCH_ENTRY` if there is none; `AMQP_NOT_ATTACHED`.
 #[unsafe(no_mangle)]
 pub extern "C" fn amqp_receiver_take_settled(
     alloc: Global,
@@ -226,6 +226,7 @@ fn look(alloc: Global, inbox: &Inbox<Target>, tag: &[u8], view: &mut KeptView) -
     ensures view { result ≡ 0 → IsSomeAnd (entry_at inbox.now.deliveries tag.now) (λ kept. view.new ≡ plain_kept kept) }
     ensures unwritten { (result ≡ 0 → ⊥) → view.new ≡ view.old }
     ensures refused { (result ≡ 3) ⊎ (result ≡ option_map_or (λ kept. 0) (entry_at inbox.now.deliveries tag.now) 44) }
+    ensures memory { result ≡ 3 → 16 < length tag.now }
 {
     let Ok(tag) = DeliveryTag::copied(alloc, tag) else {
         return OUT_OF_MEMORY;
@@ -241,7 +242,7 @@ fn look(alloc: Global, inbox: &Inbox<Target>, tag: &[u8], view: &mut KeptView) -
     status
 }
 
-/// What is kept of the delivery with this tag.
+/// What is kept of the delivery with this tag. Allocates only for a tag of more than 16 bytes.
 ///
 /// `AMQP_UNKNOWN_TAG` if nothing is.
 #[unsafe(no_mangle)]
@@ -257,6 +258,7 @@ pub extern "C" fn amqp_receiver_kept(
     ensures unwritten { (result ≡ 0 → ⊥) → view.new ≡ view.old }
     ensures refused { IfSome (receiver_in (value_in receiver.old)) (λ inbox.
         (result ≡ 3) ⊎ (result ≡ option_map_or (λ kept. 0) (entry_at inbox.deliveries tag.now) 44)) }
+    ensures memory { result ≡ 3 → 16 < length tag.now }
     ensures left { value_in receiver.new ≡ value_in receiver.old }
 {
     with_value!(alloc, receiver, Receiver, inbox => look(alloc, inbox, tag, view))
@@ -284,7 +286,7 @@ pub extern "C" fn amqp_delivery_look(
     tag_size: &mut usize,
 ) -> Status
     ensures kind { delivery_in (value_in delivery.old) ≡ None
-        → (result ≡ wrong_status (value_in delivery.old)) × (tag.new ≡ tag.old) }
+        → (result ≡ wrong_status (value_in delivery.old)) × (tag.new ≡ tag.old) × (tag_size.new ≡ tag_size.old) }
     ensures copied { IfSome (delivery_in (value_in delivery.old)) (λ taken.
         IsCopied taken.info.delivery_tag tag.old tag.new tag_size.new result) }
     ensures view { result ≡ 0 → IsSomeAnd (delivery_in (value_in delivery.old)) (λ taken. view.new ≡ plain_delivery taken) }
@@ -309,7 +311,7 @@ pub extern "C" fn amqp_delivery_message(
     message_size: &mut usize,
 ) -> Status
     ensures kind { delivery_in (value_in delivery.old) ≡ None
-        → (result ≡ wrong_status (value_in delivery.old)) × (message.new ≡ message.old) }
+        → (result ≡ wrong_status (value_in delivery.old)) × (message.new ≡ message.old) × (message_size.new ≡ message_size.old) }
     ensures copied { IfSome (delivery_in (value_in delivery.old)) (λ taken.
         IsCopied taken.message.body.0 message.old message.new message_size.new result) }
     ensures left { value_in delivery.new ≡ value_in delivery.old }

@@ -1,6 +1,6 @@
 //! How a sender is attached (2.6.3, 2.6.13).
 ghost use Rattle.std.specs.Prelude.{◌≡◌, None, IfErr, IfOk, IfSome, IsSome, IsSomeAnd, OnErr};
-ghost use Rattle.amqp_link_c.specs.Calls.{OfSender, attach_state, wrong_status};
+ghost use Rattle.amqp_link_c.specs.Calls.{IsOutcomesObject, OfSender, attach_state, wrong_status};
 ghost use Rattle.amqp_link_c.specs.SenderAttach.{RefusesAttach, RefusesToAttach, SendsOwnAttach, TakesAttach, is_incomplete_after};
 ghost use Rattle.amqp_link_ledger.specs.Exchanging.{deliveries_in};
 ghost use Rattle.amqp_link_object.specs.Objects.{value_in};
@@ -61,6 +61,7 @@ fn send_attach(
 ) -> u32
     ensures sent { result ≡ 0 → SendsOwnAttach is_reattaching (attach_in (value_in attach.new))
         (outcomes_in (value_in outcomes.new)) ledger.old ledger.new }
+    ensures made { result ≡ 0 → IsOutcomesObject outcomes.new }
     ensures refused { (result ≡ 0 → ⊥) → RefusesToAttach is_reattaching result ledger.old }
     ensures left { (result ≡ 0 → ⊥) →
         (ledger.new ≡ ledger.old) × (value_in attach.new ≡ value_in attach.old)
@@ -87,8 +88,9 @@ fn send_attach(
 /// frame limit, it states only some of the unsettled deliveries, and says so. Call it before `amqp_sender_on_attach`, also where
 /// the peer's attach has arrived: made after that call it states no listed delivery, and the receiver forgets them.
 ///
-/// Refused with nothing changed: `AMQP_ILLEGAL_STATE` without output handle, or if there is no transition from the link's state;
-/// `AMQP_ATTACH_TOO_LARGE`.
+/// Refused with nothing changed: `AMQP_ILLEGAL_STATE` without output handle, or in a state from which no attach is sent, which
+/// are all but `AMQP_STATE_UNATTACHED`, `AMQP_STATE_DETACHED`, `AMQP_STATE_DETACH_SENT` and those in which an attach has
+/// arrived; `AMQP_ATTACH_TOO_LARGE`.
 #[unsafe(no_mangle)]
 pub extern "C" fn amqp_sender_send_attach(
     alloc: Global,
@@ -100,6 +102,7 @@ pub extern "C" fn amqp_sender_send_attach(
     ensures kind { sender_in (value_in sender.old) ≡ None → result ≡ wrong_status (value_in sender.old) }
     ensures sent { result ≡ 0 → OfSender sender.old sender.new (SendsOwnAttach is_reattaching
         (attach_in (value_in attach.new)) (outcomes_in (value_in outcomes.new))) }
+    ensures made { result ≡ 0 → IsOutcomesObject outcomes.new }
     ensures refused { (result ≡ 0 → ⊥) → IfSome (sender_in (value_in sender.old))
         (RefusesToAttach is_reattaching result) }
     ensures left { (result ≡ 0 → ⊥) →
@@ -156,6 +159,7 @@ fn take_attach(
 ) -> u32
     ensures taken { result ≡ 0 → IsSomeAnd (resuming_in (value_in resuming.new)) (λ list.
         TakesAttach attach.now list is_incomplete.new (outcomes_in (value_in outcomes.new)) ledger.old ledger.new) }
+    ensures made { result ≡ 0 → IsOutcomesObject outcomes.new }
     ensures refused { (result ≡ 0 → ⊥) → RefusesAttach attach.now result ledger.old ledger.new }
     ensures left { (result ≡ 0 → ⊥) →
         (value_in resuming.new ≡ value_in resuming.old) × (is_incomplete.new ≡ is_incomplete.old)
@@ -192,6 +196,7 @@ fn take_into(
     ensures taken { result ≡ 0 → OfSender sender.old sender.new (λ before after.
         IsSomeAnd (resuming_in (value_in resuming.new)) (λ list.
         TakesAttach attach.now list is_incomplete.new (outcomes_in (value_in outcomes.new)) before after)) }
+    ensures made { result ≡ 0 → IsOutcomesObject outcomes.new }
     ensures refused { (result ≡ 0 → ⊥) → OfSender sender.old sender.new (RefusesAttach attach.now result) }
     ensures left { (result ≡ 0 → ⊥) →
         (value_in resuming.new ≡ value_in resuming.old) × (is_incomplete.new ≡ is_incomplete.old)
@@ -209,8 +214,14 @@ fn take_into(
 /// After an incomplete exchange begin nothing new (2.7.3): put back what is listed as `AMQP_RESEND`, resume the others, have them
 /// settled, send the detach of `amqp_link_detach_frame`, and attach again.
 ///
-/// `AMQP_ILLEGAL_STATE`, with nothing changed, if there is no transition from the link's state. The other refusals of an
-/// attach move the state: `amqp_sender_attach_failed` makes the detach to send.
+/// The name and the role in `attach` are not compared with the link's: the session finds the link by them.
+///
+/// Refused in this order: `AMQP_EMPTY` and `AMQP_WRONG_KIND` of `attach`, and then of `sender`; `AMQP_ILLEGAL_STATE`, with
+/// nothing changed, in all states but `AMQP_STATE_UNATTACHED`, `AMQP_STATE_DETACHED` and those in which an attach was sent;
+/// and with the state moved and the input handle set, `AMQP_SOURCE_ADDRESS_IS_SOME_WHEN_DYNAMIC_IS_TRUE`,
+/// `AMQP_INCOMING_TARGET_IS_NONE`, `AMQP_TARGET_ADDRESS_IS_NONE_WHEN_DYNAMIC_IS_TRUE`, and
+/// `AMQP_SND_SETTLE_MODE_NOT_SUPPORTED`, with the peer's target and `rcv_settle_mode` taken too. After these four
+/// `amqp_sender_attach_failed` makes the detach to send.
 #[unsafe(no_mangle)]
 pub extern "C" fn amqp_sender_on_attach(
     alloc: Global,
@@ -227,6 +238,7 @@ pub extern "C" fn amqp_sender_on_attach(
     ensures taken { result ≡ 0 → OfSender sender.old sender.new (λ before after.
         IsSomeAnd (attach_in (value_in attach.old)) (λ theirs. IsSomeAnd (resuming_in (value_in resuming.new)) (λ list.
         TakesAttach theirs list is_incomplete.new (outcomes_in (value_in outcomes.new)) before after))) }
+    ensures made { result ≡ 0 → IsOutcomesObject outcomes.new }
     ensures refused { (result ≡ 0 → ⊥) → IfSome (attach_in (value_in attach.old)) (λ theirs.
         OfSender sender.old sender.new (RefusesAttach theirs result)) }
     ensures kept { value_in attach.new ≡ value_in attach.old }

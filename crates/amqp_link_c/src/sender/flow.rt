@@ -66,7 +66,8 @@ pub extern "C" fn amqp_sender_on_flow(
     ensures after { result ≡ 0 → OfSender sender.old sender.new (λ before after. after ≡ record before {
       link = record before.link { flow_state = sender_after (link_flow flow.now) before.link.flow_state };
     }) }
-    ensures left { (result ≡ 0 → ⊥) → value_in sender.new ≡ value_in sender.old }
+    ensures left { (result ≡ 0 → ⊥) → (value_in sender.new ≡ value_in sender.old)
+        × (reply.new ≡ reply.old) × (has_reply.new ≡ has_reply.old) }
 {
     with_value!(alloc, sender, Sender, ledger => {
         answer(ledger.on_incoming_flow(flow.to_flow()), reply, has_reply)
@@ -93,7 +94,8 @@ pub extern "C" fn amqp_sender_on_flow_keeping_credit(
     ensures after { result ≡ 0 → OfSender sender.old sender.new (λ before after. after ≡ record before {
       link = record before.link { flow_state = sender_keeping (link_flow flow.now) before.link.flow_state };
     }) }
-    ensures left { (result ≡ 0 → ⊥) → value_in sender.new ≡ value_in sender.old }
+    ensures left { (result ≡ 0 → ⊥) → (value_in sender.new ≡ value_in sender.old)
+        × (reply.new ≡ reply.old) × (has_reply.new ≡ has_reply.old) }
 {
     with_value!(alloc, sender, Sender, ledger => {
         answer(ledger.on_incoming_flow_keeping_credit(flow.to_flow()), reply, has_reply)
@@ -121,7 +123,8 @@ pub extern "C" fn amqp_sender_give_back_credit(
         flow_state = if before.link.flow_state.drain then given_back before.link.flow_state else before.link.flow_state;
       };
     }) }
-    ensures left { (result ≡ 0 → ⊥) → value_in sender.new ≡ value_in sender.old }
+    ensures left { (result ≡ 0 → ⊥) → (value_in sender.new ≡ value_in sender.old)
+        × (reply.new ≡ reply.old) × (has_reply.new ≡ has_reply.old) }
 {
     with_value!(alloc, sender, Sender, ledger => {
         answer(ledger.give_back_credit(), reply, has_reply)

@@ -1,11 +1,11 @@
 //! Deliveries that are sent again after an attach, kept for a later one, or given up (2.6.13).
-ghost use Rattle.std.specs.Prelude.{◌≡◌, ◌⊎◌, [], None, IfSome, IsSome, IsSomeAnd, false, length, true, slice_get};
+ghost use Rattle.std.specs.Prelude.{◌≡◌, ◌<◌, ◌⊎◌, [], None, IfSome, IsSome, IsSomeAnd, false, length, true, slice_get};
 ghost use Rattle.std.specs.Option.{option_map_or};
-ghost use Rattle.amqp_link_c.specs.Calls.{OfSender, wrong_status};
+ghost use Rattle.amqp_link_c.specs.Calls.{IsFramesObject, OfSender, wrong_status};
 ghost use Rattle.amqp_link_c.specs.Reading.{IsCopied};
 ghost use Rattle.amqp_link_c.specs.SenderResuming.{DoesListed, ListedStatus, Withdraws, resuming_number, step_frames};
 ghost use Rattle.amqp_link_object.specs.Objects.{value_in};
-ghost use Rattle.amqp_link_object.specs.States.{frames_in, frames_of, resuming_in, sender_in};
+ghost use Rattle.amqp_link_object.specs.States.{frames_in, frames_of, kind_number, resuming_in, sender_in};
 
 use amqp_link_core::resumption::ResumingDelivery;
 use amqp_link_flat::status::{
@@ -69,7 +69,8 @@ fn copy_entry(
     tag: &mut [u8],
     tag_size: &mut usize,
 ) -> u32
-    ensures absent { slice_get list.now.items number ≡ None → (result ≡ 7) × (tag.new ≡ tag.old) }
+    ensures absent { slice_get list.now.items number ≡ None
+        → (result ≡ 7) × (tag.new ≡ tag.old) × (tag_size.new ≡ tag_size.old) }
     ensures copied { IfSome (slice_get list.now.items number) (λ entry. IsCopied entry.0 tag.old tag.new tag_size.new result) }
     ensures kind { result ≡ 0 → IsSomeAnd (slice_get list.now.items number) (λ entry. kind.new ≡ resuming_number entry.1) }
     ensures unwritten { (result ≡ 0 → ⊥) → kind.new ≡ kind.old }
@@ -95,9 +96,9 @@ pub extern "C" fn amqp_resuming_at(
     tag_size: &mut usize,
 ) -> Status
     ensures kind { resuming_in (value_in resuming.old) ≡ None
-        → (result ≡ wrong_status (value_in resuming.old)) × (tag.new ≡ tag.old) }
+        → (result ≡ wrong_status (value_in resuming.old)) × (tag.new ≡ tag.old) × (tag_size.new ≡ tag_size.old) }
     ensures absent { IfSome (resuming_in (value_in resuming.old)) (λ list. slice_get list number ≡ None
-        → (result ≡ 7) × (tag.new ≡ tag.old)) }
+        → (result ≡ 7) × (tag.new ≡ tag.old) × (tag_size.new ≡ tag_size.old)) }
     ensures copied { IfSome (resuming_in (value_in resuming.old)) (λ list. IfSome (slice_get list number) (λ entry.
         IsCopied entry.0 tag.old tag.new tag_size.new result)) }
     ensures entry { result ≡ 0 → IsSomeAnd (resuming_in (value_in resuming.old)) (λ list.
@@ -110,7 +111,8 @@ pub extern "C" fn amqp_resuming_at(
 
 // The frames of what was done of a delivery: none, if nothing is to be sent.
 fn state_of_step(alloc: Global, step: Step) -> State
-    ensures { frames_of result ≡ step_frames step }
+    ensures frames { frames_of result ≡ step_frames step }
+    ensures kind { kind_number result ≡ 3 }
 {
     match step {
         Step::Sent(frames) => State::Frames(frames),
@@ -133,6 +135,7 @@ fn resume(
     frames: &mut Object,
 ) -> u32
     ensures done { result ≡ 0 → DoesListed true list.old.items list.new.items (frames_in (value_in frames.new)) ledger.old ledger.new }
+    ensures made { result ≡ 0 → IsFramesObject frames.new }
     ensures refused { ListedStatus true list.old.items result ledger.old }
     ensures left { (result ≡ 0 → ⊥) → (ledger.new ≡ ledger.old) × (list.new.items ≡ list.old.items)
         × (value_in frames.new ≡ value_in frames.old) }
@@ -161,6 +164,7 @@ fn resume_in(alloc: Global, sender: &mut Object, list: &mut List, frames: &mut O
     ensures kind { sender_in (value_in sender.old) ≡ None → result ≡ wrong_status (value_in sender.old) }
     ensures done { result ≡ 0 → OfSender sender.old sender.new
         (DoesListed true list.old.items list.new.items (frames_in (value_in frames.new))) }
+    ensures made { result ≡ 0 → IsFramesObject frames.new }
     ensures refused { IfSome (sender_in (value_in sender.old)) (ListedStatus true list.old.items result) }
     ensures left { (result ≡ 0 → ⊥) → (value_in sender.new ≡ value_in sender.old) × (list.new.items ≡ list.old.items)
         × (value_in frames.new ≡ value_in frames.old) }
@@ -169,11 +173,13 @@ fn resume_in(alloc: Global, sender: &mut Object, list: &mut List, frames: &mut O
 }
 
 /// Sends what the first delivery of the list asks for, and takes it out of the list. `frames` gets the frames to send: none of
-/// one whose outcome is decided. `AMQP_RESUME` and `AMQP_RESEND` register the delivery anew, and take no credit. Once the list is
-/// empty send the flow of `amqp_sender_send_flow`: a receiver that has counted what was resumed takes the count from it.
+/// one whose outcome is decided, `AMQP_RESTATE_OUTCOME`: that outcome is dropped, and the fate of its registration stays
+/// `AMQP_FATE_HANDED_OUT`. `AMQP_RESUME` sends what follows the position that the peer has stated; all, if that has no place in
+/// the payload. It and `AMQP_RESEND` register the delivery anew, and take no credit. Once the list is empty send the flow of
+/// `amqp_sender_send_flow`: a receiver that has counted what was resumed takes the count from it.
 ///
-/// Refused with nothing changed: `AMQP_NO_SUCH_ENTRY` of an empty list; `AMQP_ILLEGAL_STATE` without handles;
-/// `AMQP_TAG_PENDING`; `AMQP_NO_ROOM`.
+/// Refused in this order, with nothing changed: `AMQP_EMPTY` and `AMQP_WRONG_KIND` of `resuming`, and then of `sender`;
+/// `AMQP_NO_SUCH_ENTRY` of an empty list; `AMQP_ILLEGAL_STATE` without handles; `AMQP_TAG_PENDING`; `AMQP_NO_ROOM`.
 #[unsafe(no_mangle)]
 pub extern "C" fn amqp_sender_resume(
     alloc: Global,
@@ -181,12 +187,14 @@ pub extern "C" fn amqp_sender_resume(
     resuming: &mut Object,
     frames: &mut Object,
 ) -> Status
-    ensures list { resuming_in (value_in resuming.old) ≡ None → result ≡ wrong_status (value_in resuming.old) }
+    ensures list { resuming_in (value_in resuming.old) ≡ None
+        → (result ≡ wrong_status (value_in resuming.old)) × (value_in resuming.new ≡ value_in resuming.old) }
     ensures kind { IsSome (resuming_in (value_in resuming.old)) → sender_in (value_in sender.old) ≡ None
         → result ≡ wrong_status (value_in sender.old) }
     ensures done { result ≡ 0 → IsSomeAnd (resuming_in (value_in resuming.old)) (λ list.
         IsSomeAnd (resuming_in (value_in resuming.new)) (λ rest. OfSender sender.old sender.new
         (DoesListed true list rest (frames_in (value_in frames.new))))) }
+    ensures made { result ≡ 0 → IsFramesObject frames.new }
     ensures refused { IfSome (resuming_in (value_in resuming.old)) (λ list.
         IfSome (sender_in (value_in sender.old)) (ListedStatus true list result)) }
     ensures left { (result ≡ 0 → ⊥) →
@@ -223,16 +231,19 @@ fn put_back_in(alloc: Global, sender: &mut Object, list: &mut List) -> u32
 }
 
 /// Keeps the first delivery of the list for a later attach, and takes it out of the list: it is the next registration. Of
-/// `AMQP_ABORT` and `AMQP_RESTATE_OUTCOME` nothing is kept.
+/// `AMQP_ABORT` and `AMQP_RESTATE_OUTCOME` nothing is kept: the outcome of the latter is dropped, and the fates of their
+/// registrations stay as they are.
 ///
-/// Refused with nothing changed: `AMQP_NO_SUCH_ENTRY` of an empty list; `AMQP_TAG_PENDING`.
+/// Refused in this order, with nothing changed: `AMQP_EMPTY` and `AMQP_WRONG_KIND` of `resuming`, and then of `sender`;
+/// `AMQP_NO_SUCH_ENTRY` of an empty list; `AMQP_TAG_PENDING`.
 #[unsafe(no_mangle)]
 pub extern "C" fn amqp_sender_put_back(
     alloc: Global,
     sender: &mut Object,
     resuming: &mut Object,
 ) -> Status
-    ensures list { resuming_in (value_in resuming.old) ≡ None → result ≡ wrong_status (value_in resuming.old) }
+    ensures list { resuming_in (value_in resuming.old) ≡ None
+        → (result ≡ wrong_status (value_in resuming.old)) × (value_in resuming.new ≡ value_in resuming.old) }
     ensures kind { IsSome (resuming_in (value_in resuming.old)) → sender_in (value_in sender.old) ≡ None
         → result ≡ wrong_status (value_in sender.old) }
     ensures done { result ≡ 0 → IsSomeAnd (resuming_in (value_in resuming.old)) (λ list.
@@ -255,6 +266,7 @@ fn withdraw(
 ) -> u32
     ensures withdrawn { result ≡ 0 → Withdraws tag.now was_pending.new ledger.old ledger.new }
     ensures refused { (result ≡ 0) ⊎ (result ≡ 3) }
+    ensures memory { result ≡ 3 → 16 < length tag.now }
     ensures left { (result ≡ 0 → ⊥) → (ledger.new ≡ ledger.old) × (was_pending.new ≡ was_pending.old) }
 {
     let Ok(tag) = DeliveryTag::copied(alloc, tag) else {
@@ -267,7 +279,7 @@ fn withdraw(
 }
 
 /// Gives up the delivery with this tag, if it is pending: no outcome of it is returned any more. Its payload is dropped.
-/// If the peer still states it in a later attach, it is listed as `AMQP_ABORT`.
+/// If the peer still states it in a later attach, it is listed as `AMQP_ABORT`. Allocates only for a tag of more than 16 bytes.
 #[unsafe(no_mangle)]
 pub extern "C" fn amqp_sender_withdraw(
     alloc: Global,
@@ -278,6 +290,7 @@ pub extern "C" fn amqp_sender_withdraw(
     ensures kind { sender_in (value_in sender.old) ≡ None → result ≡ wrong_status (value_in sender.old) }
     ensures withdrawn { result ≡ 0 → OfSender sender.old sender.new (Withdraws tag.now was_pending.new) }
     ensures refused { IsSome (sender_in (value_in sender.old)) → (result ≡ 0) ⊎ (result ≡ 3) }
+    ensures memory { result ≡ 3 → 16 < length tag.now }
     ensures left { (result ≡ 0 → ⊥) → (value_in sender.new ≡ value_in sender.old) × (was_pending.new ≡ was_pending.old) }
 {
     with_value!(alloc, sender, Sender, ledger => withdraw(alloc, ledger, tag, was_pending))

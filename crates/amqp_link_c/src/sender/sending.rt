@@ -97,7 +97,8 @@ fn send_into(
 
 /// Sends a payload as a new delivery, for one credit, under the tag of the delivery-count, and puts its frames into `frames`:
 /// give the first transfer its delivery id, and keep the tag with it. `settled` is `AMQP_NOT_SETTLED`, `AMQP_SETTLED` or
-/// `AMQP_SETTLED_BY_MODE`. An unsettled delivery is the next registration, whose fate `amqp_sender_fate` says.
+/// `AMQP_SETTLED_BY_MODE`. An unsettled delivery is the next registration, whose fate `amqp_sender_fate` says: it takes memory
+/// until `amqp_sender_release` has released it.
 ///
 /// Refused in this order, with nothing changed: `AMQP_NO_SUCH_NUMBER` of `settled`; `AMQP_ILLEGAL_STATE` without handles;
 /// `AMQP_CREDIT_MISSING`; `AMQP_TAG_PENDING`; `AMQP_NO_ROOM`.
@@ -130,7 +131,8 @@ pub extern "C" fn amqp_sender_send(
     })
 }
 
-/// The same under this tag, which is to be of no pending delivery.
+/// The same under this tag. It is not measured: the standard allows 32 bytes (2.8.7). `AMQP_TAG_PENDING` comes only of an
+/// unsettled delivery: one that is sent settled may have the tag of a pending one.
 #[unsafe(no_mangle)]
 pub extern "C" fn amqp_sender_send_with_tag(
     alloc: Global,

@@ -1,13 +1,13 @@
 //! Dispositions that arrive at a sender or that it sends, and the fates of its deliveries (2.6.12).
-ghost use Rattle.std.specs.Prelude.{◌≡◌, ◌⊎◌, ◌↔◌, ◌<◌, None, slice_get, IfErr, IfOk, IfSome, IsSome, IsSomeAnd, MatchOption, OnErr, option_copied};
+ghost use Rattle.std.specs.Prelude.{◌≡◌, ◌⊎◌, ◌↔◌, ◌<◌, None, slice_get, IfErr, IfOk, IfSome, IsSome, IsSomeAnd, IsUtf8, MatchOption, OnErr, option_copied};
 ghost use Rattle.std.specs.Option.{option_to_list};
-ghost use Rattle.amqp_link_c.specs.Calls.{OfSender, outcome_stated, wrong_status};
+ghost use Rattle.amqp_link_c.specs.Calls.{IsFramesObject, IsOutcomesObject, OfSender, outcome_stated, wrong_status};
 ghost use Rattle.amqp_link_c.specs.SenderCalls.{Disposes, TakesDisposition, error_of_fate, fate_error_at, fate_number, fate_outcome};
 ghost use Rattle.amqp_link_c.specs.Reading.{AreCopied, description_bytes};
 ghost use Rattle.amqp_link_flat.specs.Flat.{CarriesError, stated_state};
 ghost use Rattle.amqp_link_flat.specs.Refusing.{AreTexts, IsValueRefusal};
 ghost use Rattle.amqp_link_ledger.specs.Fates.{IsFirstPending, NonePending, with_released};
-ghost use Rattle.amqp_link_object.specs.States.{frames_in, outcomes_in, outcomes_of, sender_in};
+ghost use Rattle.amqp_link_object.specs.States.{frames_in, kind_number, outcomes_in, outcomes_of, sender_in};
 ghost use Rattle.amqp_link_object.specs.Objects.{value_in};
 
 use crate::frames::{Sizes, copy_error};
@@ -38,7 +38,8 @@ pub const FATE_RELEASED: u32 = 4;
 
 // The delivery that a disposition has ended, if it has ended one.
 fn ended_state(alloc: Global, ended: Option<(DeliveryTag, DeliveryOutcome)>) -> State
-    ensures { outcomes_of result ≡ option_to_list ended }
+    ensures ended { outcomes_of result ≡ option_to_list ended }
+    ensures kind { kind_number result ≡ 6 }
 {
     match ended {
         Some(ended) => State::Outcome(ended),
@@ -83,6 +84,7 @@ fn take_into(
 ) -> u32
     ensures taken { result ≡ 0 → TakesDisposition settled state tag.now echo.new
         (outcomes_in (value_in outcomes.new)) ledger.old ledger.new }
+    ensures made { result ≡ 0 → IsOutcomesObject outcomes.new }
     ensures refused { (result ≡ 0) ⊎ (result ≡ 3) }
     ensures left { (result ≡ 0 → ⊥) → (ledger.new ≡ ledger.old) × (echo.new ≡ echo.old)
         × (value_in outcomes.new ≡ value_in outcomes.old) }
@@ -110,9 +112,11 @@ fn take_into(
 }
 
 /// Takes the receiver's disposition of the delivery with this tag, which the session finds by the id. `outcomes` gets the
-/// delivery if it has ended by it. If `echo` is set, send the disposition of `amqp_sender_dispose`.
+/// delivery if it has ended by it: none, and `AMQP_OK`, if no pending delivery has this tag. If `echo` is set, the receiver
+/// waits for the sender to settle: send the disposition of `amqp_sender_dispose` with the same state and `settled` true.
 ///
-/// Refused with nothing changed: `AMQP_NO_SUCH_NUMBER` if the kind of the state is none; `AMQP_NO_TEXT`.
+/// Refused in this order, with nothing changed: `AMQP_NO_SUCH_NUMBER` if the kind of the state is none; `AMQP_NO_TEXT` if a
+/// text is no UTF-8.
 #[unsafe(no_mangle)]
 pub extern "C" fn amqp_sender_on_disposition(
     alloc: Global,
@@ -129,10 +133,14 @@ pub extern "C" fn amqp_sender_on_disposition(
     ensures taken { result ≡ 0 → OfSender sender.old sender.new (λ before after.
         IsSomeAnd (stated_state state.now condition.now description.now) (λ stated.
         TakesDisposition settled stated tag.now echo.new (outcomes_in (value_in outcomes.new)) before after)) }
+    ensures made { result ≡ 0 → IsOutcomesObject outcomes.new }
     ensures number { IsSome (sender_in (value_in sender.old))
         → (result ≡ 5) ↔ (stated_state state.now condition.now description.now ≡ None) }
     ensures no_text { result ≡ 4 → ¬ (AreTexts (CarriesError state.now)
         state.now.has_description condition.now description.now) }
+    ensures utf8 { IsSome (sender_in (value_in sender.old)) → IsValueRefusal result ⊎ AreTexts (CarriesError state.now)
+        state.now.has_description condition.now description.now }
+    ensures condition { result ≡ 3 → CarriesError state.now → IsUtf8 condition.now }
     ensures refused { IsSome (sender_in (value_in sender.old)) → (result ≡ 0) ⊎ IsValueRefusal result }
     ensures left { (result ≡ 0 → ⊥) → (value_in sender.new ≡ value_in sender.old) × (echo.new ≡ echo.old)
         × (value_in outcomes.new ≡ value_in outcomes.old) }
@@ -182,6 +190,7 @@ fn dispose_into(
 ) -> u32
     ensures disposed { result ≡ 0 → Disposes delivery_id tag.now settled state
         (frames_in (value_in frames.new)) (outcomes_in (value_in outcomes.new)) ledger.old ledger.new }
+    ensures made { result ≡ 0 → IsFramesObject frames.new × IsOutcomesObject outcomes.new }
     ensures refused { (result ≡ 0) ⊎ (result ≡ 3) }
     ensures left { (result ≡ 0 → ⊥) →
         (ledger.new ≡ ledger.old) × (value_in frames.new ≡ value_in frames.old)
@@ -207,7 +216,8 @@ fn dispose_into(
 /// Makes the disposition of a delivery, by its id and its tag, and puts it into `frames`: none on a link that sends all
 /// settled. If it settles a pending delivery, `outcomes` gets that.
 ///
-/// Refused with nothing changed: `AMQP_NO_SUCH_NUMBER` if there is no state of that kind, or none at all; `AMQP_NO_TEXT`.
+/// Refused in this order, with nothing changed: `AMQP_NO_SUCH_NUMBER` if there is no state of that kind, or none at all;
+/// `AMQP_NO_TEXT` if a text is no UTF-8.
 #[unsafe(no_mangle)]
 pub extern "C" fn amqp_sender_dispose(
     alloc: Global,
@@ -226,10 +236,14 @@ pub extern "C" fn amqp_sender_dispose(
         IsSomeAnd (outcome_stated state.now condition.now description.now) (λ outcome.
         Disposes delivery_id tag.now settled outcome (frames_in (value_in frames.new))
         (outcomes_in (value_in outcomes.new)) before after)) }
+    ensures made { result ≡ 0 → IsFramesObject frames.new × IsOutcomesObject outcomes.new }
     ensures number { IsSome (sender_in (value_in sender.old))
         → (result ≡ 5) ↔ (outcome_stated state.now condition.now description.now ≡ None) }
     ensures no_text { result ≡ 4 → ¬ (AreTexts (CarriesError state.now)
         state.now.has_description condition.now description.now) }
+    ensures utf8 { IsSome (sender_in (value_in sender.old)) → IsValueRefusal result ⊎ AreTexts (CarriesError state.now)
+        state.now.has_description condition.now description.now }
+    ensures condition { result ≡ 3 → CarriesError state.now → IsUtf8 condition.now }
     ensures refused { IsSome (sender_in (value_in sender.old)) → (result ≡ 0) ⊎ IsValueRefusal result }
     ensures left { (result ≡ 0 → ⊥) →
         (value_in sender.new ≡ value_in sender.old) × (value_in frames.new ≡ value_in frames.old)
@@ -276,6 +290,7 @@ pub extern "C" fn amqp_sender_fate(
     ensures fate { IfSome (sender_in (value_in sender.old)) (λ ledger. MatchOption (slice_get ledger.records number)
         (result ≡ 7)
         (λ entry. (result ≡ 0) × (kind.new ≡ fate_number entry.1) × (outcome.new ≡ fate_outcome entry.1 outcome.old))) }
+    ensures unwritten { (result ≡ 0 → ⊥) → (kind.new ≡ kind.old) × (outcome.new ≡ outcome.old) }
     ensures left { value_in sender.new ≡ value_in sender.old }
 {
     with_value!(alloc, sender, Sender, ledger => match ledger.fate(number) {
@@ -306,7 +321,7 @@ fn copy_fate_error(
     sizes: &mut Sizes,
 ) -> u32
     ensures absent { fate_error_at number ledger.now ≡ None
-        → (result ≡ 7) × (condition.new ≡ condition.old) × (description.new ≡ description.old) }
+        → (result ≡ 7) × (condition.new ≡ condition.old) × (description.new ≡ description.old) × (sizes.new ≡ sizes.old) }
     ensures copied { IfSome (fate_error_at number ledger.now) (λ error.
         AreCopied error.condition (description_bytes error) condition.old condition.new
         description.old description.new sizes.new result) }
@@ -334,9 +349,9 @@ pub extern "C" fn amqp_sender_fate_error(
     sizes: &mut Sizes,
 ) -> Status
     ensures kind { sender_in (value_in sender.old) ≡ None → (result ≡ wrong_status (value_in sender.old))
-        × (condition.new ≡ condition.old) × (description.new ≡ description.old) }
+        × (condition.new ≡ condition.old) × (description.new ≡ description.old) × (sizes.new ≡ sizes.old) }
     ensures absent { IfSome (sender_in (value_in sender.old)) (λ ledger. fate_error_at number ledger ≡ None
-        → (result ≡ 7) × (condition.new ≡ condition.old) × (description.new ≡ description.old)) }
+        → (result ≡ 7) × (condition.new ≡ condition.old) × (description.new ≡ description.old) × (sizes.new ≡ sizes.old)) }
     ensures copied { IfSome (sender_in (value_in sender.old)) (λ ledger. IfSome (fate_error_at number ledger) (λ error.
         AreCopied error.condition (description_bytes error) condition.old condition.new
         description.old description.new sizes.new result)) }
@@ -345,7 +360,8 @@ pub extern "C" fn amqp_sender_fate_error(
     with_value!(alloc, sender, Sender, ledger => copy_fate_error(ledger, number, condition, description, sizes))
 }
 
-/// Releases what became of the registrations below this number. The numbers go on.
+/// Releases what became of the registrations below this number: neither tag nor outcome of one of them is kept, and their memory
+/// is used again. The numbers go on. A number past the last releases all.
 ///
 /// `AMQP_STILL_PENDING`, with nothing changed, if one of them is pending: `first_pending` says which is the first.
 #[unsafe(no_mangle)]
@@ -360,6 +376,7 @@ pub extern "C" fn amqp_sender_release(
         (after ≡ record ledger { records = with_released before ledger.records }) × NonePending before ledger.records) }
     ensures pending { (result ≡ 0 → ⊥) → IfSome (sender_in (value_in sender.old)) (λ ledger. (result ≡ 51)
         × (first_pending.new < before) × IsFirstPending first_pending.new ledger.records) }
+    ensures unwritten { (result ≡ 51 → ⊥) → first_pending.new ≡ first_pending.old }
     ensures left { (result ≡ 0 → ⊥) → value_in sender.new ≡ value_in sender.old }
 {
     with_value!(alloc, sender, Sender, ledger => match ledger.release(before) {

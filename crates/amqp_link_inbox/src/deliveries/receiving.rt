@@ -280,7 +280,7 @@ fn add_kept<T: LinkTarget>(
     ensures link { OnOk result (link.new ≡ stated tag.now kept.new link.old) }
     ensures arrival { IfOk result (λ came.
         came ≡ added_arrival (KeptDeliveries.has_begun kept.old.contents) transfer.more kept.new.settled) }
-    ensures refused { AnswersThenOutOfMemory ReceiverTransferError.OutOfMemory
+    ensures refused { AnswersOrOutOfMemory ReceiverTransferError.OutOfMemory
         (with_error result) (addition_tests begins kept.old transfer payload) }
     ensures back { IfErr result (λ refused. AreReturned transfer payload refused) }
     ensures left { OnErr result ((kept.new ≡ kept.old) × (link.new ≡ link.old)) }

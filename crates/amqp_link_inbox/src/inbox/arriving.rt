@@ -26,7 +26,8 @@ impl<T: LinkTarget> Inbox<T> {
     /// it aborts the delivery, nothing of that is kept. If it is the first one of a delivery in this attachment, without
     /// `resume`, it begins a new delivery, in the place of what was kept of its tag, and is counted (2.6.7). Any other is
     /// added to what is kept: of a delivery that was complete before it changes the id, and may settle it; where nothing is
-    /// kept it is ignored.
+    /// kept it is ignored. One that resumes a delivery starts where the bytes end that are held, or at the position that its
+    /// state names (`Received`, 3.4.1): what is held beyond that is dropped. A position of which nothing is held is not read.
     ///
     /// Refused in this order, with nothing changed, and the transfer and its payload handed back: `IllegalState` unless both
     /// attaches were exchanged. The first one of a delivery in this attachment: `DeliveryIdIsNone`, `DeliveryTagIsNone`, and
@@ -39,7 +40,8 @@ impl<T: LinkTarget> Inbox<T> {
     /// Give `session` to the session, which names the delivery by it. After `Complete` call `take`, after
     /// `CompleteSettled` `take_settled`.
     ///
-    /// Reads the payload once, and finds the tag by a hash, whatever number of deliveries is kept.
+    /// Reads the payload once, and finds the tag by a hash, whatever number of deliveries is kept. One that starts before the
+    /// end reads what is held of its delivery, too, and copies its list of pieces.
     pub fn on_incoming_transfer(
         &mut self,
         transfer: Transfer,

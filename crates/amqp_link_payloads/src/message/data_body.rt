@@ -16,7 +16,7 @@ use bytes::Bytes;
 use std::alloc::Global;
 
 /// The data of a payload that is exactly one data section, in any of its forms (3.2.6). All other payloads
-/// are refused with `NotOneDataSection`.
+/// are refused with `NotOneDataSection`. Bytes of one piece are shared, those of several are copied once.
 #[derive(Debug, PartialEq, Eq, Drop)]
 pub struct DataBody(pub Payload);
 

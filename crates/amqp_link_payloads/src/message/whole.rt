@@ -11,7 +11,7 @@ use crate::payload::Payload;
 use bytes::Bytes;
 use std::alloc::Global;
 
-/// All joined bytes of a payload. No bytes are refused.
+/// All joined bytes of a payload. No bytes are refused. Those of one piece are shared, those of several are copied once.
 #[derive(Debug, PartialEq, Eq, Drop)]
 pub struct Whole(pub Payload);
 

@@ -84,7 +84,7 @@ pub struct AttachPlan<T: LinkTarget> {
 }
 
 /// The first half of `on_incoming_attach`: tests the attach, with the refusals of that call and what they
-/// leave, and makes the plan. A link whose attach was planned has not changed.
+/// leave, and makes the plan. A link whose attach was planned has not changed. `amqp_link` does not pass the halves on.
 pub fn plan_incoming_attach<T: LinkTarget>(
     link: &mut SenderLink<T>,
     attach: Attach,

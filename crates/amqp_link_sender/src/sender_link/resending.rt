@@ -74,7 +74,7 @@ impl<T: LinkTarget> SenderLink<T> {
     }
 
     /// Sends the rest of a delivery with this transfer, and registers its entry, with the whole payload and
-    /// the state that it has, under the tag. Spends no credit.
+    /// the state that it has, under the tag, also if the transfer is settled. Spends no credit.
     ///
     /// Refused in this order, with nothing changed and the entry returned: `IllegalState` without input
     /// handle; `TagPending`, by the tag given here; `NoRoom`; `OutOfMemory`, only if none of these holds.

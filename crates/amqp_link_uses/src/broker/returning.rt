@@ -90,8 +90,8 @@ impl Broker {
     }
 
     /// Takes the disposition of one delivery on an outgoing link from its peer, as `on_incoming_disposition` of the link's
-    /// ledger does. If it ends the delivery, the outcome returns to where its message came from: with the peer's state, or as
-    /// released without one.
+    /// ledger does. If it ends the delivery, the outcome returns to where its message came from: with the peer's state if that is
+    /// terminal, otherwise as released.
     ///
     /// Refused in this order, with nothing changed: `NoSuchLink`; and as the ledger's call is, out of memory.
     ///
