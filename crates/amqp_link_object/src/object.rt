@@ -26,13 +26,19 @@ pub struct Room {
     alloc: Global,
 }
 
+// A box of a value, if there is memory for it.
+fn boxed<T: Drop>(alloc: Global, value: T) -> Option<Box<T>> {
+    match Box::new(alloc, value) {
+        Ok(boxed) => Some(boxed),
+        Err(_) => None,
+    }
+}
+
 impl Room {
     /// Room for one value. Refused only if it is out of memory.
     pub fn new(alloc: Global) -> Option<Room> {
-        match Box::new(alloc, State::Room) {
-            Ok(state) => Some(Room { state, alloc }),
-            Err(_) => None,
-        }
+        let state = boxed(alloc, State::Room)?;
+        Some(Room { state, alloc })
     }
 
     // The box with this value.
