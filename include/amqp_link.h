@@ -5,7 +5,7 @@
  * an object: what was there is freed, and the object need not be empty. The caller frees each object by amqp_free, once it is
  * done with it; to free the same object again is harmless.
  *
- * A call returns AMQP_OK, or a status that says why it was refused. Each call that takes objects may return AMQP_EMPTY, for one
+ * A call of type amqp_status returns AMQP_OK, or why it was refused. Each that takes objects may return AMQP_EMPTY, for one
  * with nothing, and AMQP_WRONG_KIND, for one of another kind; each that allocates AMQP_OUT_OF_MEMORY. Each that reads an entry by
  * its number, counted from 0, returns AMQP_NO_SUCH_ENTRY past the last one, and of an entry of another kind or without an error.
  * After these four, and wherever the doc of a call does not say otherwise, nothing has changed: no link, no object, nothing
@@ -618,8 +618,8 @@ amqp_status amqp_attach_set_source(amqp_object *attach, const amqp_terminus *sou
 amqp_status amqp_attach_set_target(amqp_object *attach, const amqp_terminus *target, const uint8_t *address,
     size_t address_len);
 
-/* Adds an unsettled delivery to an attach: its tag and its state, with these texts of a rejection's error. One that the attach
- * has under the same tag is replaced.
+/* Adds an unsettled delivery to an attach: its tag and its state, with these texts of a rejection's error; AMQP_NO_STATE is the
+ * null of an unsettled map. One that the attach has under the same tag is replaced.
  *
  * Refused in this order, with nothing changed: AMQP_NO_SUCH_NUMBER if the kind of the state is none; AMQP_NO_TEXT if a
  * text is no UTF-8. */
@@ -675,8 +675,8 @@ size_t amqp_frames_count(amqp_object *frames);
 /* The kind of a frame, counted from 0: AMQP_FRAME_ATTACH and so on. */
 amqp_status amqp_frames_kind(amqp_object *frames, size_t number, uint32_t *kind);
 
-/* The transfer in a frame, with its tag and its payload. sizes says how long those are. If one of the buffers is too
- * small, nothing but sizes is written. */
+/* The transfer in a frame, with its tag and its payload, which is shorter than the link's frame limit. sizes says how long those
+ * are. If one of the buffers is too small, nothing but sizes is written. */
 amqp_status amqp_frames_transfer(amqp_object *frames, size_t number, amqp_transfer *transfer, uint8_t *tag,
     size_t tag_room, uint8_t *payload, size_t payload_room, amqp_sizes *sizes);
 
@@ -766,7 +766,8 @@ amqp_status amqp_sender_on_flow_keeping_credit(amqp_object *sender, const amqp_f
  * AMQP_UNATTACHED_HANDLE, with nothing changed, without output handle. */
 amqp_status amqp_sender_give_back_credit(amqp_object *sender, amqp_flow *reply, bool *has_reply);
 
-/* Writes the sender's own flow to send to flow. available, if it is there, is how many deliveries wait.
+/* Writes the sender's own flow to send to flow. available is how many deliveries wait; if it is not there, the flow states the
+ * number that was given last, 0 at first.
  *
  * AMQP_ILLEGAL_STATE, with nothing changed, without output handle. */
 amqp_status amqp_sender_send_flow(amqp_object *sender, bool has_available, uint32_t available, bool echo,
@@ -813,8 +814,9 @@ amqp_status amqp_resuming_at(amqp_object *resuming, size_t number, uint32_t *kin
 /* Sends what the first delivery of the list asks for, and takes it out of the list. frames gets the frames to send: none of
  * one whose outcome is decided, AMQP_RESTATE_OUTCOME: that outcome is dropped, and the fate of its registration stays
  * AMQP_FATE_HANDED_OUT. AMQP_RESUME sends what follows the position that the peer has stated; all, if that has no place in
- * the payload. It and AMQP_RESEND register the delivery anew, and take no credit. Once the list is empty send the flow of
- * amqp_sender_send_flow: a receiver that has counted what was resumed takes the count from it.
+ * the payload, which the peer appends to what it has. It and AMQP_RESEND register the delivery anew, and take no credit. Once
+ * the list is empty send the flow of amqp_sender_send_flow: a receiver that has counted what was resumed takes the count from
+ * it.
  *
  * Refused in this order, with nothing changed: AMQP_EMPTY and AMQP_WRONG_KIND of resuming, and then of sender;
  * AMQP_NO_SUCH_ENTRY of an empty list; AMQP_ILLEGAL_STATE without handles; AMQP_TAG_PENDING; AMQP_NO_ROOM. */
@@ -848,8 +850,9 @@ enum {
 };
 
 /* Takes the receiver's disposition of the delivery with this tag, which the session finds by the id. outcomes gets the
- * delivery if it has ended by it: none, and AMQP_OK, if no pending delivery has this tag. If echo is set, the receiver
- * waits for the sender to settle: send the disposition of amqp_sender_dispose with the same state and settled true.
+ * delivery if it has ended by it: none, and AMQP_OK, if no pending delivery has this tag. If it has ended and echo is set,
+ * the receiver waits for the sender to settle: send the disposition of amqp_sender_dispose with the same state and settled
+ * true. After a state that ends nothing, AMQP_RECEIVED, send none, although echo is set: it would settle the delivery.
  *
  * Refused in this order, with nothing changed: AMQP_NO_SUCH_NUMBER if the kind of the state is none; AMQP_NO_TEXT if a
  * text is no UTF-8. */
@@ -947,7 +950,8 @@ amqp_status amqp_forgotten_at(amqp_object *forgotten, size_t number, uint32_t *s
 /* ---- Flows of a receiver ---- */
 
 /* Sets the link-credit, which is how many deliveries the sender may begin from now on, and the drain flag, each if it is
- * there, and writes the flow to send to flow.
+ * there, and writes the flow to send to flow. A drain is over once the sender's flow has used up the credit; the drain flag
+ * stays until it is set to false here.
  *
  * AMQP_ILLEGAL_STATE, with nothing changed, without output handle. */
 amqp_status amqp_receiver_send_flow(amqp_object *receiver, bool has_credit, uint32_t credit, bool has_drain,
@@ -986,6 +990,9 @@ enum {
  *
  * The first transfer that resumes a delivery starts at the position in its state, if that is AMQP_RECEIVED: what is held
  * beyond that is dropped. Without such a state, or if nothing is held there, its payload follows what is held.
+ *
+ * Clear more where aborted is set (2.7.5): otherwise the delivery stays under way, and the next transfer is taken for one of
+ * it.
  *
  * Give ended_tag room for the longest tag that you accept, the same at each transfer: only the tag that comes with a transfer
  * is measured, and not that of the delivery under way, which is given back. If that is longer than the room, since its first
@@ -1102,8 +1109,8 @@ amqp_status amqp_link_on_detach_reply(amqp_object *link, const amqp_detach *deta
 amqp_status amqp_link_apply_remote_detach(amqp_object *link, const amqp_detach *detach,
     const uint8_t *condition, size_t condition_len, const uint8_t *description, size_t description_len);
 
-/* Takes a detach that has arrived at a sender. reply gets the detach to reply with, if the peer initiated this one, and
- * outcomes the outcome of each pending delivery, if it closes the link. Reply, and then call
+/* Takes a detach that has arrived at a sender. reply gets the detach to reply with, which repeats its error, if the peer
+ * initiated this one, and outcomes the outcome of each pending delivery, if it closes the link. Reply, and then call
  * amqp_link_apply_remote_detach, which moves the state.
  *
  * Refused in this order, with nothing changed: AMQP_NO_TEXT if a text of the error is no UTF-8; AMQP_UNATTACHED_HANDLE
@@ -1112,8 +1119,9 @@ amqp_status amqp_sender_on_detach(amqp_object *sender, const amqp_detach *detach
     size_t condition_len, const uint8_t *description, size_t description_len, bool remote_initiated,
     amqp_object *reply, amqp_object *outcomes);
 
-/* Takes a detach that has arrived at a receiver. reply gets the detach to reply with, if the peer initiated this one.
- * Reply, and then call amqp_link_apply_remote_detach, which moves the state. What is kept of deliveries stays.
+/* Takes a detach that has arrived at a receiver. reply gets the detach to reply with, which repeats its error, if the peer
+ * initiated this one. Reply, and then call amqp_link_apply_remote_detach, which moves the state. What is kept of deliveries
+ * stays.
  *
  * Refused in this order, with nothing changed: AMQP_NO_TEXT if a text of the error is no UTF-8; AMQP_UNATTACHED_HANDLE
  * without output handle, only if the peer initiated the detach. */

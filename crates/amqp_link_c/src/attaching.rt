@@ -181,8 +181,8 @@ fn add_unsettled(
     status
 }
 
-/// Adds an unsettled delivery to an attach: its tag and its state, with these texts of a rejection's error. One that the attach
-/// has under the same tag is replaced.
+/// Adds an unsettled delivery to an attach: its tag and its state, with these texts of a rejection's error; `AMQP_NO_STATE` is the
+/// null of an unsettled map. One that the attach has under the same tag is replaced.
 ///
 /// Refused in this order, with nothing changed: `AMQP_NO_SUCH_NUMBER` if the kind of the state is none; `AMQP_NO_TEXT` if a
 /// text is no UTF-8.

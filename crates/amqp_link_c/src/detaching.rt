@@ -345,8 +345,8 @@ fn fill_reply(
     }
 }
 
-/// Takes a detach that has arrived at a sender. `reply` gets the detach to reply with, if the peer initiated this one, and
-/// `outcomes` the outcome of each pending delivery, if it closes the link. Reply, and then call
+/// Takes a detach that has arrived at a sender. `reply` gets the detach to reply with, which repeats its error, if the peer
+/// initiated this one, and `outcomes` the outcome of each pending delivery, if it closes the link. Reply, and then call
 /// `amqp_link_apply_remote_detach`, which moves the state.
 ///
 /// Refused in this order, with nothing changed: `AMQP_NO_TEXT` if a text of the error is no UTF-8; `AMQP_UNATTACHED_HANDLE`
@@ -427,8 +427,9 @@ fn take_at_receiver(
     }
 }
 
-/// Takes a detach that has arrived at a receiver. `reply` gets the detach to reply with, if the peer initiated this one.
-/// Reply, and then call `amqp_link_apply_remote_detach`, which moves the state. What is kept of deliveries stays.
+/// Takes a detach that has arrived at a receiver. `reply` gets the detach to reply with, which repeats its error, if the peer
+/// initiated this one. Reply, and then call `amqp_link_apply_remote_detach`, which moves the state. What is kept of deliveries
+/// stays.
 ///
 /// Refused in this order, with nothing changed: `AMQP_NO_TEXT` if a text of the error is no UTF-8; `AMQP_UNATTACHED_HANDLE`
 /// without output handle, only if the peer initiated the detach.

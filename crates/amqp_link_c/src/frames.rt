@@ -127,8 +127,8 @@ fn copy_transfer(sent: &LinkTransfer, tag: &mut [u8], payload: &mut [u8], sizes:
     copy_both(tag_bytes, tag, sent.payload.as_slice(), payload, sizes)
 }
 
-/// The transfer in a frame, with its tag and its payload. `sizes` says how long those are. If one of the buffers is too
-/// small, nothing but `sizes` is written.
+/// The transfer in a frame, with its tag and its payload, which is shorter than the link's frame limit. `sizes` says how long those
+/// are. If one of the buffers is too small, nothing but `sizes` is written.
 #[unsafe(no_mangle)]
 pub extern "C" fn amqp_frames_transfer(
     alloc: Global,

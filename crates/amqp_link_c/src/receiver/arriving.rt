@@ -189,6 +189,9 @@ fn take_passed(
 /// The first transfer that resumes a delivery starts at the position in its state, if that is `AMQP_RECEIVED`: what is held
 /// beyond that is dropped. Without such a state, or if nothing is held there, its payload follows what is held.
 ///
+/// Clear `more` where `aborted` is set (2.7.5): otherwise the delivery stays under way, and the next transfer is taken for one of
+/// it.
+///
 /// Give `ended_tag` room for the longest tag that you accept, the same at each transfer: only the tag that comes with a transfer
 /// is measured, and not that of the delivery under way, which is given back. If that is longer than the room, since its first
 /// transfer came with a larger buffer, the transfer is taken, `AMQP_OK`, but no tag is copied, and `ended_tag_size` is 0.

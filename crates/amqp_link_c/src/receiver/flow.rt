@@ -34,7 +34,8 @@ fn send_flow(
 }
 
 /// Sets the link-credit, which is how many deliveries the sender may begin from now on, and the drain flag, each if it is
-/// there, and writes the flow to send to `flow`.
+/// there, and writes the flow to send to `flow`. A drain is over once the sender's flow has used up the credit; the drain flag
+/// stays until it is set to false here.
 ///
 /// `AMQP_ILLEGAL_STATE`, with nothing changed, without output handle.
 #[unsafe(no_mangle)]

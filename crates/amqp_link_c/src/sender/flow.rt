@@ -164,7 +164,8 @@ fn send_flow(
     write_flow(ledger.send_flow(available, echo, false), flow)
 }
 
-/// Writes the sender's own flow to send to `flow`. `available`, if it is there, is how many deliveries wait.
+/// Writes the sender's own flow to send to `flow`. `available` is how many deliveries wait; if it is not there, the flow states the
+/// number that was given last, 0 at first.
 ///
 /// `AMQP_ILLEGAL_STATE`, with nothing changed, without output handle.
 #[unsafe(no_mangle)]

@@ -175,8 +175,9 @@ fn resume_in(alloc: Global, sender: &mut Object, list: &mut List, frames: &mut O
 /// Sends what the first delivery of the list asks for, and takes it out of the list. `frames` gets the frames to send: none of
 /// one whose outcome is decided, `AMQP_RESTATE_OUTCOME`: that outcome is dropped, and the fate of its registration stays
 /// `AMQP_FATE_HANDED_OUT`. `AMQP_RESUME` sends what follows the position that the peer has stated; all, if that has no place in
-/// the payload. It and `AMQP_RESEND` register the delivery anew, and take no credit. Once the list is empty send the flow of
-/// `amqp_sender_send_flow`: a receiver that has counted what was resumed takes the count from it.
+/// the payload, which the peer appends to what it has. It and `AMQP_RESEND` register the delivery anew, and take no credit. Once
+/// the list is empty send the flow of `amqp_sender_send_flow`: a receiver that has counted what was resumed takes the count from
+/// it.
 ///
 /// Refused in this order, with nothing changed: `AMQP_EMPTY` and `AMQP_WRONG_KIND` of `resuming`, and then of `sender`;
 /// `AMQP_NO_SUCH_ENTRY` of an empty list; `AMQP_ILLEGAL_STATE` without handles; `AMQP_TAG_PENDING`; `AMQP_NO_ROOM`.

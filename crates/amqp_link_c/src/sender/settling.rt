@@ -112,8 +112,9 @@ fn take_into(
 }
 
 /// Takes the receiver's disposition of the delivery with this tag, which the session finds by the id. `outcomes` gets the
-/// delivery if it has ended by it: none, and `AMQP_OK`, if no pending delivery has this tag. If `echo` is set, the receiver
-/// waits for the sender to settle: send the disposition of `amqp_sender_dispose` with the same state and `settled` true.
+/// delivery if it has ended by it: none, and `AMQP_OK`, if no pending delivery has this tag. If it has ended and `echo` is set,
+/// the receiver waits for the sender to settle: send the disposition of `amqp_sender_dispose` with the same state and `settled`
+/// true. After a state that ends nothing, `AMQP_RECEIVED`, send none, although `echo` is set: it would settle the delivery.
 ///
 /// Refused in this order, with nothing changed: `AMQP_NO_SUCH_NUMBER` if the kind of the state is none; `AMQP_NO_TEXT` if a
 /// text is no UTF-8.
