@@ -4,9 +4,12 @@ use std::path::Path;
 
 fn link(variable: &str, name: &str) {
     println!("cargo:rerun-if-env-changed={variable}");
-    let Ok(archive) = env::var(variable) else {
-        println!("cargo:warning={variable} is not set: it names lib{name}.a");
-        return;
+    let archive = match env::var(variable) {
+        Ok(archive) => archive,
+        Err(_) => {
+            println!("cargo:warning={variable} is not set: it names lib{name}.a");
+            return;
+        }
     };
     let folder = Path::new(&archive).parent().expect("an archive is in a folder");
     println!("cargo:rustc-link-search=native={}", folder.display());

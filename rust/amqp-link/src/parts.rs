@@ -32,8 +32,9 @@ impl Terminus {
 
     /// A terminus as calls take it, and its address.
     pub(crate) fn given(terminus: Option<&Terminus>) -> (sys::Terminus, &[u8]) {
-        let Some(terminus) = terminus else {
-            return (sys::Terminus::default(), &[]);
+        let terminus = match terminus {
+            Some(terminus) => terminus,
+            None => return (sys::Terminus::default(), &[]),
         };
         let fields = sys::Terminus {
             durable: terminus.durable.number(),

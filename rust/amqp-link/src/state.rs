@@ -26,8 +26,9 @@ impl Error {
 
     /// Both texts as calls take them: of no error two that are empty.
     pub(crate) fn texts(error: Option<&Error>) -> (&[u8], &[u8]) {
-        let Some(error) = error else {
-            return (&[], &[]);
+        let error = match error {
+            Some(error) => error,
+            None => return (&[], &[]),
         };
         let description = error.description.as_deref().unwrap_or("");
         (error.condition.as_bytes(), description.as_bytes())
@@ -87,9 +88,12 @@ impl DeliveryState {
     /// A state as calls take it; the texts of its error go beside it.
     pub(crate) fn fields(state: Option<&DeliveryState>) -> DeliveryStateFields {
         let mut fields = DeliveryStateFields::default();
-        let Some(state) = state else {
-            fields.kind = sys::NO_STATE;
-            return fields;
+        let state = match state {
+            Some(state) => state,
+            None => {
+                fields.kind = sys::NO_STATE;
+                return fields;
+            }
         };
         match *state {
             DeliveryState::Accepted => fields.kind = sys::ACCEPTED,

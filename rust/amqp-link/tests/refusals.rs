@@ -104,8 +104,9 @@ fn a_refused_attach_moves_the_state_and_is_answered() {
         (refused, state(&sender)),
         (Some(Refused::IncomingTargetIsNone), LinkState::Attached)
     );
-    let Ok(Action::Detach(frames)) = sender.handle_attach_error(Refused::IncomingTargetIsNone) else {
-        panic!("a detach is to be sent");
+    let frames = match sender.handle_attach_error(Refused::IncomingTargetIsNone) {
+        Ok(Action::Detach(frames)) => frames,
+        _ => panic!("a detach is to be sent"),
     };
     assert_eq!(
         frames.at(0),

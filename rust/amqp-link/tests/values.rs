@@ -163,8 +163,9 @@ fn a_rejection_has_its_error_in_each_place() {
     let frames = sender
         .send_payload_with_tag(&[7; 50], &payload, 5, Settled::No, true)
         .unwrap();
-    let Ok(LinkFrame::FirstTransfer(first)) = frames.at(0) else {
-        panic!("the first transfer");
+    let first = match frames.at(0) {
+        Ok(LinkFrame::FirstTransfer(first)) => first,
+        other => panic!("{other:?}"),
     };
     assert_eq!(
         (first.performative.delivery_tag, first.payload),
@@ -340,8 +341,9 @@ fn a_sender_answers_in_mode_second() {
         .unwrap();
     assert!(answer.echo);
     let (frames, _outcomes) = sender.dispose(6, b"a", true, &DeliveryState::Accepted).unwrap();
-    let Ok(LinkFrame::Disposition(sent)) = frames.at(0) else {
-        panic!("a disposition");
+    let sent = match frames.at(0) {
+        Ok(LinkFrame::Disposition(sent)) => sent,
+        other => panic!("{other:?}"),
     };
     assert_eq!((sent.role, sent.first, sent.settled), (Role::Sender, 6, true));
     assert_eq!(
